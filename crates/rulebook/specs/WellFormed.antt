@@ -1,0 +1,89 @@
+-- What a node's record keeps to: 17, said of the ledger; and the whole step with 17 and 9 in front.
+use mathlib.Core.Bool.{Bool, true, false, not, _&&_, _||_}
+use mathlib.Core.List.{List}
+use mathlib.Core.Path.{_≡_}
+use Prim.Native.Nat.{ℕ, zero, suc, _<_}
+use lib.ListN.{length, getD}
+use lib.Dec.{eqb, leb, ltb}
+use Rattle.rulebook.specs.declared.Cell.{Cell}
+use Rattle.rulebook.specs.declared.Block.{Block}
+use Rattle.rulebook.specs.declared.Input.{Input}
+use Rattle.rulebook.specs.declared.Refusal.the-variants as refusal
+use Rattle.rulebook.specs.Tools.{given, allTo}
+use Rattle.rulebook.specs.Weights.{mostNodes, lastSlot, windows, stakeIn, stakesFit, totalTo}
+use Rattle.rulebook.specs.Ledger.{Ledger, Row, none, noRow, rowAt, cellAt}
+use Rattle.rulebook.specs.Inputs.{Fed, refusedWith, feed, badParent}
+
+-- The ledger has a place for every slot, node and window.
+pub record Shaped (l : Ledger) : Type 0 where
+  pub armed : length (l .armed) ≡ windows
+  pub stakes : length (l .stakes) ≡ mostNodes
+  pub rows : length (l .rows) ≡ suc lastSlot
+  pub cells : (s : ℕ) → s < suc lastSlot → length (rowAt l s .cells) ≡ mostNodes
+
+-- A flag is 0 or 1.
+abbrev pub flag : ℕ → Bool
+flag x = leb x 1
+
+-- Two fallback places: the later is filled only after the earlier, and not with the same block.
+unfoldable pub inOrder : ℕ → ℕ → Bool
+inOrder x y = none y || (not (none x) && not (eqb x y))
+
+-- A cell in range: flags, one initial vote, fallback blocks from the front and none "kept twice for one node".
+unfoldable pub cellFits : Cell → Bool
+cellFits c =
+    (flag (c .skip) && (flag (c .skipfallback) && flag (c .finalvote)))
+    && ((none (c .notar) || none (c .skip))
+    && (inOrder (c .fallback1) (c .fallback2)
+    && (inOrder (c .fallback2) (c .fallback3) && (none (c .fallback3) || not (eqb (c .fallback1) (c .fallback3))))))
+
+-- A cell with nothing in it.
+unfoldable pub cellBlank : Cell → Bool
+cellBlank c =
+    (none (c .notar) && none (c .skip))
+    && ((none (c .fallback1) && (none (c .fallback2) && none (c .fallback3)))
+    && (none (c .skipfallback) && none (c .finalvote)))
+
+-- "an unused place not zero": the cells past the last node are blank.
+unfoldable pub cellsFit : Ledger → ℕ → ℕ → Bool
+cellsFit l s used = allTo mostNodes (λ n. given (ltb n used) (cellBlank (cellAt l s n)) (λ _. cellFits (cellAt l s n)))
+
+-- A kept block has a parent that 5 and 11 let pass; where none is kept all is 0.
+unfoldable pub keptFits : Ledger → ℕ → Block → Bool
+keptFits l s b =
+    given (not (none (b .number))) (none (b .parentslot .0) && none (b .parent))
+    (λ _. not (none (b .parent)) && not (badParent l s b))
+
+-- One of the slots 1 to 16.
+unfoldable pub rowFits : Ledger → ℕ → Bool
+rowFits l s = keptFits l s (rowAt l s .kept) && (flag (rowAt l s .timedOut) && cellsFit l s (l .count))
+
+-- Row 0 is unused.
+unfoldable pub rowBlank : Ledger → Bool
+rowBlank l =
+    let r = rowAt l 0 in
+    (none (r .kept .number) && (none (r .kept .parentslot .0) && none (r .kept .parent)))
+    && ((none (r .timedOut) && none (r .final)) && cellsFit l 0 0)
+
+-- Count, own number, genesis, stakes and "a total that is not the sum".
+unfoldable pub headFits : Ledger → Bool
+headFits l =
+    (stakesFit (l .stakes) (l .count) && eqb (totalTo (l .stakes) (l .count)) (l .total))
+    && ((ltb (l .own) (l .count) && not (none (l .genesis)))
+    && (allTo windows (λ w. flag (getD (l .armed) w 0))
+    && allTo mostNodes (λ n. ltb n (l .count) || none (stakeIn (l .stakes) n))))
+
+-- Not 17.
+unfoldable pub wellFormed : Ledger → Bool
+wellFormed l =
+    given (headFits l) false (λ _. given (rowBlank l) false (λ _. allTo lastSlot (λ i. rowFits l (suc i))))
+
+-- "must have room for 128" records, "three a record".
+abbrev pub outboxWords : ℕ
+outboxWords = 384
+
+-- "Votes: 17, 9, ..", "Blocks: 17, 9, ..", "Timeouts: 17, 9, ..", "Look: 17, 9": an input to a node whose outbox has so many words.
+unfoldable pub step : Ledger → ℕ → Input → Fed
+step l room i =
+    given (wellFormed l) (refusedWith l refusal.BadRecord)
+    (λ _. given (leb outboxWords room) (refusedWith l refusal.NoRoom) (λ _. feed l i))
