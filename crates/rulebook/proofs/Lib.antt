@@ -1,0 +1,2 @@
+pub mod ToolLaws
+pub mod WeightLaws
