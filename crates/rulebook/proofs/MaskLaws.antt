@@ -1,5 +1,5 @@
--- Laws of signer masks: which bits a built mask has, what or and and do to them, and what masks weigh.
-use mathlib.Core.Path.{_≡_, refl, sym, ap, ap₂, _∙_}
+-- Laws of signer masks: which bits a built mask has, what or and and do to them, and what masks weigh. Assumes nothing.
+use mathlib.Core.Path.{_≡_, refl, sym, ap, _∙_}
 use mathlib.Core.List.{List}
 use mathlib.Core.Bool.{Bool, true, false, not, _&&_, _||_}
 use mathlib.Core.Logic.{_⊎_, inl, inr, ⊎-elim}
@@ -12,15 +12,12 @@ use lib.Bits.{bitOr, bitAnd, or-shifted-r, and-step, or-step, and-shr, or-shr, a
 use lib.Pow.{pow-pos, pow-mono, pow-add, high, shr-mod, shr-shr}
 use lib.Arith.{digits-mod, bin-ind}
 use lib.Dec.{ltb, leb, eqb, lit<}
-use borrow.Author.Tests.{ne-eqb, eq-eqb, eqb-true, eqb-false, ltb-true, ltb-false, leb-true, leb-false}
+use borrow.Author.Tests.{ne-eqb, eqb-false, ltb-true, ltb-false, leb-true, leb-false}
 use Rattle.rulebook.specs.Tools.{part, sumTo, someTo}
 use Rattle.rulebook.specs.Weights.{stakeIn, weight}
 use Rattle.rulebook.specs.Packets.{bit, maskOf, countOf}
-
-part-le : (t : Bool) (w : ℕ) → part t w ≤ w
-unfolding part
-part-le true w = omega arith
-part-le false w = omega arith
+use Rattle.rulebook.proofs.ToolLaws.{part-le, sum-same, sum-add, some-each}
+use Rattle.rulebook.proofs.WeightLaws.{weight-same}
 
 -- ---- a mask that is built node by node
 
@@ -141,22 +138,10 @@ no-bits = bin-ind (λ (n : ℕ). ((i : ℕ) → bit n i ≡ false) → n ≡ 0) 
 -- ---- some node in both masks
 
 -- No node below n passes.
-pub some-none : (n : ℕ) (p : ℕ → Bool) → ((i : ℕ) → i < n → p i ≡ false) → someTo n p ≡ false
+pub some-free : (n : ℕ) (p : ℕ → Bool) → ((i : ℕ) → i < n → p i ≡ false) → someTo n p ≡ false
 unfolding someTo
-some-none zero p f = refl
-some-none (suc n) p f = rw (some-none n p (λ i l. f i (omega arith)), f n (omega arith))
-
-or-off : (t u : Bool) → (t || u) ≡ false → (t ≡ false) × (u ≡ false)
-or-off true u e = (cc, cc)
-or-off false u e = (refl, e)
-
--- Where no node below n passes, each of them does not.
-pub some-each : (n : ℕ) (p : ℕ → Bool) → someTo n p ≡ false → (i : ℕ) → i < n → p i ≡ false
-unfolding someTo
-some-each zero p e i h = absurd (omega arith)
-some-each (suc n) p e i h =
-    let o = or-off (someTo n p) (p n) e in
-    ⊎-elim (λ z. rw z (o .1)) (λ l. some-each n p (o .0) i l) (eq-or-lt-of-le (le-of-suc-le-suc h))
+some-free zero p f = refl
+some-free (suc n) p f = rw (some-free n p (λ i l. f i (omega arith)), f n (omega arith))
 
 -- Nodes that do not pass may be left out at the end.
 pub some-past : (p : ℕ → Bool) (c n : ℕ) → c ≤ n → ((i : ℕ) → c ≤ i → p i ≡ false) → someTo n p ≡ someTo c p
@@ -175,17 +160,17 @@ overlap-is a b c h = go (someTo c (λ n. bit a n && bit b n)) refl
     zeros e i l = sym (and-bit a b i) ∙ ap (λ (x : ℕ). bit x i) e ∙ zero-bit i
 
     each : someTo c (λ n. bit a n && bit b n) ≡ false → (i : ℕ) (t : Bool) → ltb i c ≡ t → bit (bitAnd a b) i ≡ false
-    each e i true q = and-bit a b i ∙ some-each c (λ n. bit a n && bit b n) e i (ltb-true i c q)
+    each e i true q = and-bit a b i ∙ some-each c i (λ n. bit a n && bit b n) e (ltb-true i c q)
     each e i false q = and-bit a b i ∙ rw (past-bit a c i h (ltb-false i c q))
 
     go : (t : Bool) → someTo c (λ n. bit a n && bit b n) ≡ t → not (eqb (bitAnd a b) 0) ≡ someTo c (λ n. bit a n && bit b n)
     go true e =
-        rw (e, ne-eqb (bitAnd a b) 0 (λ z. let o = some-none c (λ n. bit a n && bit b n) (zeros z) in let y : _≡_ {A = ℕ} 0 1 = cc in omega arith))
+        rw (e, ne-eqb (bitAnd a b) 0 (λ z. let o = some-free c (λ n. bit a n && bit b n) (zeros z) in let y : _≡_ {A = ℕ} 0 1 = cc in omega arith))
     go false e = rw (e, no-bits (bitAnd a b) (λ i. each e i (ltb i c) refl))
 
 -- Masks built from tests that exclude each other have no node in common.
 pub masks-apart : (p q : ℕ → Bool) (c : ℕ) → ((i : ℕ) → i < c → (p i && q i) ≡ false) → someTo c (λ n. bit (maskOf p c) n && bit (maskOf q c) n) ≡ false
-masks-apart p q c f = some-none c (λ n. bit (maskOf p c) n && bit (maskOf q c) n) (λ i l. rw (mask-bit p c i l, mask-bit q c i l) (f i l))
+masks-apart p q c f = some-free c (λ n. bit (maskOf p c) n && bit (maskOf q c) n) (λ i l. rw (mask-bit p c i l, mask-bit q c i l) (f i l))
 
 -- Looked for among the first c nodes or among more: the same, unless a mask goes beyond them.
 pub overlap-past : (a b c n : ℕ) (z : Bool) → c ≤ n
@@ -223,24 +208,10 @@ beyond-is m c w l h = ap (λ (x : ℕ). not (eqb x 0)) (and-beyond m c w l h) �
 
 -- ---- counting and weighing nodes that masks name
 
-sum-under : (f g : ℕ → ℕ) (n : ℕ) → ((i : ℕ) → i < n → f i ≡ g i) → sumTo n f ≡ sumTo n g
-unfolding sumTo
-sum-under f g zero h = refl
-sum-under f g (suc n) h = ap₂ (λ (x y : ℕ). x + y) (sum-under f g n (λ i l. h i (omega arith))) (h n (omega arith))
-
-sum-both : (f g h : ℕ → ℕ) (n : ℕ) → ((i : ℕ) → i < n → f i ≡ g i + h i) → sumTo n f ≡ sumTo n g + sumTo n h
-unfolding sumTo
-sum-both f g h zero e = refl
-sum-both f g h (suc n) e = let s = sum-both f g h n (λ i l. e i (omega arith)) in let t = e n (omega arith) in omega arith
-
--- Tests that agree below c name nodes of the same weight and number.
-pub weight-under : (ss : List ℕ) (c : ℕ) (p q : ℕ → Bool) → ((i : ℕ) → i < c → p i ≡ q i) → weight ss c p ≡ weight ss c q
-unfolding weight
-weight-under ss c p q h = sum-under (λ n. part (p n) (stakeIn ss n)) (λ n. part (q n) (stakeIn ss n)) c (λ i l. rw (h i l))
-
-pub count-under : (c : ℕ) (p q : ℕ → Bool) → ((i : ℕ) → i < c → p i ≡ q i) → countOf p c ≡ countOf q c
+-- Tests that agree below c name as many nodes.
+pub count-same : (c : ℕ) (p q : ℕ → Bool) → ((i : ℕ) → i < c → p i ≡ q i) → countOf p c ≡ countOf q c
 unfolding countOf
-count-under c p q h = sum-under (λ n. part (p n) 1) (λ n. part (q n) 1) c (λ i l. rw (h i l))
+count-same c p q h = sum-same c (λ n. part (p n) 1) (λ n. part (q n) 1) (λ i l. rw (h i l))
 
 part-apart : (t u : Bool) (x : ℕ) → (t && u) ≡ false → part (t || u) x ≡ part t x + part u x
 unfolding part
@@ -248,31 +219,33 @@ part-apart true true x f = let z : _≡_ {A = ℕ} 0 1 = cc in absurd (omega ari
 part-apart true false x f = omega arith
 part-apart false u x f = omega arith
 
--- Two tests that no node below c passes together weigh together what they weigh apart; so two masks, with `bit a` and `bit b`.
-pub weight-apart : (ss : List ℕ) (c : ℕ) (p q : ℕ → Bool) → someTo c (λ n. p n && q n) ≡ false → weight ss c (λ n. p n || q n) ≡ weight ss c p + weight ss c q
-unfolding weight
-weight-apart ss c p q e =
-    sum-both (λ n. part (p n || q n) (stakeIn ss n)) (λ n. part (p n) (stakeIn ss n)) (λ n. part (q n) (stakeIn ss n)) c
-    (λ i l. part-apart (p i) (q i) (stakeIn ss i) (some-each c (λ n. p n && q n) e i l))
+sum-disjoint : (c : ℕ) (p q : ℕ → Bool) (f : ℕ → ℕ) → someTo c (λ n. p n && q n) ≡ false
+    → sumTo c (λ n. part (p n || q n) (f n)) ≡ sumTo c (λ n. part (p n) (f n)) + sumTo c (λ n. part (q n) (f n))
+sum-disjoint c p q f e =
+    sum-same c (λ n. part (p n || q n) (f n)) (λ n. part (p n) (f n) + part (q n) (f n)) (λ i l. part-apart (p i) (q i) (f i) (some-each c i (λ n. p n && q n) e l))
+    ∙ sym (sum-add c (λ n. part (p n) (f n)) (λ n. part (q n) (f n)))
 
-pub count-apart : (c : ℕ) (p q : ℕ → Bool) → someTo c (λ n. p n && q n) ≡ false → countOf (λ n. p n || q n) c ≡ countOf p c + countOf q c
+-- Two tests that no node below c passes together weigh together what they weigh apart; so two masks, with `bit a` and `bit b`.
+pub weight-disjoint : (ss : List ℕ) (c : ℕ) (p q : ℕ → Bool) → someTo c (λ n. p n && q n) ≡ false → weight ss c (λ n. p n || q n) ≡ weight ss c p + weight ss c q
+unfolding weight
+weight-disjoint ss c p q e = sum-disjoint c p q (stakeIn ss) e
+
+pub count-disjoint : (c : ℕ) (p q : ℕ → Bool) → someTo c (λ n. p n && q n) ≡ false → countOf (λ n. p n || q n) c ≡ countOf p c + countOf q c
 unfolding countOf
-count-apart c p q e =
-    sum-both (λ n. part (p n || q n) 1) (λ n. part (p n) 1) (λ n. part (q n) 1) c
-    (λ i l. part-apart (p i) (q i) 1 (some-each c (λ n. p n && q n) e i l))
+count-disjoint c p q e = sum-disjoint c p q (λ _. 1) e
 
 -- Two masks that were built from tests weigh, together, what the tests weigh together.
 pub masks-weight : (ss : List ℕ) (c : ℕ) (p q : ℕ → Bool) → weight ss c (λ n. bit (maskOf p c) n || bit (maskOf q c) n) ≡ weight ss c (λ n. p n || q n)
 masks-weight ss c p q =
-    weight-under ss c (λ n. bit (maskOf p c) n || bit (maskOf q c) n) (λ n. p n || q n) (λ i l. rw (mask-bit p c i l, mask-bit q c i l))
+    weight-same ss c (λ n. bit (maskOf p c) n || bit (maskOf q c) n) (λ n. p n || q n) (λ i l. rw (mask-bit p c i l, mask-bit q c i l))
 
 pub masks-count : (c : ℕ) (p q : ℕ → Bool) → countOf (λ n. bit (maskOf p c) n || bit (maskOf q c) n) c ≡ countOf (λ n. p n || q n) c
 masks-count c p q =
-    count-under c (λ n. bit (maskOf p c) n || bit (maskOf q c) n) (λ n. p n || q n) (λ i l. rw (mask-bit p c i l, mask-bit q c i l))
+    count-same c (λ n. bit (maskOf p c) n || bit (maskOf q c) n) (λ n. p n || q n) (λ i l. rw (mask-bit p c i l, mask-bit q c i l))
 
 -- One mask made of two by or names the nodes of either.
 pub or-weight : (ss : List ℕ) (c a b : ℕ) → weight ss c (bit (bitOr a b)) ≡ weight ss c (λ n. bit a n || bit b n)
-or-weight ss c a b = weight-under ss c (bit (bitOr a b)) (λ n. bit a n || bit b n) (λ i l. or-bit a b i)
+or-weight ss c a b = weight-same ss c (bit (bitOr a b)) (λ n. bit a n || bit b n) (λ i l. or-bit a b i)
 
 pub or-count : (c a b : ℕ) → countOf (bit (bitOr a b)) c ≡ countOf (λ n. bit a n || bit b n) c
-or-count c a b = count-under c (bit (bitOr a b)) (λ n. bit a n || bit b n) (λ i l. or-bit a b i)
+or-count c a b = count-same c (bit (bitOr a b)) (λ n. bit a n || bit b n) (λ i l. or-bit a b i)
