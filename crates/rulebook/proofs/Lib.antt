@@ -2,3 +2,4 @@
 pub mod ToolLaws
 pub mod WeightLaws
 pub mod MaskLaws
+pub mod NumberLaws
