@@ -1,2 +1,7 @@
-pub mod Tools
 pub mod RunLaws
+pub mod Places
+pub mod VoteLaws
+pub mod SpareLaws
+pub mod LawfulRules
+pub mod Spending
+pub mod Settling

@@ -11,7 +11,7 @@ use Rattle.rulebook.specs.Tools.{given}
 use Rattle.rulebook.specs.Weights.{lastSlot}
 use Rattle.rulebook.specs.Rules.{State, ruleA, ruleB, ruleC, ruleD, ruleE, ruleF}
 use Rattle.rulebook.specs.Run.{ruleAt, made, mostRecords, quiet, firstRule, firstSlot, scan, runFor, run}
-use Rattle.settling.proofs.Tools.{given-on, given-off}
+use Rattle.rulebook.proofs.ToolLaws.{given-on, given-off}
 
 -- ---- quiet: as many records as before
 

@@ -1,1 +1,2 @@
 pub mod Spare
+pub mod Steps

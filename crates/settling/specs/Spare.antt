@@ -1,13 +1,13 @@
 -- The potential: how many records a node can still make.
-use mathlib.Core.Bool.{Bool, true, false}
+use mathlib.Core.Bool.{Bool}
 use Prim.Native.Nat.{ℕ, suc, _+_}
 use lib.ListN.{getD}
 use Rattle.rulebook.specs.declared.Cell.{Cell}
 use Rattle.rulebook.specs.Tools.{part, sumTo}
 use Rattle.rulebook.specs.Weights.{lastSlot, windows}
-use Rattle.rulebook.specs.Ledger.{Ledger, none, rowAt, ownCell, noInitial}
+use Rattle.rulebook.specs.Ledger.{Ledger, Row, none, noCell, noInitial, rowAt}
 
--- One for a place in which nothing stands.
+-- One where the test passes.
 abbrev pub one : Bool → ℕ
 one b = part b 1
 
@@ -18,14 +18,10 @@ cellSpare c =
     + (one (none (c .fallback1)) + (one (none (c .fallback2)) + one (none (c .fallback3))))
     + (one (none (c .skipfallback)) + one (none (c .finalvote)))
 
--- The records that slot s can still make: its own votes, and its final block told.
-unfoldable pub slotSpare : Ledger → ℕ → ℕ
-slotSpare l s = cellSpare (ownCell l s) + one (none (rowAt l s .final))
+-- The records that a slot can still make: the own votes, and its final block told.
+unfoldable pub rowSpare : ℕ → Row → ℕ
+rowSpare own r = cellSpare (getD (r .cells) own noCell) + one (none (r .final))
 
--- The windows that can still be armed.
-unfoldable pub windowSpare : Ledger → ℕ → ℕ
-windowSpare l w = one (none (getD (l .armed) w 0))
-
--- The records that a node can still make.
+-- The records that a node can still make: those of its slots, and its windows told.
 unfoldable pub spare : Ledger → ℕ
-spare l = sumTo lastSlot (λ i. slotSpare l (suc i)) + sumTo windows (windowSpare l)
+spare l = sumTo lastSlot (λ i. rowSpare (l .own) (rowAt l (suc i))) + sumTo windows (λ w. one (none (getD (l .armed) w 0)))

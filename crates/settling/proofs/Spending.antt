@@ -1,0 +1,154 @@
+-- From any ledger with a place for everything: every record is paid by one of the potential, by whatever part of a call makes it;
+-- records only grow, and where none is made nothing changes.
+use mathlib.Core.Path.{_≡_, refl, sym, ap, _∙_, subst}
+use mathlib.Core.Bool.{Bool, true, false}
+use mathlib.Core.List.{List, [], _∷_, _++_, append-assoc}
+use Prim.Native.Nat.{ℕ, zero, suc, _+_, _-_, _*_, _<_, _≤_}
+use native.Mathlib.Omega.{arith}
+use lib.ListN.{length, getD, set, length-append, length-set}
+use Rattle.rulebook.specs.declared.Cell.{Cell}
+use Rattle.rulebook.specs.declared.VoteKind.{VoteKind}
+use Rattle.rulebook.specs.declared.Place.the-variants.{Free}
+use Rattle.rulebook.specs.Weights.{mostNodes, lastSlot}
+use Rattle.rulebook.specs.PaperNumbers.{voteNumber}
+use Rattle.rulebook.specs.Ledger.{Ledger, Row, none, rowAt, cellAt, ownCell, isArmed, putArmed, putFinal}
+use Rattle.rulebook.specs.Votes.{placeOf, withVote, storeVote}
+use Rattle.rulebook.specs.Rules.{Record, State, recordOf, report, cast, castSkips, ruleA, ruleB, ruleC, ruleD, ruleE, ruleF}
+use Rattle.rulebook.specs.Run.{made, ruleAt, firstRule, firstSlot, scan, runFor, run}
+use Rattle.rulebook.specs.Inputs.{misfits}
+use Rattle.rulebook.specs.WellFormed.{Shaped}
+use Rattle.settling.specs.Spare.{spare}
+use Rattle.settling.specs.Steps.{Placed, SameNode, Lawful, Came}
+use Rattle.settling.proofs.Places.{shaped-row, shaped-armed}
+use Rattle.settling.proofs.SpareLaws.{spare-own, spare-armed, spare-final}
+use Rattle.settling.proofs.LawfulRules.{skips-keep, A-keeps, B-keeps, C-keeps, D-keeps, E-keeps, F-keeps, rule-keeps, rules-keep, slots-keep, scan-keeps, runFor-keeps, run-keeps}
+
+-- ---- what storing a vote leaves in place
+
+pub same-node : (l : Ledger) → SameNode l l
+same-node l = record { own = refl; count = refl; total = refl; genesis = refl; stakes = refl }
+
+pub stored-shaped : (l : Ledger) (s n : ℕ) (k : VoteKind) (b : ℕ) → Shaped l → s ≤ lastSlot → Shaped (storeVote l s n k b)
+unfolding storeVote
+stored-shaped l s n k b h a =
+    let r : Row = rowAt l s in
+    let c : Cell = withVote (cellAt l s n) k b in
+    shaped-row l s (record { kept = r .kept; timedOut = r .timedOut; final = r .final; cells = set (r .cells) n c }) h a
+    (length-set (r .cells) n c ∙ h .cells s (omega arith))
+
+pub stored-same : (l : Ledger) (s n : ℕ) (k : VoteKind) (b : ℕ) → SameNode l (storeVote l s n k b)
+unfolding storeVote
+stored-same l s n k b = record { own = refl; count = refl; total = refl; genesis = refl; stakes = refl }
+
+-- ---- one state comes of another
+
+pub came-self : (o : State) → Placed (o .ledger) → Came o o
+came-self o h = record { fresh = []; grown = refl; spent = refl; still = λ _. refl; placed = h; same = same-node (o .ledger) }
+
+-- No record is lost.
+pub came-more : (o p : State) → Came o p → made o ≤ made p
+came-more o p c = omega (arith, ap (λ (rs : List Record). length rs) (c .grown), length-append (c .fresh) (o .records))
+
+-- A record more: the ledger that it leaves has one less to spend.
+came-one : (o p : State) (l : Ledger) (k s b : ℕ) → Came o p → Shaped l → SameNode (p .ledger) l → spare l + 1 ≡ spare (p .ledger) → Came o (report p l k s b)
+came-one o p l k s b c h n e =
+    record {
+      fresh = recordOf k s b ∷ c .fresh;
+      grown = ap (λ (rs : List Record). recordOf k s b ∷ rs) (c .grown);
+      spent = omega (arith, c .spent);
+      still = λ q. absurd (omega (arith, came-more o p c));
+      placed = record { shaped = h; mine = omega (arith, n .own, c .placed .mine) };
+      same =
+          record {
+            own = n .own ∙ c .same .own;
+            count = n .count ∙ c .same .count;
+            total = n .total ∙ c .same .total;
+            genesis = n .genesis ∙ c .same .genesis;
+            stakes = n .stakes ∙ c .same .stakes;
+          };
+    }
+
+pub came-lawful : (o : State) → Lawful (Came o)
+unfolding cast
+came-lawful o =
+    record {
+      vote = λ p s k b low high e m c.
+          came-one o p (storeVote (p .ledger) s (p .ledger .own) k b) (voteNumber k) s b c
+          (stored-shaped (p .ledger) s (p .ledger .own) k b (c .placed .shaped) high)
+          (stored-same (p .ledger) s (p .ledger .own) k b)
+          (spare-own (p .ledger) s (c .placed) low high k b e m);
+      arm = λ p s low high e c.
+          came-one o p (putArmed (p .ledger) s) 7 s 0 c (shaped-armed (p .ledger) s (c .placed .shaped))
+          (record { own = refl; count = refl; total = refl; genesis = refl; stakes = refl })
+          (spare-armed (p .ledger) s (c .placed) low high e);
+      tell = λ p s b low high e m c.
+          let r : Row = rowAt (p .ledger) s in
+          came-one o p (putFinal (p .ledger) s b) 6 s b c
+          (shaped-row (p .ledger) s (record { kept = r .kept; timedOut = r .timedOut; final = b; cells = r .cells }) (c .placed .shaped) high (c .placed .shaped .cells s (omega arith)))
+          (record { own = refl; count = refl; total = refl; genesis = refl; stakes = refl })
+          (spare-final (p .ledger) s (c .placed) low high b e m);
+    }
+
+pub came-trans : (o p q : State) → Came o p → Came p q → Came o q
+came-trans o p q c d =
+    record {
+      fresh = d .fresh ++ c .fresh;
+      grown = d .grown ∙ ap (λ (rs : List Record). d .fresh ++ rs) (c .grown) ∙ sym (append-assoc (d .fresh) (c .fresh) (o .records));
+      spent = d .spent ∙ c .spent;
+      still = λ e.
+          let a = came-more o p c in
+          let b = came-more p q d in
+          d .still (omega arith) ∙ c .still (omega arith);
+      placed = d .placed;
+      same =
+          record {
+            own = d .same .own ∙ c .same .own;
+            count = d .same .count ∙ c .same .count;
+            total = d .same .total ∙ c .same .total;
+            genesis = d .same .genesis ∙ c .same .genesis;
+            stakes = d .same .stakes ∙ c .same .stakes;
+          };
+    }
+
+-- ---- every part of a call
+
+module _ (o : State) (h : Placed (o .ledger)) where
+  module _ (s : ℕ) (a : 1 ≤ s) (b : s ≤ lastSlot) where
+    pub skips-come : Came o (castSkips o s)
+    skips-come = skips-keep (Came o) (came-lawful o) s a b o (came-self o h)
+
+    pub A-comes : Came o (ruleA o s)
+    A-comes = A-keeps (Came o) (came-lawful o) s a b o (came-self o h)
+
+    pub B-comes : Came o (ruleB o s)
+    B-comes = B-keeps (Came o) (came-lawful o) s a b o (came-self o h)
+
+    pub C-comes : Came o (ruleC o s)
+    C-comes = C-keeps (Came o) (came-lawful o) s a b o (came-self o h)
+
+    pub D-comes : Came o (ruleD o s)
+    D-comes = D-keeps (Came o) (came-lawful o) s a b o (came-self o h)
+
+    pub E-comes : Came o (ruleE o s)
+    E-comes = E-keeps (Came o) (came-lawful o) s a b o (came-self o h)
+
+    pub F-comes : Came o (ruleF o s)
+    F-comes = F-keeps (Came o) (came-lawful o) s a b o (came-self o h)
+
+    pub rule-comes : (r : ℕ) → Came o (ruleAt r o s)
+    rule-comes r = rule-keeps (Came o) (came-lawful o) s a b r o (came-self o h)
+
+    pub rules-come : (n r : ℕ) → Came o (firstRule n r o s)
+    rules-come n r = rules-keep (Came o) (came-lawful o) s a b n r o (came-self o h)
+
+  pub slots-come : (n s : ℕ) → 1 ≤ s → s + n ≤ suc lastSlot → Came o (firstSlot n s o)
+  slots-come n s a b = slots-keep (Came o) (came-lawful o) n s o a b (came-self o h)
+
+  pub scan-comes : Came o (scan o)
+  scan-comes = scan-keeps (Came o) (came-lawful o) o (came-self o h)
+
+  pub runFor-comes : (n : ℕ) → Came o (runFor n o)
+  runFor-comes n = runFor-keeps (Came o) (came-lawful o) n o (came-self o h)
+
+  pub run-comes : Came o (run o)
+  run-comes = run-keeps (Came o) (came-lawful o) o (came-self o h)

@@ -1,0 +1,64 @@
+-- What the parts of a call do to a state: each record is made lawfully, paid from the potential, and what is not theirs stays.
+use mathlib.Core.Path.{_≡_}
+use mathlib.Core.Bool.{Bool, true, false}
+use mathlib.Core.List.{List, [], _∷_, _++_}
+use Prim.Native.Nat.{ℕ, zero, suc, _+_, _<_, _≤_}
+use lib.ListN.{length}
+use Rattle.rulebook.specs.declared.VoteKind.{VoteKind}
+use Rattle.rulebook.specs.declared.Place.the-variants.{Free}
+use Rattle.rulebook.specs.declared.Input.{Input}
+use Rattle.rulebook.specs.Weights.{mostNodes, lastSlot}
+use Rattle.rulebook.specs.Ledger.{Ledger, none, rowAt, ownCell, isArmed, putArmed, putFinal}
+use Rattle.rulebook.specs.Votes.{placeOf}
+use Rattle.rulebook.specs.Rules.{Record, State, report, cast}
+use Rattle.rulebook.specs.Run.{made, ruleAt}
+use Rattle.rulebook.specs.Inputs.{misfits, feed}
+use Rattle.rulebook.specs.WellFormed.{Shaped}
+use Rattle.settling.specs.Spare.{spare}
+
+-- A ledger with a place for everything, the own cells among them: all that settling asks.
+pub record Placed (l : Ledger) : Type 0 where
+  pub shaped : Shaped l
+  pub mine : l .own < mostNodes
+
+-- The two ledgers are of one node: nothing of its head but the armed windows has moved.
+pub record SameNode (l m : Ledger) : Type 0 where
+  pub own : m .own ≡ l .own
+  pub count : m .count ≡ l .count
+  pub total : m .total ≡ l .total
+  pub genesis : m .genesis ≡ l .genesis
+  pub stakes : m .stakes ≡ l .stakes
+
+-- A property of states that every way of making a record keeps: an own vote into a free place, an arming, a final block told.
+pub record Lawful (P : State → Type 0) : Type 1 where
+  pub vote : (o : State) (s : ℕ) (k : VoteKind) (b : ℕ) → 1 ≤ s → s ≤ lastSlot
+      → placeOf (ownCell (o .ledger) s) k b ≡ Free → misfits k b ≡ false → P o → P (cast o s k b)
+  pub arm : (o : State) (s : ℕ) → 1 ≤ s → s ≤ lastSlot
+      → isArmed (o .ledger) s ≡ false → P o → P (report o (putArmed (o .ledger) s) 7 s 0)
+  pub tell : (o : State) (s b : ℕ) → 1 ≤ s → s ≤ lastSlot
+      → none (rowAt (o .ledger) s .final) ≡ true → none b ≡ false → P o → P (report o (putFinal (o .ledger) s b) 6 s b)
+
+-- State p came of state o by making records: new ones in front of the old, each of them paid by one of the potential; where there
+-- is no new one nothing has changed.
+pub record Came (o p : State) : Type 0 where
+  pub fresh : List Record
+  pub grown : p .records ≡ fresh ++ o .records
+  pub spent : made p + spare (p .ledger) ≡ made o + spare (o .ledger)
+  pub still : made p ≡ made o → p ≡ o
+  pub placed : Placed (p .ledger)
+  pub same : SameNode (o .ledger) (p .ledger)
+
+-- No rule applies: each, in each slot, makes no record and gives the state back.
+pub record Settled (o : State) : Type 0 where
+  pub quiet : (r s : ℕ) → 1 ≤ s → s ≤ lastSlot → made (ruleAt r o s) ≡ made o
+  pub same : (r s : ℕ) → 1 ≤ s → s ≤ lastSlot → ruleAt r o s ≡ o
+
+-- The ledger after a list of inputs, fed one after the other.
+unfoldable pub after : Ledger → List Input → Ledger
+after l [] = l
+after l (i ∷ is) = after (feed l i .ledger) is
+
+-- The records that are made by then, in their order.
+unfoldable pub life : Ledger → List Input → List Record
+life l [] = []
+life l (i ∷ is) = feed l i .records ++ life (feed l i .ledger) is
