@@ -5,3 +5,5 @@ pub mod SpareLaws
 pub mod LawfulRules
 pub mod Spending
 pub mod Settling
+pub mod Verdicts
+pub mod Life

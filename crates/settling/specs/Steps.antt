@@ -4,15 +4,17 @@ use mathlib.Core.Bool.{Bool, true, false}
 use mathlib.Core.List.{List, [], _∷_, _++_}
 use Prim.Native.Nat.{ℕ, zero, suc, _+_, _<_, _≤_}
 use lib.ListN.{length}
+use Rattle.rulebook.specs.declared.Block.{Block}
+use Rattle.rulebook.specs.declared.Vote.{Vote}
 use Rattle.rulebook.specs.declared.VoteKind.{VoteKind}
 use Rattle.rulebook.specs.declared.Place.the-variants.{Free}
 use Rattle.rulebook.specs.declared.Input.{Input}
 use Rattle.rulebook.specs.Weights.{mostNodes, lastSlot}
-use Rattle.rulebook.specs.Ledger.{Ledger, none, rowAt, ownCell, isArmed, putArmed, putFinal}
+use Rattle.rulebook.specs.Ledger.{Ledger, none, rowAt, cellAt, ownCell, isArmed, putArmed, putFinal}
 use Rattle.rulebook.specs.Votes.{placeOf}
 use Rattle.rulebook.specs.Rules.{Record, State, report, cast}
 use Rattle.rulebook.specs.Run.{made, ruleAt}
-use Rattle.rulebook.specs.Inputs.{misfits, feed}
+use Rattle.rulebook.specs.Inputs.{isOther, misfits, badParent, feed}
 use Rattle.rulebook.specs.WellFormed.{Shaped}
 use Rattle.settling.specs.Spare.{spare}
 
@@ -48,10 +50,40 @@ pub record Came (o p : State) : Type 0 where
   pub placed : Placed (p .ledger)
   pub same : SameNode (o .ledger) (p .ledger)
 
+-- What an accepted input, or a whole call, has made of a ledger: each record is paid from the potential.
+pub record Paid (l m : Ledger) (records : ℕ) : Type 0 where
+  pub spent : records + spare m ≡ spare l
+  pub placed : Placed m
+  pub same : SameNode l m
+
 -- No rule applies: each, in each slot, makes no record and gives the state back.
 pub record Settled (o : State) : Type 0 where
   pub quiet : (r s : ℕ) → 1 ≤ s → s ≤ lastSlot → made (ruleAt r o s) ≡ made o
   pub same : (r s : ℕ) → 1 ≤ s → s ≤ lastSlot → ruleAt r o s ≡ o
+
+-- What an accepted vote, block or timeout has passed.
+pub record VoteFine (l : Ledger) (v : Vote) : Type 0 where
+  pub kind : isOther (v .kind) ≡ false
+  pub low : 1 ≤ v .slot .0
+  pub high : v .slot .0 ≤ lastSlot
+  pub node : v .node .0 < l .count
+  pub outside : v .node .0 ≡ l .own → ⊥
+  pub fits : misfits (v .kind) (v .block) ≡ false
+  pub free : placeOf (cellAt l (v .slot .0) (v .node .0)) (v .kind) (v .block) ≡ Free
+
+pub record BlockFine (l : Ledger) (s : ℕ) (b : Block) : Type 0 where
+  pub low : 1 ≤ s
+  pub high : s ≤ lastSlot
+  pub number : none (b .number) ≡ false
+  pub parent : none (b .parent) ≡ false
+  pub ancestry : badParent l s b ≡ false
+  pub free : none (rowAt l s .kept .number) ≡ true
+
+pub record TimeoutFine (l : Ledger) (s : ℕ) : Type 0 where
+  pub low : 1 ≤ s
+  pub high : s ≤ lastSlot
+  pub armed : isArmed l s ≡ true
+  pub free : none (rowAt l s .timedOut) ≡ true
 
 -- The ledger after a list of inputs, fed one after the other.
 unfoldable pub after : Ledger → List Input → Ledger

@@ -1,0 +1,172 @@
+-- A node makes at most 116 records in its life, whatever it is fed.
+use mathlib.Core.Path.{_≡_, refl, sym, ap, _∙_, subst}
+use mathlib.Core.Bool.{Bool, true, false, not, _&&_, _||_}
+use mathlib.Core.List.{List, [], _∷_, _++_, reverse}
+use Prim.Native.Nat.{ℕ, zero, suc, _+_, _<_, _≤_}
+use native.Mathlib.Omega.{arith}
+use lib.ListN.{length, length-append, length-reverse, set, length-set}
+use lib.Dec.{eqb, leb}
+use Rattle.rulebook.specs.declared.Block.{Block}
+use Rattle.rulebook.specs.declared.Vote.{Vote}
+use Rattle.rulebook.specs.declared.Input.{Input}
+use Rattle.rulebook.specs.declared.Input.the-variants as input
+use Rattle.rulebook.specs.declared.Refusal.{Refusal}
+use Rattle.rulebook.specs.declared.Refusal.the-variants as refusal
+use Rattle.rulebook.specs.declared.Verdict.{Verdict}
+use Rattle.rulebook.specs.declared.Verdict.the-variants.{Fine, Refused}
+use Rattle.rulebook.specs.Tools.{given}
+use Rattle.rulebook.specs.Weights.{mostNodes, lastSlot}
+use Rattle.rulebook.specs.Ledger.{Ledger, Row, noInitial, rowAt, ownCell, putKept, putTimedOut}
+use Rattle.rulebook.specs.Votes.{storeVote}
+use Rattle.rulebook.specs.Rules.{Record, State, stateOf, castSkips}
+use Rattle.rulebook.specs.Run.{made, run}
+use Rattle.rulebook.specs.Inputs.{Fed, verdict, timeOut, intake, fedWith, refusedWith, fedOn, feed}
+use Rattle.rulebook.specs.WellFormed.{Shaped, wellFormed, outboxWords, step}
+use Rattle.rulebook.proofs.ToolLaws.{given-keeps}
+use Rattle.settling.specs.Spare.{spare}
+use Rattle.settling.specs.Steps.{Placed, SameNode, Came, Paid, VoteFine, BlockFine, TimeoutFine, Settled, after, life}
+use Rattle.settling.proofs.Places.{shaped-row}
+use Rattle.settling.proofs.SpareLaws.{spare-most, spare-other, spare-kept, spare-timedOut}
+use Rattle.settling.proofs.Spending.{same-node, stored-shaped, stored-same, came-self, skips-come, run-comes}
+use Rattle.settling.proofs.Settling.{run-settles}
+use Rattle.settling.proofs.Verdicts.{vote-fine, block-fine, timeout-fine}
+
+-- ---- paying
+
+pub paid-nothing : (l : Ledger) → Placed l → Paid l l 0
+paid-nothing l h = record { spent = omega arith; placed = h; same = same-node l }
+
+-- What came of a state that was paid is paid.
+pub paid-came : (l : Ledger) (o p : State) → Paid l (o .ledger) (made o) → Came o p → Paid l (p .ledger) (made p)
+paid-came l o p a c =
+    record {
+      spent = omega (arith, c .spent, a .spent);
+      placed = c .placed;
+      same =
+          record {
+            own = c .same .own ∙ a .same .own;
+            count = c .same .count ∙ a .same .count;
+            total = c .same .total ∙ a .same .total;
+            genesis = c .same .genesis ∙ a .same .genesis;
+            stakes = c .same .stakes ∙ a .same .stakes;
+          };
+    }
+
+-- ---- what an accepted input stores is free
+
+module _ (l : Ledger) (h : Placed l) where
+  pub vote-paid : (v : Vote) → VoteFine l v → Paid l (storeVote l (v .slot .0) (v .node .0) (v .kind) (v .block)) 0
+  vote-paid v f =
+      let m : Ledger = storeVote l (v .slot .0) (v .node .0) (v .kind) (v .block) in
+      let same : SameNode l m = stored-same l (v .slot .0) (v .node .0) (v .kind) (v .block) in
+      record {
+        spent = omega (arith, spare-other l (v .slot .0) h (f .low) (f .high) (v .node .0) (v .kind) (v .block) (f .outside));
+        placed =
+            record {
+              shaped = stored-shaped l (v .slot .0) (v .node .0) (v .kind) (v .block) (h .shaped) (f .high);
+              mine = omega (arith, same .own, h .mine);
+            };
+        same = same;
+      }
+
+  pub kept-shaped : (s : ℕ) (b : Block) → s ≤ lastSlot → Shaped (putKept l s b)
+  kept-shaped s b a =
+      let r : Row = rowAt l s in
+      shaped-row l s (record { kept = b; timedOut = r .timedOut; final = r .final; cells = r .cells }) (h .shaped) a (h .shaped .cells s (omega arith))
+
+  pub block-paid : (s : ℕ) (b : Block) → 1 ≤ s → s ≤ lastSlot → Paid l (putKept l s b) 0
+  block-paid s b low high =
+      record {
+        spent = omega (arith, spare-kept l s h low high b);
+        placed = record { shaped = kept-shaped s b high; mine = h .mine };
+        same = record { own = refl; count = refl; total = refl; genesis = refl; stakes = refl };
+      }
+
+  pub timedOut-shaped : (s : ℕ) → s ≤ lastSlot → Shaped (putTimedOut l s)
+  timedOut-shaped s a =
+      let r : Row = rowAt l s in
+      shaped-row l s (record { kept = r .kept; timedOut = 1; final = r .final; cells = r .cells }) (h .shaped) a (h .shaped .cells s (omega arith))
+
+  pub timedOut-paid : (s : ℕ) → 1 ≤ s → s ≤ lastSlot → Paid l (putTimedOut l s) 0
+  timedOut-paid s low high =
+      record {
+        spent = omega (arith, spare-timedOut l s h low high);
+        placed = record { shaped = timedOut-shaped s high; mine = h .mine };
+        same = record { own = refl; count = refl; total = refl; genesis = refl; stakes = refl };
+      }
+
+  -- The skips of a timeout are paid.
+  pub timeOut-paid : (s : ℕ) → 1 ≤ s → s ≤ lastSlot → Paid l (timeOut l s .ledger) (made (timeOut l s))
+  unfolding timeOut
+  timeOut-paid s low high =
+      let o : State = stateOf (putTimedOut l s) [] in
+      let p = timedOut-paid s low high in
+      given-keeps (λ (q : State). Paid l (q .ledger) (made q)) (noInitial (ownCell l s)) o (λ _. castSkips o s) p
+      (λ _. paid-came l o (castSkips o s) p (skips-come o (p .placed) s low high))
+
+  -- ---- an accepted input, before the rules and after them
+
+  pub intake-paid : (i : Input) → verdict l i ≡ Fine → Paid l (intake l i .ledger) (made (intake l i))
+  unfolding intake verdict
+  intake-paid (input.Vote v) e = vote-paid v (vote-fine l v e)
+  intake-paid (input.Block s b) e = let f = block-fine l (s .0) b e in block-paid (s .0) b (f .low) (f .high)
+  intake-paid (input.Timeout s) e = let f = timeout-fine l (s .0) e in timeOut-paid (s .0) (f .low) (f .high)
+  intake-paid input.Look e = paid-nothing l h
+
+  pub called-paid : (i : Input) → verdict l i ≡ Fine → Paid l (run (intake l i) .ledger) (made (run (intake l i)))
+  called-paid i e =
+      let p = intake-paid i e in paid-came l (intake l i) (run (intake l i)) p (run-comes (intake l i) (p .placed))
+
+  -- An outbox of 128 records has room for a call.
+  pub called-within : (i : Input) → verdict l i ≡ Fine → made (run (intake l i)) ≤ 116
+  called-within i e = omega (arith, called-paid i e .spent, spare-most l)
+
+  -- After an accepted input no rule applies.
+  pub called-settled : (i : Input) → verdict l i ≡ Fine → Settled (run (intake l i))
+  called-settled i e = run-settles (intake l i) (intake-paid i e .placed)
+
+  -- ---- any input
+
+  fedOn-paid : (v : Verdict) (i : Input) → verdict l i ≡ v → Paid l (fedOn v l i .ledger) (length (fedOn v l i .records))
+  unfolding fedOn fedWith refusedWith
+  fedOn-paid Fine i e =
+      let p = called-paid i e in
+      record { spent = omega (arith, p .spent, length-reverse (run (intake l i) .records)); placed = p .placed; same = p .same }
+  fedOn-paid (Refused r) i e = paid-nothing l h
+
+  pub feed-paid : (i : Input) → Paid l (feed l i .ledger) (length (feed l i .records))
+  unfolding feed
+  feed-paid i = fedOn-paid (verdict l i) i refl
+
+  pub step-paid : (room : ℕ) (i : Input) → Paid l (step l room i .ledger) (length (step l room i .records))
+  unfolding step refusedWith
+  step-paid room i =
+      let P : Fed → Type 0 = λ f. Paid l (f .ledger) (length (f .records)) in
+      given-keeps P (wellFormed l) (refusedWith l refusal.BadRecord) _ (paid-nothing l h)
+      (λ _. given-keeps P (leb outboxWords room) (refusedWith l refusal.NoRoom) (λ _. feed l i) (paid-nothing l h) (λ _. feed-paid i))
+
+-- ---- a life
+
+pub life-paid : (l : Ledger) (is : List Input) → Placed l → Paid l (after l is) (length (life l is))
+unfolding after life
+life-paid l [] h = paid-nothing l h
+life-paid l (i ∷ is) h =
+    let p = feed-paid l h i in
+    let q = life-paid (feed l i .ledger) is (p .placed) in
+    record {
+      spent = omega (arith, p .spent, q .spent, length-append (feed l i .records) (life (feed l i .ledger) is));
+      placed = q .placed;
+      same =
+          record {
+            own = q .same .own ∙ p .same .own;
+            count = q .same .count ∙ p .same .count;
+            total = q .same .total ∙ p .same .total;
+            genesis = q .same .genesis ∙ p .same .genesis;
+            stakes = q .same .stakes ∙ p .same .stakes;
+          };
+    }
+
+-- "a node makes at most 116 records in its life".
+pub life-within : (l : Ledger) (is : List Input) → Shaped l → l .own < l .count → l .count ≤ mostNodes → length (life l is) ≤ 116
+life-within l is h own count =
+    omega (arith, life-paid l is (record { shaped = h; mine = omega arith }) .spent, spare-most l)
