@@ -160,5 +160,5 @@ made-fit ws e = subst Fit (sym (made-table ws e)) (table-fit ws (sym (made-fits 
 pub fit-weight : (t : StakeTable) → Fit t → (p : ℕ → Bool) → weight (t .stakes) (t .count) p ≤ t .total .0
 fit-weight t f p = omega (arith, weight-total (t .stakes) (t .count) p, f .sum)
 
-pub weighable : (t : StakeTable) → Fit t → (p : ℕ → Bool) (k : ℕ) → k ≤ 4 → Weighable k (weight (t .stakes) (t .count) p) (t .total .0)
+pub weighable : (t : StakeTable) → Fit t → (p : ℕ → Bool) (k : ℕ) → k ≤ 5 → Weighable k (weight (t .stakes) (t .count) p) (t .total .0)
 weighable t f p k h = record { fifths = h; weight = omega (arith, fit-weight t f p, f .light); total = f .light }
