@@ -1,0 +1,3 @@
+pub mod Slot
+pub mod Ballots
+pub mod Moves
