@@ -1,0 +1,3 @@
+pub mod Tables
+pub mod Reading
+pub mod Replacing

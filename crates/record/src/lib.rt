@@ -1,0 +1,306 @@
+// The node's record: words lent by the host, and the ledger that they hold. Every other crate reads and changes a
+// record through these functions.
+ghost use mathlib.Core.Path.{_≡_};
+ghost use mathlib.Core.Bool.{not};
+ghost use Prim.Native.Nat.{_<_};
+ghost use lib.ListN.{length};
+ghost use Rattle.rulebook.specs.Weights.{mostNodes, stakeIn};
+ghost use Rattle.rulebook.specs.Ledger.{none, rowAt, cellAt, ownCell, isArmed, putCell, putKept, putTimedOut, putFinal, putArmed};
+ghost use Rattle.rulebook.specs.Pool.{hasFallback};
+ghost use Rattle.rulebook.specs.Votes.{placeIf, placeOf, fillFallback, withVote, storeVote};
+ghost use Rattle.record.specs.Layout.{recordWords, rowStart, cellStart, InSlot, InWindow, InTable, Placed, OwnIn, ledgerOf};
+use rulebook::Block;
+use rulebook::Cell;
+use rulebook::Node;
+use rulebook::Place;
+use rulebook::Slot;
+use rulebook::VoteKind;
+use rulebook::Weight;
+
+// The layout: 4 numbers, 4 armed windows, 64 stakes; then 17 rows of 5 words and 64 cells of 7 words.
+const NODES: usize = 64;
+
+const ARMED_START: usize = 4;
+
+const STAKE_START: usize = 8;
+
+const HEAD_WORDS: usize = STAKE_START + NODES;
+
+const CELL_WORDS: usize = 7;
+
+const ROW_HEAD: usize = 5;
+
+const ROW_WORDS: usize = ROW_HEAD + CELL_WORDS * NODES;
+
+// How many words the host lends a node.
+pub fn record_words() -> usize
+    ensures { λ r. ⌜ r ≡ recordWords ⌝ }
+{
+    HEAD_WORDS + ROW_WORDS * 17
+}
+
+// The first word of a slot's row.
+fn row_start(s: Slot) -> usize
+    requires { ⌜ s .0 < 17 ⌝ }
+    ensures { λ r. ⌜ r ≡ rowStart (s .0) ⌝ }
+{
+    HEAD_WORDS + ROW_WORDS * s.0
+}
+
+// The first word of a node's cell in a slot's row.
+fn cell_start(s: Slot, n: Node) -> usize
+    requires { ⌜ (s .0 < 17) × (n .0 < mostNodes) ⌝ }
+    ensures { λ r. ⌜ r ≡ cellStart (s .0) (n .0) ⌝ }
+{
+    row_start(s) + ROW_HEAD + CELL_WORDS * n.0
+}
+
+// What the pool keeps of a node in a slot.
+pub fn load_cell(rec: &[u64], s: Slot, n: Node) -> Cell
+    requires { ⌜ Placed (now rec) (s .0) (n .0) ⌝ }
+    ensures { λ r. ⌜ r ≡ cellAt (ledgerOf (now (rec .entry))) (s .0) (n .0) ⌝ }
+{
+    let i = cell_start(s, n);
+    Cell {
+        notar: rec[i],
+        skip: rec[i + 1],
+        fallback1: rec[i + 2],
+        fallback2: rec[i + 3],
+        fallback3: rec[i + 4],
+        skipfallback: rec[i + 5],
+        finalvote: rec[i + 6],
+    }
+}
+
+// Puts a cell in the place of a node's.
+pub fn store_cell(rec: &mut [u64], s: Slot, n: Node, c: Cell)
+    requires { ⌜ Placed (now rec) (s .0) (n .0) ⌝ }
+    ensures { λ _. ⌜ ledgerOf (now (rec .exit)) ≡ putCell (ledgerOf (now (rec .entry))) (s .0) (n .0) c ⌝ }
+{
+    let i = cell_start(s, n);
+    rec[i] = c.notar;
+    rec[i + 1] = c.skip;
+    rec[i + 2] = c.fallback1;
+    rec[i + 3] = c.fallback2;
+    rec[i + 4] = c.fallback3;
+    rec[i + 5] = c.skipfallback;
+    rec[i + 6] = c.finalvote;
+}
+
+// The block kept in a slot, with its parent.
+pub fn kept_block(rec: &[u64], s: Slot) -> Block
+    requires { ⌜ InSlot (now rec) (s .0) ⌝ }
+    ensures { λ r. ⌜ r ≡ rowAt (ledgerOf (now (rec .entry))) (s .0) .kept ⌝ }
+{
+    let i = row_start(s);
+    Block {
+        number: rec[i],
+        parentslot: Slot(rec[i + 1] as usize),
+        parent: rec[i + 2],
+    }
+}
+
+// Keeps a block in a slot.
+pub fn keep_block(rec: &mut [u64], s: Slot, b: Block)
+    requires { ⌜ InSlot (now rec) (s .0) ⌝ }
+    ensures { λ _. ⌜ ledgerOf (now (rec .exit)) ≡ putKept (ledgerOf (now (rec .entry))) (s .0) b ⌝ }
+{
+    let i = row_start(s);
+    let p = b.parentslot;
+    rec[i] = b.number;
+    rec[i + 1] = p.0 as u64;
+    rec[i + 2] = b.parent;
+}
+
+// Whether a slot's timeout was taken.
+pub fn timed_out(rec: &[u64], s: Slot) -> bool
+    requires { ⌜ InSlot (now rec) (s .0) ⌝ }
+    ensures { λ r. ⌜ r ≡ not (none (rowAt (ledgerOf (now (rec .entry))) (s .0) .timedOut)) ⌝ }
+{
+    let i = row_start(s);
+    rec[i + 3] != 0
+}
+
+// Marks that a slot's timeout was taken.
+pub fn mark_timed_out(rec: &mut [u64], s: Slot)
+    requires { ⌜ InSlot (now rec) (s .0) ⌝ }
+    ensures { λ _. ⌜ ledgerOf (now (rec .exit)) ≡ putTimedOut (ledgerOf (now (rec .entry))) (s .0) ⌝ }
+{
+    let i = row_start(s);
+    rec[i + 3] = 1;
+}
+
+// The block reported final in a slot, 0 where there is none.
+pub fn final_block(rec: &[u64], s: Slot) -> u64
+    requires { ⌜ InSlot (now rec) (s .0) ⌝ }
+    ensures { λ r. ⌜ r ≡ rowAt (ledgerOf (now (rec .entry))) (s .0) .final ⌝ }
+{
+    let i = row_start(s);
+    rec[i + 4]
+}
+
+// Marks a block as reported final in a slot.
+pub fn set_final(rec: &mut [u64], s: Slot, b: u64)
+    requires { ⌜ InSlot (now rec) (s .0) ⌝ }
+    ensures { λ _. ⌜ ledgerOf (now (rec .exit)) ≡ putFinal (ledgerOf (now (rec .entry))) (s .0) b ⌝ }
+{
+    let i = row_start(s);
+    rec[i + 4] = b;
+}
+
+// Whether a slot's window is armed.
+pub fn is_armed(rec: &[u64], s: Slot) -> bool
+    requires { ⌜ InWindow (now rec) (s .0) ⌝ }
+    ensures { λ r. ⌜ r ≡ isArmed (ledgerOf (now (rec .entry))) (s .0) ⌝ }
+{
+    let i = ARMED_START + (s.0 - 1) / 4;
+    rec[i] != 0
+}
+
+// Arms a slot's window.
+pub fn arm(rec: &mut [u64], s: Slot)
+    requires { ⌜ InWindow (now rec) (s .0) ⌝ }
+    ensures { λ _. ⌜ ledgerOf (now (rec .exit)) ≡ putArmed (ledgerOf (now (rec .entry))) (s .0) ⌝ }
+{
+    let i = ARMED_START + (s.0 - 1) / 4;
+    rec[i] = 1;
+}
+
+// The number of nodes.
+pub fn count(rec: &[u64]) -> usize
+    requires { ⌜ length (now rec) ≡ recordWords ⌝ }
+    ensures { λ r. ⌜ r ≡ ledgerOf (now (rec .entry)) .count ⌝ }
+{
+    rec[0] as usize
+}
+
+// The total stake.
+pub fn total(rec: &[u64]) -> Weight
+    requires { ⌜ length (now rec) ≡ recordWords ⌝ }
+    ensures { λ r. ⌜ r .0 ≡ ledgerOf (now (rec .entry)) .total ⌝ }
+{
+    Weight(rec[1])
+}
+
+// The own number.
+pub fn own(rec: &[u64]) -> Node
+    requires { ⌜ length (now rec) ≡ recordWords ⌝ }
+    ensures { λ r. ⌜ r .0 ≡ ledgerOf (now (rec .entry)) .own ⌝ }
+{
+    Node(rec[2] as usize)
+}
+
+// Genesis's number.
+pub fn genesis(rec: &[u64]) -> u64
+    requires { ⌜ length (now rec) ≡ recordWords ⌝ }
+    ensures { λ r. ⌜ r ≡ ledgerOf (now (rec .entry)) .genesis ⌝ }
+{
+    rec[3]
+}
+
+// A node's stake.
+pub fn stake(rec: &[u64], n: Node) -> Weight
+    requires { ⌜ InTable (now rec) (n .0) ⌝ }
+    ensures { λ r. ⌜ r .0 ≡ stakeIn (ledgerOf (now (rec .entry)) .stakes) (n .0) ⌝ }
+{
+    let i = STAKE_START + n.0;
+    Weight(rec[i])
+}
+
+// The own votes in a slot.
+pub fn own_cell(rec: &[u64], s: Slot) -> Cell
+    requires { ⌜ OwnIn (now rec) (s .0) ⌝ }
+    ensures { λ r. ⌜ r ≡ ownCell (ledgerOf (now (rec .entry))) (s .0) ⌝ }
+{
+    load_cell(rec, s, own(rec))
+}
+
+// Whether the cell keeps a notar-fallback for b.
+pub fn has_fallback(b: u64, c: Cell) -> bool
+    ensures { λ r. ⌜ r ≡ hasFallback b c ⌝ }
+{
+    (c.fallback1 == b) | ((c.fallback2 == b) | (c.fallback3 == b))
+}
+
+// The very vote is there, else the place is free, else another stands in it.
+fn place_if(same: bool, free: bool) -> Place
+    ensures { λ r. ⌜ r ≡ placeIf same free ⌝ }
+{
+    if same {
+        Place::Same
+    } else if free {
+        Place::Free
+    } else {
+        Place::Taken
+    }
+}
+
+// What a vote finds at its place in a cell.
+pub fn place_of(c: Cell, k: VoteKind, b: u64) -> Place
+    ensures { λ r. ⌜ r ≡ placeOf c k b ⌝ }
+{
+    match k {
+        VoteKind::Notar => place_if(c.notar == b, (c.notar == 0) & (c.skip == 0)),
+        VoteKind::NotarFallback => place_if(has_fallback(b, c), c.fallback3 == 0),
+        VoteKind::Skip => place_if(c.skip != 0, (c.notar == 0) & (c.skip == 0)),
+        VoteKind::SkipFallback => place_if(c.skipfallback != 0, true),
+        VoteKind::Final => place_if(c.finalvote != 0, true),
+        VoteKind::Other => Place::Taken,
+    }
+}
+
+// The cell with a notar-fallback block in the first free of its three places.
+fn fill_fallback(c: Cell, b: u64) -> Cell
+    ensures { λ r. ⌜ r ≡ fillFallback (none (c .fallback1)) (none (c .fallback2)) (none (c .fallback3)) c b ⌝ }
+{
+    let mut d = c;
+    if c.fallback1 == 0 {
+        d.fallback1 = b;
+        return d;
+    }
+    if c.fallback2 == 0 {
+        d.fallback2 = b;
+        return d;
+    }
+    if c.fallback3 == 0 {
+        d.fallback3 = b;
+        return d;
+    }
+    d
+}
+
+// The cell with the vote kept in it.
+pub fn with_vote(c: Cell, k: VoteKind, b: u64) -> Cell
+    ensures { λ r. ⌜ r ≡ withVote c k b ⌝ }
+{
+    let mut d = c;
+    match k {
+        VoteKind::Notar => {
+            d.notar = b;
+            d
+        }
+        VoteKind::NotarFallback => fill_fallback(c, b),
+        VoteKind::Skip => {
+            d.skip = 1;
+            d
+        }
+        VoteKind::SkipFallback => {
+            d.skipfallback = 1;
+            d
+        }
+        VoteKind::Final => {
+            d.finalvote = 1;
+            d
+        }
+        VoteKind::Other => d,
+    }
+}
+
+// Stores a node's vote: the one way in for own and outside votes.
+pub fn store_vote(rec: &mut [u64], s: Slot, n: Node, k: VoteKind, b: u64)
+    requires { ⌜ Placed (now rec) (s .0) (n .0) ⌝ }
+    ensures { λ _. ⌜ ledgerOf (now (rec .exit)) ≡ storeVote (ledgerOf (now (rec .entry))) (s .0) (n .0) k b ⌝ }
+{
+    let c = load_cell(rec, s, n);
+    store_cell(rec, s, n, with_vote(c, k, b));
+}
