@@ -7,3 +7,7 @@ pub mod Spending
 pub mod Settling
 pub mod Verdicts
 pub mod Life
+pub mod FactLaws
+pub mod FormedLaws
+pub mod Soundness
+pub mod Start

@@ -1,0 +1,145 @@
+-- A node that starts is sound, and so it stays; and its life makes at most 116 records.
+use mathlib.Core.Path.{_≡_, refl, sym, ap, _∙_, subst}
+use mathlib.Core.Bool.{Bool, true, false, not, _&&_, _||_}
+use mathlib.Core.List.{List, [], _∷_, _++_}
+use Prim.Native.Nat.{ℕ, zero, suc, _+_, _-_, _<_, _≤_}
+use native.Mathlib.Omega.{arith}
+use lib.ListN.{length, getD, replicate, length-append, length-replicate, List·getD-append}
+use lib.Seq.{getD-append-add}
+use lib.Dec.{eqb, leb, ltb}
+use borrow.Author.Tests.{not-true, not-false, leb-true, leb-false, le-ltb}
+use Rattle.rulebook.specs.declared.Cell.{Cell}
+use Rattle.rulebook.specs.declared.Input.{Input}
+use Rattle.rulebook.specs.declared.Refusal.the-variants as refusal
+use Rattle.rulebook.specs.declared.Verdict.the-variants.{Fine, Refused}
+use Rattle.rulebook.specs.Tools.{given, allTo, sumTo}
+use Rattle.rulebook.specs.Weights.{mostNodes, mostStake, lastSlot, windows, stakeIn, stakesFit, totalTo}
+use Rattle.rulebook.specs.Ledger.{Ledger, Row, none, noCell, noRow, rowAt, cellAt, fresh}
+use Rattle.rulebook.specs.Inputs.{startVerdict, badParent, feed}
+use Rattle.rulebook.specs.WellFormed.{Shaped, inOrder, cellFits, cellBlank, cellsFit, keptFits, rowBlank, wellFormed}
+use Rattle.rulebook.proofs.ToolLaws.{given-on, given-off, and-both, both-and, or-none, all-at, all-each, sum-same}
+use Rattle.settling.specs.Facts.{RowFacts, HeadFacts, Formed, Sound}
+use Rattle.settling.specs.Steps.{after, life}
+use Rattle.settling.proofs.Verdicts.{refuse-fine}
+use Rattle.settling.proofs.FactLaws.{well-formed}
+use Rattle.settling.proofs.SpareLaws.{spare-most}
+use Rattle.settling.proofs.Life.{life-paid}
+use Rattle.settling.proofs.Soundness.{sound-placed, life-sound}
+
+-- What is read of equal things, past their end too.
+pub replicate-all : {A : Type 0} (n i : ℕ) (x : A) → getD (replicate n x) i x ≡ x
+replicate-all zero i x = refl
+replicate-all (suc n) zero x = refl
+replicate-all (suc n) (suc i) x = replicate-all n i x
+
+-- ---- the blank row
+
+blank-cell : (n : ℕ) → getD (noRow .cells) n noCell ≡ noCell
+unfolding noRow
+blank-cell n = replicate-all mostNodes n noCell
+
+blank-long : length (noRow .cells) ≡ mostNodes
+unfolding noRow
+blank-long = length-replicate mostNodes noCell
+
+no-cell-fits : cellFits noCell ≡ true
+unfolding cellFits inOrder
+no-cell-fits = refl
+
+no-cell-blank : cellBlank noCell ≡ true
+unfolding cellBlank
+no-cell-blank = refl
+
+blank-facts : (l : Ledger) (s : ℕ) → RowFacts l s noRow
+unfolding noRow keptFits given
+blank-facts l s =
+    record {
+      kept = refl;
+      timedOut = omega arith;
+      cells = λ n a b. ap cellFits (blank-cell n) ∙ no-cell-fits;
+      beyond = λ n a b. ap cellBlank (blank-cell n) ∙ no-cell-blank;
+    }
+
+row-zero : (l : Ledger) → rowAt l 0 ≡ noRow → rowBlank l ≡ true
+unfolding rowBlank cellsFit noRow
+row-zero l e =
+    rw e
+    (all-each mostNodes (λ n. given (ltb n 0) (cellBlank (getD (noRow .cells) n noCell)) (λ _. cellFits (getD (noRow .cells) n noCell)))
+    (λ n a. given-off (ltb n 0) (cellBlank (getD (noRow .cells) n noCell)) (λ _. cellFits (getD (noRow .cells) n noCell)) (le-ltb n 0 (omega arith)) ∙ ap cellBlank (blank-cell n) ∙ no-cell-blank))
+
+-- ---- the stakes in their 64 places
+
+-- Past the nodes there is no stake.
+pub stake-past : (ws : List ℕ) (k n : ℕ) → length ws ≤ n → stakeIn (ws ++ replicate k 0) n ≡ 0
+stake-past [] k n h = replicate-all k n 0
+stake-past (w ∷ ws) k zero h = absurd (omega arith)
+stake-past (w ∷ ws) k (suc n) h = stake-past ws k n (omega arith)
+
+-- Of the nodes each has its own.
+pub stake-there : (ws : List ℕ) (k n : ℕ) → n < length ws → stakeIn (ws ++ replicate k 0) n ≡ stakeIn ws n
+stake-there ws k n h = List·getD-append ws (replicate k 0) 0 n h
+
+pub total-there : (ws : List ℕ) (k : ℕ) → totalTo (ws ++ replicate k 0) (length ws) ≡ totalTo ws (length ws)
+unfolding totalTo
+total-there ws k = sum-same (length ws) (λ n. stakeIn (ws ++ replicate k 0) n) (λ n. stakeIn ws n) (λ n h. stake-there ws k n h)
+
+-- ---- start
+
+module _ (stakes : List ℕ) (own genesis : ℕ) (e : startVerdict stakes own genesis ≡ Fine) where
+  -- What start has passed.
+  pub start-fine : (stakesFit stakes (length stakes) ≡ true) × (own < length stakes) × (none genesis ≡ false)
+  unfolding startVerdict
+  start-fine =
+      let p = refuse-fine (not (stakesFit stakes (length stakes)) || (leb (length stakes) own || none genesis)) refusal.BadSizes Fine e in
+      let q = or-none (not (stakesFit stakes (length stakes))) (leb (length stakes) own || none genesis) (p .0) in
+      let r = or-none (leb (length stakes) own) (none genesis) (q .1) in
+      (not-false (stakesFit stakes (length stakes)) (q .0), leb-false (length stakes) own (r .0), r .1)
+
+  pub fresh-formed : Formed (fresh stakes own genesis)
+  unfolding fresh stakesFit
+  fresh-formed =
+      let l : Ledger = fresh stakes own genesis in
+      let k : ℕ = mostNodes - length stakes in
+      let sizes = and-both (leb 1 (length stakes) && leb (length stakes) mostNodes) _ (start-fine .0) in
+      let size = and-both (leb 1 (length stakes)) (leb (length stakes) mostNodes) (sizes .0) in
+      let each = and-both (allTo (length stakes) (λ n. leb 1 (stakeIn stakes n))) (leb (totalTo stakes (length stakes)) mostStake) (sizes .1) in
+      record {
+        head =
+            record {
+              some = leb-true 1 (length stakes) (size .0);
+              few = leb-true (length stakes) mostNodes (size .1);
+              staked = λ n h. subst (λ (w : ℕ). 1 ≤ w) (sym (stake-there stakes k n h)) (leb-true 1 (stakeIn stakes n) (all-at (length stakes) n (λ n. leb 1 (stakeIn stakes n)) (each .0) h));
+              sum = total-there stakes k;
+              small = leb-true (totalTo stakes (length stakes)) mostStake (each .1);
+              mine = start-fine .1;
+              genesis = start-fine .2;
+              armed = λ w h. omega (arith, replicate-all {A = ℕ} windows w 0);
+              unused = λ n a b. stake-past stakes k n b;
+            };
+        blank = row-zero l (replicate-all (suc lastSlot) 0 noRow);
+        rows = λ s a b. subst (RowFacts l s) (sym (replicate-all (suc lastSlot) s noRow)) (blank-facts l s);
+      }
+
+  pub fresh-shaped : Shaped (fresh stakes own genesis)
+  unfolding fresh stakesFit
+  fresh-shaped =
+      let k : ℕ = mostNodes - length stakes in
+      let few = fresh-formed .head .few in
+      record {
+        armed = length-replicate {A = ℕ} windows 0;
+        stakes = length-append stakes (replicate k 0) ∙ omega (arith, length-replicate {A = ℕ} k 0, few);
+        rows = length-replicate (suc lastSlot) noRow;
+        cells = λ s h. ap (λ (r : Row). length (r .cells)) (replicate-all (suc lastSlot) s noRow) ∙ blank-long;
+      }
+
+  -- A node that starts is sound.
+  pub fresh-sound : Sound (fresh stakes own genesis)
+  fresh-sound = record { shaped = fresh-shaped; formed = well-formed (fresh stakes own genesis) fresh-formed }
+
+  -- It stays so, whatever it is fed, and makes at most 116 records.
+  pub start-sound : (is : List Input) → Sound (after (fresh stakes own genesis) is)
+  start-sound is = life-sound (fresh stakes own genesis) is fresh-sound
+
+  pub start-within : (is : List Input) → length (life (fresh stakes own genesis) is) ≤ 116
+  start-within is =
+      omega (arith, life-paid (fresh stakes own genesis) is (sound-placed (fresh stakes own genesis) fresh-sound) .spent, spare-most (fresh stakes own genesis))

@@ -1,0 +1,50 @@
+-- What a well-formed ledger keeps to, as facts instead of one test.
+use mathlib.Core.Path.{_≡_}
+use mathlib.Core.Bool.{Bool, true, false, not, _||_}
+use Prim.Native.Nat.{ℕ, suc, _<_, _≤_}
+use lib.ListN.{getD}
+use lib.Dec.{eqb}
+use Rattle.rulebook.specs.declared.Cell.{Cell}
+use Rattle.rulebook.specs.Weights.{mostNodes, mostStake, lastSlot, windows, stakeIn, totalTo}
+use Rattle.rulebook.specs.Ledger.{Ledger, Row, none, noCell, rowAt}
+use Rattle.rulebook.specs.WellFormed.{Shaped, inOrder, cellFits, cellBlank, keptFits, rowBlank, wellFormed}
+
+-- A cell in range.
+pub record CellFacts (c : Cell) : Type 0 where
+  pub skip : c .skip ≤ 1
+  pub skipfallback : c .skipfallback ≤ 1
+  pub finalvote : c .finalvote ≤ 1
+  pub initial : (none (c .notar) || none (c .skip)) ≡ true
+  pub second : inOrder (c .fallback1) (c .fallback2) ≡ true
+  pub third : inOrder (c .fallback2) (c .fallback3) ≡ true
+  pub apart : (none (c .fallback3) || not (eqb (c .fallback1) (c .fallback3))) ≡ true
+
+-- A row in range, as row of slot s.
+pub record RowFacts (l : Ledger) (s : ℕ) (r : Row) : Type 0 where
+  pub kept : keptFits l s (r .kept) ≡ true
+  pub timedOut : r .timedOut ≤ 1
+  pub cells : (n : ℕ) → n < mostNodes → n < l .count → cellFits (getD (r .cells) n noCell) ≡ true
+  pub beyond : (n : ℕ) → n < mostNodes → l .count ≤ n → cellBlank (getD (r .cells) n noCell) ≡ true
+
+-- Count, own number, genesis, stakes, total and armed windows in range.
+pub record HeadFacts (l : Ledger) : Type 0 where
+  pub some : 1 ≤ l .count
+  pub few : l .count ≤ mostNodes
+  pub staked : (n : ℕ) → n < l .count → 1 ≤ stakeIn (l .stakes) n
+  pub sum : totalTo (l .stakes) (l .count) ≡ l .total
+  pub small : l .total ≤ mostStake
+  pub mine : l .own < l .count
+  pub genesis : none (l .genesis) ≡ false
+  pub armed : (w : ℕ) → w < windows → getD (l .armed) w 0 ≤ 1
+  pub unused : (n : ℕ) → n < mostNodes → l .count ≤ n → stakeIn (l .stakes) n ≡ 0
+
+-- Well-formed.
+pub record Formed (l : Ledger) : Type 0 where
+  pub head : HeadFacts l
+  pub blank : rowBlank l ≡ true
+  pub rows : (s : ℕ) → 1 ≤ s → s ≤ lastSlot → RowFacts l s (rowAt l s)
+
+-- A ledger of the right shape that 17 lets pass: what every call finds and leaves.
+pub record Sound (l : Ledger) : Type 0 where
+  pub shaped : Shaped l
+  pub formed : wellFormed l ≡ true
