@@ -10,7 +10,7 @@ use lib.Seq.{getD-set-same, getD-set-other, sets}
 use Rattle.rulebook.specs.declared.Cell.{Cell}
 use Rattle.rulebook.specs.declared.Block.{Block}
 use Rattle.rulebook.specs.Weights.{mostNodes, lastSlot, windows, windowOf}
-use Rattle.rulebook.specs.Ledger.{Ledger, Row, rowAt, cellAt, putRow, putCell, putKept, putTimedOut, putFinal, putArmed}
+use Rattle.rulebook.specs.Ledger.{Ledger, Row, noRow, noCell, rowAt, cellAt, putRow, putCell, putKept, putTimedOut, putFinal, putArmed}
 use Rattle.record.specs.Layout.{wordAt, armedStart, stakeStart, rowHead, rowWords, cellWords, rowStart, cellStart, recordWords, tabulate, cellFrom, blockFrom, cellOf, rowOf, ledgerOf, Placed, InSlot, InWindow}
 use Rattle.record.specs.Spelling.{spellCell, spellBlock}
 use Rattle.record.proofs.Tables.{lt-or-gt, tabulate-same, tabulate-set, sets-out, sets-in}
@@ -182,3 +182,15 @@ armed-put ws s i p e =
       stakes = tabulate-same mostNodes (λ n. wordAt ws' (stakeStart + n)) (λ n. wordAt ws (stakeStart + n)) (λ k b. h (stakeStart + k) (inr (omega arith))) i;
       rows = tabulate-same (suc lastSlot) (rowOf ws') (rowOf ws) (λ k b. row-kept ws' ws (armedStart + windowOf s) (armedStart + windowOf s + 1) h k (inr (omega arith))) i;
     })
+
+-- ---- what is not named stays
+
+-- Whatever is put into slot s's row, slot t's stays.
+pub row-other : (l : Ledger) (s t : ℕ) (r : Row) → (t ≡ s → ⊥) → rowAt (putRow l s r) t ≡ rowAt l t
+row-other l s t r q = getD-set-other (l .rows) s t r noRow q
+
+-- A node's cell stored in a row: the other nodes' stay.
+pub cell-other : (l : Ledger) (s n m : ℕ) (c : Cell) → s < length (l .rows) → (m ≡ n → ⊥) → cellAt (putCell l s n c) s m ≡ cellAt l s m
+cell-other l s n m c h q =
+    ap (λ (r : Row). getD (r .cells) m noCell) (getD-set-same (l .rows) s (record { kept = rowAt l s .kept; timedOut = rowAt l s .timedOut; final = rowAt l s .final; cells = set (rowAt l s .cells) n c }) noRow h)
+    ∙ getD-set-other (rowAt l s .cells) n m c noCell q

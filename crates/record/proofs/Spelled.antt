@@ -1,0 +1,265 @@
+-- Words and ledgers in step: the spelling of the meaning is the words, the meaning of the spelling is the ledger.
+use mathlib.Core.Path.{_≡_, refl, sym, ap, _∙_}
+use mathlib.Core.List.{List, [], _∷_, _++_, map}
+use Prim.Native.Nat.{ℕ, zero, suc, _+_, _*_, _<_}
+use native.Mathlib.Omega.{arith}
+use native.Mathlib.Nat.{zero-add, suc-add, zero-mul, add-zero, not-suc-le-zero, le-of-suc-le-suc}
+use lib.ListN.{length, getD, length-append, length-map, List·getD-append}
+use lib.Seq.{getD-append-add}
+use Rattle.rulebook.specs.declared.Cell.{Cell}
+use Rattle.rulebook.specs.Weights.{mostNodes, lastSlot, windows}
+use Rattle.rulebook.specs.Ledger.{Ledger, Row, noRow, noCell, rowAt}
+use Rattle.rulebook.specs.WellFormed.{Shaped}
+use Rattle.record.specs.Layout.{wordAt, armedStart, stakeStart, headWords, cellWords, rowHead, rowWords, rowStart, cellStart, recordWords, tabulate, cellFrom, cellOf, rowOf, ledgerOf}
+use Rattle.record.specs.Spelling.{joined, spellCell, spellHead, spellRow, wordsOf}
+use Rattle.record.proofs.Tables.{tabulate-same, tabulate-getD}
+
+-- ---- tables cut into parts
+
+module _ {A : Type 0} where
+  tabulate-add : (a b : ℕ) (f : ℕ → A) → tabulate (a + b) f ≡ tabulate a f ++ tabulate b (λ j. f (a + j))
+  unfolding tabulate
+  tabulate-add zero b f = rw zero-add (tabulate-same b f (λ j. f (0 + j)) (λ j l. ap f (omega arith)))
+  tabulate-add (suc a) b f =
+      rw suc-add
+      (λ i. f zero
+      ∷ (tabulate-add a b (λ k. f (suc k))
+      ∙ ap (λ t. tabulate a (λ k. f (suc k)) ++ t) (tabulate-same b (λ j. f (suc (a + j))) (λ j. f (suc a + j)) (λ j l. ap f (omega arith)))) i)
+
+  -- A table of n is one of a and then one of b.
+  tabulate-split : (n a b : ℕ) (f : ℕ → A) → n ≡ a + b → tabulate n f ≡ tabulate a f ++ tabulate b (λ j. f (a + j))
+  tabulate-split n a b f e = ap (λ k. tabulate k f) e ∙ tabulate-add a b f
+
+tabulate-mul : (n k : ℕ) (f : ℕ → ℕ) → tabulate (n * k) f ≡ joined (tabulate n (λ s. tabulate k (λ j. f (k * s + j))))
+unfolding tabulate joined
+tabulate-mul zero k f = rw zero-mul refl
+tabulate-mul (suc n) k f =
+    tabulate-split (suc n * k) k (n * k) f (omega arith)
+    ∙ (λ i. tabulate-same k f (λ j. f (k * 0 + j)) (λ j l. ap f (omega arith)) i
+    ++ (tabulate-mul n k (λ j. f (k + j))
+    ∙ ap joined
+    (tabulate-same n (λ s. tabulate k (λ j. f (k + (k * s + j)))) (λ s. tabulate k (λ j. f (k * suc s + j)))
+    (λ s l. tabulate-same k (λ j. f (k + (k * s + j))) (λ j. f (k * suc s + j)) (λ j m. ap f (omega arith))))) i)
+
+-- A table of n times k is n tables of k.
+tabulate-rows : (N n k : ℕ) (f : ℕ → ℕ) → N ≡ n * k → tabulate N f ≡ joined (tabulate n (λ s. tabulate k (λ j. f (k * s + j))))
+tabulate-rows N n k f e = ap (λ m. tabulate m f) e ∙ tabulate-mul n k f
+
+tabulate-map : {A B : Type 0} (g : A → B) (n : ℕ) (f : ℕ → A) → map g (tabulate n f) ≡ tabulate n (λ k. g (f k))
+unfolding tabulate
+tabulate-map g zero f = refl
+tabulate-map g (suc n) f = λ i. g (f zero) ∷ tabulate-map g n (λ k. f (suc k)) i
+
+-- ---- the spelling of the meaning
+
+module _ (ws : List ℕ) where
+  cell-spelled : (at : ℕ) → spellCell (cellFrom ws at) ≡ tabulate cellWords (λ j. wordAt ws (at + j))
+  unfolding tabulate
+  cell-spelled at =
+      let z : at ≡ at + 0 = omega arith in
+      λ i. wordAt ws (z i) ∷ wordAt ws (at + 1) ∷ wordAt ws (at + 2) ∷ wordAt ws (at + 3) ∷ wordAt ws (at + 4) ∷ wordAt ws (at + 5) ∷ wordAt ws (at + 6) ∷ []
+
+  head-spelled : (s : ℕ) → spellHead (rowOf ws s) ≡ tabulate rowHead (λ j. wordAt ws (rowStart s + j))
+  unfolding tabulate
+  head-spelled s =
+      let z : rowStart s ≡ rowStart s + 0 = omega arith in
+      λ i. wordAt ws (z i) ∷ wordAt ws (rowStart s + 1) ∷ wordAt ws (rowStart s + 2) ∷ wordAt ws (rowStart s + 3) ∷ wordAt ws (rowStart s + 4) ∷ []
+
+  cells-spelled : (s : ℕ) → map spellCell (tabulate mostNodes (cellOf ws s)) ≡ tabulate mostNodes (λ n. tabulate cellWords (λ j. wordAt ws (rowStart s + (rowHead + (cellWords * n + j)))))
+  cells-spelled s =
+      tabulate-map spellCell mostNodes (cellOf ws s)
+      ∙ tabulate-same mostNodes (λ n. spellCell (cellOf ws s n)) (λ n. tabulate cellWords (λ j. wordAt ws (rowStart s + (rowHead + (cellWords * n + j)))))
+      (λ n l. cell-spelled (cellStart s n)
+      ∙ tabulate-same cellWords (λ j. wordAt ws (cellStart s n + j)) (λ j. wordAt ws (rowStart s + (rowHead + (cellWords * n + j)))) (λ j m. ap (wordAt ws) (omega arith)))
+
+  row-spelled : (s : ℕ) → spellRow (rowOf ws s) ≡ tabulate rowWords (λ j. wordAt ws (rowStart s + j))
+  row-spelled s =
+      sym
+      (tabulate-split rowWords rowHead (cellWords * mostNodes) (λ j. wordAt ws (rowStart s + j)) refl
+      ∙ (λ i. sym (head-spelled s) i
+      ++ (tabulate-rows (cellWords * mostNodes) mostNodes cellWords (λ j. wordAt ws (rowStart s + (rowHead + j))) refl ∙ ap joined (sym (cells-spelled s))) i))
+
+  rows-spelled : map spellRow (tabulate (suc lastSlot) (rowOf ws)) ≡ tabulate (suc lastSlot) (λ s. tabulate rowWords (λ j. wordAt ws (headWords + (rowWords * s + j))))
+  rows-spelled =
+      tabulate-map spellRow (suc lastSlot) (rowOf ws)
+      ∙ tabulate-same (suc lastSlot) (λ s. spellRow (rowOf ws s)) (λ s. tabulate rowWords (λ j. wordAt ws (headWords + (rowWords * s + j))))
+      (λ s l. row-spelled s ∙ tabulate-same rowWords (λ j. wordAt ws (rowStart s + j)) (λ j. wordAt ws (headWords + (rowWords * s + j))) (λ j m. ap (wordAt ws) (omega arith)))
+
+  four : tabulate armedStart (λ j. wordAt ws j) ≡ wordAt ws 0 ∷ wordAt ws 1 ∷ wordAt ws 2 ∷ wordAt ws 3 ∷ []
+  unfolding tabulate
+  four = refl
+
+  -- For words of the right length the spelling of the meaning is those words.
+  pub words-ledger : length ws ≡ recordWords → wordsOf (ledgerOf ws) ≡ ws
+  unfolding ledgerOf wordsOf
+  words-ledger e =
+      sym
+      (tabulate-getD ws 0
+      ∙ tabulate-split (length ws) armedStart 7769 (λ j. wordAt ws j) e
+      ∙ (λ i. four i
+      ++ (tabulate-split 7769 windows 7765 (λ j. wordAt ws (armedStart + j)) refl
+      ∙ (λ k. tabulate windows (λ j. wordAt ws (armedStart + j))
+      ++ (tabulate-split 7765 mostNodes 7701 (λ j. wordAt ws (armedStart + (windows + j))) refl
+      ∙ (λ m. stakes m
+      ++ (tabulate-rows 7701 (suc lastSlot) rowWords (λ j. wordAt ws (armedStart + (windows + (mostNodes + j)))) refl ∙ ap joined rows) m)) k)) i))
+    where
+      stakes : tabulate mostNodes (λ j. wordAt ws (armedStart + (windows + j))) ≡ tabulate mostNodes (λ j. wordAt ws (stakeStart + j))
+      stakes = tabulate-same mostNodes (λ j. wordAt ws (armedStart + (windows + j))) (λ j. wordAt ws (stakeStart + j)) (λ j l. ap (wordAt ws) (omega arith))
+
+      rows : tabulate (suc lastSlot) (λ s. tabulate rowWords (λ j. wordAt ws (armedStart + (windows + (mostNodes + (rowWords * s + j)))))) ≡ map spellRow (tabulate (suc lastSlot) (rowOf ws))
+      rows =
+          tabulate-same (suc lastSlot) (λ s. tabulate rowWords (λ j. wordAt ws (armedStart + (windows + (mostNodes + (rowWords * s + j)))))) (λ s. tabulate rowWords (λ j. wordAt ws (headWords + (rowWords * s + j))))
+          (λ s l. tabulate-same rowWords (λ j. wordAt ws (armedStart + (windows + (mostNodes + (rowWords * s + j))))) (λ j. wordAt ws (headWords + (rowWords * s + j))) (λ j m. ap (wordAt ws) (omega arith)))
+          ∙ sym rows-spelled
+
+-- Words of the right length are told by their ledger.
+pub words-told : (ws ws' : List ℕ) → length ws ≡ recordWords → length ws' ≡ recordWords → ledgerOf ws ≡ ledgerOf ws' → ws ≡ ws'
+words-told ws ws' e e' q = sym (words-ledger ws e) ∙ ap wordsOf q ∙ words-ledger ws' e'
+
+-- ---- the meaning of the spelling
+
+-- In lists of one length k joined, word j of list s.
+joined-at : (k : ℕ) (xss : List (List ℕ)) (s j : ℕ) → ((i : ℕ) → i < length xss → length (getD xss i []) ≡ k) → s < length xss → j < k
+    → wordAt (joined xss) (k * s + j) ≡ wordAt (getD xss s []) j
+unfolding joined
+joined-at k [] s j e h l = absurd (not-suc-le-zero h)
+joined-at k (x ∷ xs) zero j e h l =
+    let q : length x ≡ k = e 0 (omega arith) in
+    let z : k * 0 + j ≡ j = omega arith in
+    ap (wordAt (x ++ joined xs)) z ∙ List·getD-append x (joined xs) 0 j (omega arith)
+joined-at k (x ∷ xs) (suc s) j e h l =
+    let q : length x ≡ k = e 0 (omega arith) in
+    let z : k * suc s + j ≡ length x + (k * s + j) = omega arith in
+    ap (wordAt (x ++ joined xs)) z
+    ∙ getD-append-add x (joined xs) (k * s + j) 0
+    ∙ joined-at k xs s j (λ i m. e (suc i) (omega arith)) (le-of-suc-le-suc h) l
+
+joined-long : (k : ℕ) (xss : List (List ℕ)) → ((i : ℕ) → i < length xss → length (getD xss i []) ≡ k) → length (joined xss) ≡ k * length xss
+unfolding joined
+joined-long k [] e = omega arith
+joined-long k (x ∷ xs) e =
+    length-append x (joined xs) ∙ omega (arith, e 0 (omega arith), joined-long k xs (λ i m. e (suc i) (omega arith)))
+
+map-at : {A : Type 0} (g : A → List ℕ) (xs : List A) (i : ℕ) (d : A) → i < length xs → getD (map g xs) i [] ≡ g (getD xs i d)
+map-at g [] i d h = absurd (not-suc-le-zero h)
+map-at g (x ∷ xs) zero d h = refl
+map-at g (x ∷ xs) (suc i) d h = map-at g xs i d (le-of-suc-le-suc h)
+
+-- Spelled parts of one length.
+map-long : {A : Type 0} (g : A → List ℕ) (k : ℕ) (xs : List A) (d : A) → ((i : ℕ) → i < length xs → length (g (getD xs i d)) ≡ k)
+    → (i : ℕ) → i < length (map g xs) → length (getD (map g xs) i []) ≡ k
+map-long g k xs d e i h =
+    let l : i < length xs = omega (arith, length-map xs g) in
+    ap length (map-at g xs i d l) ∙ e i l
+
+cells-long : (cs : List Cell) → length (joined (map spellCell cs)) ≡ cellWords * length cs
+cells-long cs = joined-long cellWords (map spellCell cs) (map-long spellCell cellWords cs noCell (λ i h. refl)) ∙ ap (λ k. cellWords * k) (length-map cs spellCell)
+
+row-long : (r : Row) → length (r .cells) ≡ mostNodes → length (spellRow r) ≡ rowWords
+row-long r e = length-append (spellHead r) (joined (map spellCell (r .cells))) ∙ omega (arith, cells-long (r .cells))
+
+-- A cell's word in its row's spelling.
+row-cell : (r : Row) (n j : ℕ) → n < length (r .cells) → j < cellWords → wordAt (spellRow r) (rowHead + (cellWords * n + j)) ≡ wordAt (spellCell (getD (r .cells) n noCell)) j
+row-cell r n j h l =
+    getD-append-add (spellHead r) (joined (map spellCell (r .cells))) (cellWords * n + j) 0
+    ∙ joined-at cellWords (map spellCell (r .cells)) n j (map-long spellCell cellWords (r .cells) noCell (λ i h. refl)) (omega (arith, length-map (r .cells) spellCell)) l
+    ∙ ap (λ x. wordAt x j) (map-at spellCell (r .cells) n noCell h)
+
+module _ (l : Ledger) (w : Shaped l) where
+  rows-long : (i : ℕ) → i < length (map spellRow (l .rows)) → length (getD (map spellRow (l .rows)) i []) ≡ rowWords
+  rows-long =
+      map-long spellRow rowWords (l .rows) noRow
+      (λ i h. row-long (getD (l .rows) i noRow) (w .cells i (omega (arith, w .rows))))
+
+  pub words-long : length (wordsOf l) ≡ recordWords
+  unfolding wordsOf
+  words-long =
+      omega (
+        arith,
+        length-append (l .armed) (l .stakes ++ joined (map spellRow (l .rows))),
+        length-append (l .stakes) (joined (map spellRow (l .rows))),
+        joined-long rowWords (map spellRow (l .rows)) rows-long,
+        length-map (l .rows) spellRow,
+        w .armed,
+        w .stakes,
+        w .rows,
+      )
+
+  armed-spelled : (k : ℕ) → k < windows → wordAt (wordsOf l) (armedStart + k) ≡ getD (l .armed) k 0
+  unfolding wordsOf
+  armed-spelled k h =
+      getD-append-add (l .count ∷ l .total ∷ l .own ∷ l .genesis ∷ []) (l .armed ++ (l .stakes ++ joined (map spellRow (l .rows)))) k 0
+      ∙ List·getD-append (l .armed) (l .stakes ++ joined (map spellRow (l .rows))) 0 k (omega (arith, w .armed))
+
+  after-armed : (k : ℕ) → wordAt (wordsOf l) (stakeStart + k) ≡ wordAt (l .stakes ++ joined (map spellRow (l .rows))) k
+  unfolding wordsOf
+  after-armed k =
+      let z : stakeStart + k ≡ armedStart + (length (l .armed) + k) = omega (arith, w .armed) in
+      ap (wordAt (wordsOf l)) z
+      ∙ getD-append-add (l .count ∷ l .total ∷ l .own ∷ l .genesis ∷ []) (l .armed ++ (l .stakes ++ joined (map spellRow (l .rows)))) (length (l .armed) + k) 0
+      ∙ getD-append-add (l .armed) (l .stakes ++ joined (map spellRow (l .rows))) k 0
+
+  stake-spelled : (k : ℕ) → k < mostNodes → wordAt (wordsOf l) (stakeStart + k) ≡ getD (l .stakes) k 0
+  stake-spelled k h = after-armed k ∙ List·getD-append (l .stakes) (joined (map spellRow (l .rows))) 0 k (omega (arith, w .stakes))
+
+  row-word : (s j : ℕ) → s < suc lastSlot → j < rowWords → wordAt (wordsOf l) (rowStart s + j) ≡ wordAt (spellRow (rowAt l s)) j
+  row-word s j h m =
+      let z : rowStart s + j ≡ stakeStart + (length (l .stakes) + (rowWords * s + j)) = omega (arith, w .stakes) in
+      ap (wordAt (wordsOf l)) z
+      ∙ after-armed (length (l .stakes) + (rowWords * s + j))
+      ∙ getD-append-add (l .stakes) (joined (map spellRow (l .rows))) (rowWords * s + j) 0
+      ∙ joined-at rowWords (map spellRow (l .rows)) s j rows-long (omega (arith, length-map (l .rows) spellRow, w .rows)) m
+      ∙ ap (λ x. wordAt x j) (map-at spellRow (l .rows) s noRow (omega (arith, w .rows)))
+
+  cell-word : (s n j : ℕ) → s < suc lastSlot → n < mostNodes → j < cellWords → wordAt (wordsOf l) (cellStart s n + j) ≡ wordAt (spellCell (getD (rowAt l s .cells) n noCell)) j
+  cell-word s n j h k m =
+      let z : cellStart s n + j ≡ rowStart s + (rowHead + (cellWords * n + j)) = omega arith in
+      ap (wordAt (wordsOf l)) z
+      ∙ row-word s (rowHead + (cellWords * n + j)) h (omega arith)
+      ∙ row-cell (rowAt l s) n j (omega (arith, w .cells s h)) m
+
+  cell-back : (s n : ℕ) → s < suc lastSlot → n < mostNodes → cellOf (wordsOf l) s n ≡ getD (rowAt l s .cells) n noCell
+  cell-back s n h k =
+      let z : wordAt (wordsOf l) (cellStart s n) ≡ getD (rowAt l s .cells) n noCell .notar = rw add-zero at (cell-word s n 0 h k (omega arith)) in
+      λ i. record {
+        notar = z i;
+        skip = cell-word s n 1 h k (omega arith) i;
+        fallback1 = cell-word s n 2 h k (omega arith) i;
+        fallback2 = cell-word s n 3 h k (omega arith) i;
+        fallback3 = cell-word s n 4 h k (omega arith) i;
+        skipfallback = cell-word s n 5 h k (omega arith) i;
+        finalvote = cell-word s n 6 h k (omega arith) i;
+      }
+
+  row-back : (s : ℕ) → s < suc lastSlot → rowOf (wordsOf l) s ≡ rowAt l s
+  row-back s h =
+      let z : wordAt (wordsOf l) (rowStart s) ≡ rowAt l s .kept .number = rw add-zero at (row-word s 0 h (omega arith)) in
+      λ i. record {
+        kept = record { number = z i; parentslot = record { 0 = row-word s 1 h (omega arith) i }; parent = row-word s 2 h (omega arith) i };
+        timedOut = row-word s 3 h (omega arith) i;
+        final = row-word s 4 h (omega arith) i;
+        cells = (tabulate-same mostNodes (cellOf (wordsOf l) s) (λ n. getD (rowAt l s .cells) n noCell) (λ n k. cell-back s n h k)
+            ∙ ap (λ k. tabulate k (λ n. getD (rowAt l s .cells) n noCell)) (sym (w .cells s h))
+            ∙ sym (tabulate-getD (rowAt l s .cells) noCell)) i;
+      }
+
+  front : (j : ℕ) → j < 4 → wordAt (wordsOf l) j ≡ wordAt (l .count ∷ l .total ∷ l .own ∷ l .genesis ∷ []) j
+  unfolding wordsOf
+  front j h = List·getD-append (l .count ∷ l .total ∷ l .own ∷ l .genesis ∷ []) (l .armed ++ (l .stakes ++ joined (map spellRow (l .rows)))) 0 j h
+
+  -- The meaning of a ledger's spelling is that ledger.
+  pub ledger-words : ledgerOf (wordsOf l) ≡ l
+  unfolding ledgerOf
+  ledger-words =
+      λ i. record {
+        count = front 0 (omega arith) i;
+        total = front 1 (omega arith) i;
+        own = front 2 (omega arith) i;
+        genesis = front 3 (omega arith) i;
+        armed = (tabulate-same windows (λ k. wordAt (wordsOf l) (armedStart + k)) (λ k. getD (l .armed) k 0) armed-spelled
+            ∙ ap (λ k. tabulate k (λ n. getD (l .armed) n 0)) (sym (w .armed)) ∙ sym (tabulate-getD (l .armed) 0)) i;
+        stakes = (tabulate-same mostNodes (λ k. wordAt (wordsOf l) (stakeStart + k)) (λ k. getD (l .stakes) k 0) stake-spelled
+            ∙ ap (λ k. tabulate k (λ n. getD (l .stakes) n 0)) (sym (w .stakes)) ∙ sym (tabulate-getD (l .stakes) 0)) i;
+        rows = (tabulate-same (suc lastSlot) (rowOf (wordsOf l)) (λ s. getD (l .rows) s noRow) row-back
+            ∙ ap (λ k. tabulate k (λ s. getD (l .rows) s noRow)) (sym (w .rows)) ∙ sym (tabulate-getD (l .rows) noRow)) i;
+      }
