@@ -3,3 +3,4 @@ pub mod ToolLaws
 pub mod WeightLaws
 pub mod MaskLaws
 pub mod NumberLaws
+pub mod RuleLaws
