@@ -253,28 +253,44 @@ went-start me i l inv =
       brought = λ s n v ne t. T-right (brings i s n v) (has (cellAt l s n) v) t;
     }
 
-module _ (me : ℕ) (i : Input) (l₀ : Ledger) (o p : State) (w : Went me i l₀ o) where
+module _ (me : ℕ) (i : Input) (o p : State) where
   stored-inv : (s n : ℕ) (v : Ballot) → T (roomFor (cellAt (o .ledger) s n) v) → Stored (o .ledger) s n v (p .ledger)
-      → (s′ n′ : ℕ) → Neat (cellAt (p .ledger) s′ n′)
-  stored-inv s n v t st s′ n′ =
+      → Inv me (o .ledger) → (s′ n′ : ℕ) → Neat (cellAt (p .ledger) s′ n′)
+  stored-inv s n v t st inv s′ n′ =
       stored-cases (o .ledger) s n v (p .ledger) st s′ n′
-      (λ e. rw e (w .inv .neat s′ n′))
-      (λ a b e. rw e (stored-neat (cellAt (o .ledger) s n) v t (w .inv .neat s n)))
+      (λ e. rw e (inv .neat s′ n′))
+      (λ a b e. rw e (stored-neat (cellAt (o .ledger) s n) v t (inv .neat s n)))
 
   stored-ok : (s : ℕ) (v : Ballot) → T (roomFor (cellAt (o .ledger) s me) v) → Allowed me (o .ledger) s v → Stored (o .ledger) s me v (p .ledger)
-      → (s′ : ℕ) → SlotOk me (p .ledger) s′
-  stored-ok s v t a st s′ =
+      → Inv me (o .ledger) → (s′ : ℕ) → SlotOk me (p .ledger) s′
+  stored-ok s v t a st inv s′ =
       let g = stored-grow (o .ledger) s me v (p .ledger) t st in
       stored-cases (o .ledger) s me v (p .ledger) st s′ me
-      (λ e. slot-kept me (o .ledger) (p .ledger) (st .table) g s′ (w .inv .ok s′) e)
+      (λ e. slot-kept me (o .ledger) (p .ledger) (st .table) g s′ (inv .ok s′) e)
       (λ x y e. subst (λ (k : ℕ). SlotOk me (p .ledger) k) (sym x)
-      (slot-cast me (o .ledger) (p .ledger) (st .table) g s (w .inv .ok s) v t (st .here) (w .inv .neat s me) a))
+      (slot-cast me (o .ledger) (p .ledger) (st .table) g s (inv .ok s) v t (st .here) (inv .neat s me) a))
 
+  -- One move keeps the order of the cells and the guards of the own votes.
+  pub move-inv : Move me i o p → Inv me (o .ledger) → Inv me (p .ledger)
+  move-inv (casts s v t a st e) inv = record { neat = stored-inv s me v t st inv; ok = stored-ok s v t a st inv }
+  move-inv (takes s n v other b t st e) inv =
+      record {
+        neat = stored-inv s n v t st inv;
+        ok = λ s′. slot-kept me (o .ledger) (p .ledger) (st .table) (stored-grow (o .ledger) s n v (p .ledger) t st) s′ (inv .ok s′)
+            (st .elsewhere s′ me (λ x. other (sym (x .1))));
+      }
+  move-inv (keeps same cells records) inv =
+      record {
+        neat = λ s n. rw (cells s n) (inv .neat s n);
+        ok = λ s. slot-kept me (o .ledger) (p .ledger) same (λ s′ n. rw (cells s′ n) (kept-same (cellAt (o .ledger) s′ n))) s (inv .ok s) (cells s me);
+      }
+
+module _ (me : ℕ) (i : Input) (l₀ : Ledger) (o p : State) (w : Went me i l₀ o) where
   move-went : Move me i o p → Went me i l₀ p
   move-went (casts s v t a st e) =
       let g = stored-grow (o .ledger) s me v (p .ledger) t st in
       record {
-        inv = record { neat = stored-inv s me v t st; ok = stored-ok s v t a st };
+        inv = move-inv me i o p (casts s v t a st e) (w .inv);
         table = table-trans l₀ (o .ledger) (p .ledger) (w .table) (st .table);
         grow = grow-trans l₀ (o .ledger) (p .ledger) (w .grow) g;
         stored = λ s′ v′. rw e λ x.
@@ -297,10 +313,7 @@ module _ (me : ℕ) (i : Input) (l₀ : Ledger) (o p : State) (w : Went me i l�
       let g = stored-grow (o .ledger) s n v (p .ledger) t st in
       let mine : (s′ : ℕ) → cellAt (p .ledger) s′ me ≡ cellAt (o .ledger) s′ me = λ s′. st .elsewhere s′ me (λ x. other (sym (x .1))) in
       record {
-        inv = record {
-          neat = stored-inv s n v t st;
-          ok = λ s′. slot-kept me (o .ledger) (p .ledger) (st .table) g s′ (w .inv .ok s′) (mine s′);
-        };
+        inv = move-inv me i o p (takes s n v other b t st e) (w .inv);
         table = table-trans l₀ (o .ledger) (p .ledger) (w .table) (st .table);
         grow = grow-trans l₀ (o .ledger) (p .ledger) (w .grow) g;
         stored = λ s′ v′. rw (e, mine s′) (w .stored s′ v′);
@@ -315,10 +328,7 @@ module _ (me : ℕ) (i : Input) (l₀ : Ledger) (o p : State) (w : Went me i l�
   move-went (keeps same cells records) =
       let g : Grow (o .ledger) (p .ledger) = λ s n. rw (cells s n) (kept-same (cellAt (o .ledger) s n)) in
       record {
-        inv = record {
-          neat = λ s n. rw (cells s n) (w .inv .neat s n);
-          ok = λ s. slot-kept me (o .ledger) (p .ledger) same g s (w .inv .ok s) (cells s me);
-        };
+        inv = move-inv me i o p (keeps same cells records) (w .inv);
         table = table-trans l₀ (o .ledger) (p .ledger) (w .table) same;
         grow = grow-trans l₀ (o .ledger) (p .ledger) (w .grow) g;
         stored = λ s v. rw (records s v, cells s me) (w .stored s v);
@@ -333,3 +343,16 @@ moves-went me i l₀ o p (more {p = q} ms m) w = move-went me i l₀ q p (moves-
 pub moves-trans : (me : ℕ) (i : Input) (o p q : State) → Moves me i o p → Moves me i p q → Moves me i o q
 moves-trans me i o p q a stay = a
 moves-trans me i o p q a (more {p = r} ms m) = more (moves-trans me i o p r a ms) m
+
+-- Cells grow along a chain of moves, and the table stays.
+pub moves-grow : (me : ℕ) (i : Input) (o p : State) → Moves me i o p → SameTable (o .ledger) (p .ledger) × Grow (o .ledger) (p .ledger)
+moves-grow me i o p stay = (table-same (o .ledger), λ s n. kept-same (cellAt (o .ledger) s n))
+moves-grow me i o p (more {p = q} ms m) =
+    let a = moves-grow me i o q ms in
+    let b = move-grow q p m in
+    (table-trans (o .ledger) (q .ledger) (p .ledger) (a .0) (b .0), grow-trans (o .ledger) (q .ledger) (p .ledger) (a .1) (b .1))
+  where
+    move-grow : (q p : State) → Move me i q p → SameTable (q .ledger) (p .ledger) × Grow (q .ledger) (p .ledger)
+    move-grow q p (casts s v t a st e) = (st .table, stored-grow (q .ledger) s me v (p .ledger) t st)
+    move-grow q p (takes s n v other b t st e) = (st .table, stored-grow (q .ledger) s n v (p .ledger) t st)
+    move-grow q p (keeps same cells records) = (same, λ s n. rw (cells s n) (kept-same (cellAt (q .ledger) s n)))

@@ -3,3 +3,6 @@ pub mod Weighing
 pub mod OneSlot
 pub mod Cells
 pub mod Along
+pub mod Guards
+pub mod Stores
+pub mod Steps

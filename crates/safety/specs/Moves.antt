@@ -3,14 +3,15 @@
 -- parents, reports and timeouts play no part.
 use mathlib.Core.Path.{_≡_}
 use mathlib.Core.Bool.{Bool, true, not, _&&_}
-use mathlib.Core.List.{List, _∷_}
+use mathlib.Core.List.{List, [], _∷_, reverse}
 use Prim.Native.Nat.{ℕ}
 use lib.Dec.{T}
 use Rattle.rulebook.specs.declared.Cell.{Cell}
 use Rattle.rulebook.specs.declared.Input.{Input}
 use Rattle.rulebook.specs.Weights.{weight, reaches}
 use Rattle.rulebook.specs.Ledger.{Ledger, none, noInitial, cellAt}
-use Rattle.rulebook.specs.Rules.{State}
+use Rattle.rulebook.specs.Rules.{Record, State, stateOf}
+use Rattle.rulebook.specs.Inputs.{Fed}
 use Rattle.safety.specs.Slot.{Ballot, notar, notarFallback, skip, skipFallback, final}
 use Rattle.safety.specs.Ballots.{has, withBallot, recordFor, among, brings}
 
@@ -76,3 +77,9 @@ pub data Move (me : ℕ) (i : Input) (o p : State) : Type 0 where
 pub data Moves (me : ℕ) (i : Input) (o : State) : State → Type 0 where
   stay : Moves me i o o
   more : {p q : State} → Moves me i o p → Move me i p q → Moves me i o q
+
+-- THE INTERFACE: what an input leaves is reached by a chain of moves, and the records are those made on the way.
+pub record Stepped (me : ℕ) (i : Input) (l : Ledger) (f : Fed) : Type 0 where
+  pub newest : List Record
+  pub order : f .records ≡ reverse newest
+  pub moves : Moves me i (stateOf l []) (stateOf (f .ledger) newest)
