@@ -1,0 +1,4 @@
+-- Laws that the proofs of numbers cite.
+pub mod Turns
+pub mod Fell
+pub mod Stores

@@ -1,0 +1,3 @@
+-- What the contracts of numbers cite beside the rule book.
+pub mod Failed
+pub mod Written
