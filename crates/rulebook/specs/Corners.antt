@@ -5,12 +5,8 @@ use Prim.Native.Nat.{ℕ, _-_, _^_}
 use lib.ListN.{replicate}
 use lib.Dec.{T}
 use Rattle.rulebook.specs.declared.Cell.{Cell}
-use Rattle.rulebook.specs.declared.Verdict.{Verdict}
-use Rattle.rulebook.specs.declared.Verdict.the-variants as verdict
-use Rattle.rulebook.specs.declared.Reading.{Reading}
-use Rattle.rulebook.specs.declared.Reading.the-variants as reading
 use Rattle.rulebook.specs.declared.Input.{Input}
-use Rattle.rulebook.specs.PaperNumbers.{refusalNumber, stepPanel, writePanel, checkPanel, certificateKind}
+use Rattle.rulebook.specs.PaperNumbers.{verdictNumber, readingPanel, stepPanel, writePanel, checkPanel, certificateKind}
 use Rattle.rulebook.specs.Ledger.{Ledger, putCell, putFinal, putTimedOut, putKept}
 use Rattle.rulebook.specs.Inputs.{startVerdict}
 use Rattle.rulebook.specs.Packets.{numberBytes, numberFrom}
@@ -141,17 +137,12 @@ records =
     ∷ not (wellFormed (putKept armed 3 (record { number = 0; parentslot = record { 0 = 0 }; parent = 5 })))
     ∷ wellFormed (putKept armed 3 (record { number = 7; parentslot = record { 0 = 2 }; parent = 5 })) ∷ [])
 
--- The number of a verdict, 0 where it is fine.
-abbrev numberOf : Verdict → ℕ
-numberOf verdict.Fine = 0
-numberOf (verdict.Refused r) = refusalNumber r
-
 -- 1: no node, more than 64, a stake of 0, a total above 2^48, an own number past the table, genesis 0.
 abbrev starts : Bool
 starts =
-    equal (numberOf (startVerdict [] 0 1) ∷ numberOf (startVerdict (replicate 65 1) 0 1) ∷ numberOf (startVerdict (replicate 64 1) 63 1)
-    ∷ numberOf (startVerdict (1 ∷ 0 ∷ []) 0 1) ∷ numberOf (startVerdict ((2 ^ 48) ∷ 1 ∷ []) 0 1) ∷ numberOf (startVerdict ((2 ^ 48 - 1) ∷ 1 ∷ []) 0 1)
-    ∷ numberOf (startVerdict (1 ∷ []) 1 1) ∷ numberOf (startVerdict (1 ∷ []) 0 0) ∷ [])
+    equal (verdictNumber (startVerdict [] 0 1) ∷ verdictNumber (startVerdict (replicate 65 1) 0 1) ∷ verdictNumber (startVerdict (replicate 64 1) 63 1)
+    ∷ verdictNumber (startVerdict (1 ∷ 0 ∷ []) 0 1) ∷ verdictNumber (startVerdict ((2 ^ 48) ∷ 1 ∷ []) 0 1) ∷ verdictNumber (startVerdict ((2 ^ 48 - 1) ∷ 1 ∷ []) 0 1)
+    ∷ verdictNumber (startVerdict (1 ∷ []) 1 1) ∷ verdictNumber (startVerdict (1 ∷ []) 0 0) ∷ [])
     (1 ∷ 1 ∷ 0 ∷ 1 ∷ 1 ∷ 0 ∷ 1 ∷ 1 ∷ [])
 
 abbrev writerOrder : Bool
@@ -199,21 +190,15 @@ counted =
     equal (shown (checkPanel (checkCertificate three (3 ∷ 2 ∷ 7 ∷ 1 ∷ 6 ∷ [])))) (0 ∷ 3 ∷ 2 ∷ 7 ∷ 3 ∷ 5 ∷ [])
     && equal (shown (checkPanel (checkCertificate three (2 ∷ 1 ∷ 7 ∷ 6 ∷ 0 ∷ [])))) (15 ∷ 0 ∷ 0 ∷ 0 ∷ 0 ∷ 0 ∷ [])
 
--- What the first number of some bytes reads to: 0, its value and the count of its bytes; or the refusal.
-abbrev reads : Reading → List ℕ
-reads (reading.Number v n) = 0 ∷ v ∷ n ∷ []
-reads reading.Early = 12 ∷ []
-reads reading.Malformed = 13 ∷ []
-
 -- Ten bytes: 64 bits are the most; a tenth byte above 01 is 13 there and then, 00 there is not the shortest form.
 abbrev tenBytes : Bool
 tenBytes =
     let nine : List ℕ = replicate 9 255 in
-    all (equal (numberBytes (2 ^ 64 - 1)) (nine ++ (1 ∷ [])) ∷ equal (reads (numberFrom 0 (nine ++ (1 ∷ 5 ∷ [])))) (0 ∷ (2 ^ 64 - 1) ∷ 10 ∷ [])
-    ∷ equal (reads (numberFrom 0 (nine ++ (2 ∷ [])))) (13 ∷ []) ∷ equal (reads (numberFrom 0 (nine ++ (129 ∷ [])))) (13 ∷ [])
-    ∷ equal (reads (numberFrom 0 (nine ++ (0 ∷ [])))) (13 ∷ []) ∷ equal (reads (numberFrom 0 nine)) (12 ∷ [])
-    ∷ equal (reads (numberFrom 0 (replicate 9 128 ++ (1 ∷ [])))) (0 ∷ (2 ^ 63) ∷ 10 ∷ [])
-    ∷ equal (reads (numberFrom 0 (replicate 8 255 ++ (127 ∷ [])))) (0 ∷ (2 ^ 63 - 1) ∷ 9 ∷ []) ∷ [])
+    let reads : List ℕ → List ℕ = (λ bytes. shown (readingPanel (numberFrom 0 bytes))) in
+    all (equal (numberBytes (2 ^ 64 - 1)) (nine ++ (1 ∷ [])) ∷ equal (reads (nine ++ (1 ∷ 5 ∷ []))) (0 ∷ (2 ^ 64 - 1) ∷ 10 ∷ [])
+    ∷ equal (reads (nine ++ (2 ∷ []))) (13 ∷ 0 ∷ 0 ∷ []) ∷ equal (reads (nine ++ (129 ∷ []))) (13 ∷ 0 ∷ 0 ∷ [])
+    ∷ equal (reads (nine ++ (0 ∷ []))) (13 ∷ 0 ∷ 0 ∷ []) ∷ equal (reads nine) (12 ∷ 0 ∷ 0 ∷ [])
+    ∷ equal (reads (replicate 9 128 ++ (1 ∷ []))) (0 ∷ (2 ^ 63) ∷ 10 ∷ []) ∷ equal (reads (replicate 8 255 ++ (127 ∷ []))) (0 ∷ (2 ^ 63 - 1) ∷ 9 ∷ []) ∷ [])
 
 corners : T (all (restart ∷ finalFirst ∷ skipsBesideFinal ∷ threeCast ∷ slotsAscend ∷ fallbacks ∷ chain ∷ farParent ∷ timeouts ∷ voteOrder ∷ places
     ∷ blockOrder ∷ timeoutOrder ∷ stepOrder ∷ records ∷ starts ∷ writerOrder ∷ checkOrder ∷ proofOrder ∷ counted ∷ tenBytes ∷ []))
