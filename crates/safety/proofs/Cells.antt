@@ -35,6 +35,11 @@ notar-present c t = not-T (noInitial c) (λ u. T-not (none (c .notar)) t (free-b
 pub skip-present : (c : Cell) → T (not (none (c .skip))) → T (not (noInitial c))
 skip-present c t = not-T (noInitial c) (λ u. T-not (none (c .skip)) t (free-both c u .1))
 
+-- An initial vote is one of the two.
+pub initial-cases : {X : Type 0} (c : Cell) → T (not (noInitial c)) → (T (not (none (c .notar))) → X) → (T (not (none (c .skip))) → X) → X
+initial-cases c t f g =
+    by-test (none (c .notar)) (λ z. g (not-T (none (c .skip)) (λ u. T-not (noInitial c) t (T-and (none (c .notar)) (none (c .skip)) z u)))) f
+
 pub notar-is : (c : Cell) (b : ℕ) → T (has c (notar b)) → T (not (none b)) × T (eqb (c .notar) b)
 notar-is c b t = and-T (not (none b)) (eqb (c .notar) b) t
 

@@ -6,3 +6,5 @@ pub mod Along
 pub mod Guards
 pub mod Stores
 pub mod Steps
+pub mod Lives
+pub mod Safety

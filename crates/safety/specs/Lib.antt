@@ -1,3 +1,4 @@
 pub mod Slot
 pub mod Ballots
 pub mod Moves
+pub mod Ring
