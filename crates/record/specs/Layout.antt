@@ -120,3 +120,8 @@ pub record OwnIn (ws : List ℕ) (s : ℕ) : Type 0 where
   pub long : length ws ≡ recordWords
   pub slot : s < suc lastSlot
   pub own : ledgerOf ws .own < mostNodes
+
+-- The words are as many as they should be, and all nodes that they count have a place.
+pub record Counted (ws : List ℕ) : Type 0 where
+  pub long : length ws ≡ recordWords
+  pub few : ledgerOf ws .count ≤ mostNodes

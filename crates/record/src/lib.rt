@@ -3,12 +3,13 @@
 ghost use mathlib.Core.Path.{_≡_};
 ghost use mathlib.Core.Bool.{not};
 ghost use Prim.Native.Nat.{_<_};
-ghost use lib.ListN.{length};
-ghost use Rattle.rulebook.specs.Weights.{mostNodes, stakeIn};
+ghost use lib.ListN.{length, getD, take, replicate};
+ghost use Rattle.rulebook.specs.Weights.{mostNodes, windows, stakeIn};
 ghost use Rattle.rulebook.specs.Ledger.{none, rowAt, cellAt, ownCell, isArmed, putCell, putKept, putTimedOut, putFinal, putArmed};
 ghost use Rattle.rulebook.specs.Pool.{hasFallback};
 ghost use Rattle.rulebook.specs.Votes.{placeIf, placeOf, fillFallback, withVote, storeVote};
-ghost use Rattle.record.specs.Layout.{recordWords, rowStart, cellStart, InSlot, InWindow, InTable, Placed, OwnIn, ledgerOf};
+ghost use Rattle.record.specs.Layout.{recordWords, rowStart, cellStart, InSlot, InWindow, InTable, Placed, OwnIn, Counted, ledgerOf};
+ghost use Rattle.record.specs.Setting.{putHead, putStake};
 use rulebook::Block;
 use rulebook::Cell;
 use rulebook::Node;
@@ -112,13 +113,21 @@ pub fn keep_block(rec: &mut [u64], s: Slot, b: Block)
     rec[i + 2] = b.parent;
 }
 
+// The word that marks a slot's timeout, whatever stands in it.
+pub fn timeout_word(rec: &[u64], s: Slot) -> u64
+    requires { ⌜ InSlot (now rec) (s .0) ⌝ }
+    ensures { λ r. ⌜ r ≡ rowAt (ledgerOf (now (rec .entry))) (s .0) .timedOut ⌝ }
+{
+    let i = row_start(s);
+    rec[i + 3]
+}
+
 // Whether a slot's timeout was taken.
 pub fn timed_out(rec: &[u64], s: Slot) -> bool
     requires { ⌜ InSlot (now rec) (s .0) ⌝ }
     ensures { λ r. ⌜ r ≡ not (none (rowAt (ledgerOf (now (rec .entry))) (s .0) .timedOut)) ⌝ }
 {
-    let i = row_start(s);
-    rec[i + 3] != 0
+    timeout_word(rec, s) != 0
 }
 
 // Marks that a slot's timeout was taken.
@@ -148,13 +157,21 @@ pub fn set_final(rec: &mut [u64], s: Slot, b: u64)
     rec[i + 4] = b;
 }
 
+// The word that marks a window as armed, whatever stands in it.
+pub fn armed_word(rec: &[u64], w: usize) -> u64
+    requires { ⌜ (length (now rec) ≡ recordWords) × (w < windows) ⌝ }
+    ensures { λ r. ⌜ r ≡ getD (ledgerOf (now (rec .entry)) .armed) w 0 ⌝ }
+{
+    let i = ARMED_START + w;
+    rec[i]
+}
+
 // Whether a slot's window is armed.
 pub fn is_armed(rec: &[u64], s: Slot) -> bool
     requires { ⌜ InWindow (now rec) (s .0) ⌝ }
     ensures { λ r. ⌜ r ≡ isArmed (ledgerOf (now (rec .entry))) (s .0) ⌝ }
 {
-    let i = ARMED_START + (s.0 - 1) / 4;
-    rec[i] != 0
+    armed_word(rec, (s.0 - 1) / 4) != 0
 }
 
 // Arms a slot's window.
@@ -205,6 +222,15 @@ pub fn stake(rec: &[u64], n: Node) -> Weight
 {
     let i = STAKE_START + n.0;
     Weight(rec[i])
+}
+
+// The stakes of the record's nodes, one a node.
+pub fn stakes_of(rec: &[u64]) -> &[u64]
+    requires { ⌜ Counted (now rec) ⌝ }
+    ensures { λ r. ⌜ now r ≡ take (ledgerOf (now (rec .entry)) .count) (ledgerOf (now (rec .entry)) .stakes) ⌝ }
+{
+    let end = STAKE_START + count(rec);
+    &rec[STAKE_START..end]
 }
 
 // The own votes in a slot.
@@ -303,4 +329,33 @@ pub fn store_vote(rec: &mut [u64], s: Slot, n: Node, k: VoteKind, b: u64)
 {
     let c = load_cell(rec, s, n);
     store_cell(rec, s, n, with_vote(c, k, b));
+}
+
+// Forgets everything.
+pub fn clear(rec: &mut [u64])
+    ensures { λ _. ⌜ now (rec .exit) ≡ replicate (length (now (rec .entry))) 0 ⌝ }
+{
+    for i in 0..rec.len() {
+        rec[i] = 0;
+    }
+}
+
+// Puts in the number of nodes, the total stake, the own number and genesis's number.
+pub fn set_head(rec: &mut [u64], count: usize, total: Weight, own: Node, genesis: u64)
+    requires { ⌜ length (now rec) ≡ recordWords ⌝ }
+    ensures { λ _. ⌜ ledgerOf (now (rec .exit)) ≡ putHead (ledgerOf (now (rec .entry))) count (total .0) (own .0) genesis ⌝ }
+{
+    rec[0] = count as u64;
+    rec[1] = total.0;
+    rec[2] = own.0 as u64;
+    rec[3] = genesis;
+}
+
+// Puts in a node's stake.
+pub fn set_stake(rec: &mut [u64], n: Node, w: Weight)
+    requires { ⌜ InTable (now rec) (n .0) ⌝ }
+    ensures { λ _. ⌜ ledgerOf (now (rec .exit)) ≡ putStake (ledgerOf (now (rec .entry))) (n .0) (w .0) ⌝ }
+{
+    let i = STAKE_START + n.0;
+    rec[i] = w.0;
 }
