@@ -1,13 +1,12 @@
 -- The one test of well-formedness and its facts, both ways.
 use mathlib.Core.Path.{_≡_, refl, sym, ap, _∙_, subst}
 use mathlib.Core.Bool.{Bool, true, false, not, _&&_, _||_}
-use Prim.Native.Nat.{ℕ, zero, suc, _+_, _-_, _<_, _≤_}
+use Prim.Native.Nat.{ℕ, suc, _-_, _≤_}
 use native.Mathlib.Omega.{arith}
-use lib.ListN.{length, getD}
+use lib.ListN.{getD}
 use lib.Dec.{eqb, leb, ltb}
-use borrow.Author.Tests.{not-true, not-false, leb-true, le-leb, ltb-true, ltb-false, lt-ltb, le-ltb, eqb-true, eq-eqb}
+use borrow.Author.Tests.{not-true, leb-true, le-leb, ltb-true, ltb-false, lt-ltb, le-ltb, eqb-true, eq-eqb}
 use Rattle.rulebook.specs.declared.Cell.{Cell}
-use Rattle.rulebook.specs.declared.Block.{Block}
 use Rattle.rulebook.specs.Tools.{given, allTo}
 use Rattle.rulebook.specs.Weights.{mostNodes, mostStake, lastSlot, windows, stakeIn, stakesFit, totalTo}
 use Rattle.rulebook.specs.Ledger.{Ledger, Row, none, noCell, rowAt, cellAt}
@@ -72,7 +71,7 @@ row-facts l s e =
       kept = p .0;
       timedOut = leb-true (r .timedOut) 1 (q .0);
       cells = λ n a b. sym (given-on (ltb n (l .count)) (cellBlank (cellAt l s n)) (λ _. cellFits (cellAt l s n)) (lt-ltb n (l .count) b)) ∙ all-at mostNodes n (cellOk r (l .count)) (q .1) a;
-      beyond = λ n a b. sym (given-off (ltb n (l .count)) (cellBlank (cellAt l s n)) (λ _. cellFits (cellAt l s n)) (le-ltb n (l .count) b)) ∙ all-at mostNodes n (cellOk r (l .count)) (q .1) a;
+      beyond = λ n a b. sym (given-off (ltb n (l .count)) (cellBlank (cellAt l s n)) (λ _. cellFits (cellAt l s n)) (le-ltb n (l .count) (omega arith))) ∙ all-at mostNodes n (cellOk r (l .count)) (q .1) a;
     }
 
 pub facts-row : (l : Ledger) (s : ℕ) → RowFacts l s (rowAt l s) → rowFits l s ≡ true
@@ -109,7 +108,7 @@ head-facts l e =
       staked = λ n h. leb-true 1 (stakeIn (l .stakes) n) (all-at (l .count) n (λ n. leb 1 (stakeIn (l .stakes) n)) (stakes .0) h);
       sum = sum;
       small = subst (λ (t : ℕ). t ≤ mostStake) sum (leb-true (totalTo (l .stakes) (l .count)) mostStake (stakes .1));
-      mine = ltb-true (l .own) (l .count) (own .0);
+      mine = omega (arith, ltb-true (l .own) (l .count) (own .0));
       genesis = not-true (none (l .genesis)) (own .1);
       armed = λ w h. leb-true (getD (l .armed) w 0) 1 (all-at windows w (λ w. flag (getD (l .armed) w 0)) (rest .0) h);
       unused = λ n a b.

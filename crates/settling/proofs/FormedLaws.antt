@@ -1,26 +1,26 @@
 -- Each writing keeps a ledger well-formed: a vote into a free place, a block that passed, a timeout, a final block, an armed window.
 use mathlib.Core.Path.{_≡_, refl, sym, ap, _∙_, subst}
 use mathlib.Core.Bool.{Bool, true, false, not, _&&_, _||_}
-use Prim.Native.Nat.{ℕ, zero, suc, _+_, _-_, _<_, _≤_}
+use Prim.Native.Nat.{ℕ, _-_, _<_, _≤_}
 use native.Mathlib.Omega.{arith}
 use lib.ListN.{length, getD, set}
 use lib.Seq.{getD-set-same, getD-set-other}
-use lib.Dec.{eqb, leb, ltb}
-use borrow.Author.Tests.{not-true, not-false, eqb-true, eqb-false}
+use lib.Dec.{eqb, ltb}
+use borrow.Author.Tests.{not-true, eqb-true, eqb-false}
 use Rattle.rulebook.specs.declared.Cell.{Cell}
 use Rattle.rulebook.specs.declared.Block.{Block}
 use Rattle.rulebook.specs.declared.VoteKind.{VoteKind}
 use Rattle.rulebook.specs.declared.VoteKind.the-variants as vote
 use Rattle.rulebook.specs.declared.Place.the-variants.{Free}
 use Rattle.rulebook.specs.Tools.{given, allTo}
-use Rattle.rulebook.specs.Weights.{mostNodes, lastSlot, windows, windowOf}
+use Rattle.rulebook.specs.Weights.{mostNodes, lastSlot, windowOf}
 use Rattle.rulebook.specs.Ledger.{Ledger, Row, none, noCell, noInitial, rowAt, cellAt, putRow, putKept, putTimedOut, putFinal, putArmed}
 use Rattle.rulebook.specs.Pool.{hasFallback}
 use Rattle.rulebook.specs.Votes.{placeOf, withVote, fillFallback, storeVote}
 use Rattle.rulebook.specs.Inputs.{badParent}
 use Rattle.rulebook.specs.WellFormed.{Shaped, inOrder, cellFits, cellBlank, cellsFit, keptFits, rowBlank}
 use Rattle.rulebook.proofs.ToolLaws.{given-on, and-both, both-and, or-left, or-right, or-cases, or-none, by-test, true-not-false}
-use Rattle.settling.specs.Facts.{CellFacts, RowFacts, HeadFacts, Formed}
+use Rattle.settling.specs.Facts.{CellFacts, RowFacts, Formed}
 use Rattle.settling.specs.Steps.{BlockFine}
 use Rattle.settling.proofs.Places.{row-else, row-cases, cell-cases, window-low}
 use Rattle.settling.proofs.VoteLaws.{place-free}

@@ -1,33 +1,29 @@
 -- A node makes at most 116 records in its life, whatever it is fed.
-use mathlib.Core.Path.{_≡_, refl, sym, ap, _∙_, subst}
-use mathlib.Core.Bool.{Bool, true, false, not, _&&_, _||_}
-use mathlib.Core.List.{List, [], _∷_, _++_, reverse}
-use Prim.Native.Nat.{ℕ, zero, suc, _+_, _<_, _≤_}
+use mathlib.Core.Path.{_≡_, refl, _∙_}
+use mathlib.Core.List.{List, [], _∷_}
+use Prim.Native.Nat.{ℕ, _<_, _≤_}
 use native.Mathlib.Omega.{arith}
-use lib.ListN.{length, length-append, length-reverse, set, length-set}
-use lib.Dec.{eqb, leb}
+use lib.ListN.{length, length-append, length-reverse}
+use lib.Dec.{leb}
 use Rattle.rulebook.specs.declared.Block.{Block}
 use Rattle.rulebook.specs.declared.Vote.{Vote}
 use Rattle.rulebook.specs.declared.Input.{Input}
 use Rattle.rulebook.specs.declared.Input.the-variants as input
-use Rattle.rulebook.specs.declared.Refusal.{Refusal}
 use Rattle.rulebook.specs.declared.Refusal.the-variants as refusal
 use Rattle.rulebook.specs.declared.Verdict.{Verdict}
 use Rattle.rulebook.specs.declared.Verdict.the-variants.{Fine, Refused}
-use Rattle.rulebook.specs.Tools.{given}
 use Rattle.rulebook.specs.Weights.{mostNodes, lastSlot}
 use Rattle.rulebook.specs.Ledger.{Ledger, Row, noInitial, rowAt, ownCell, putKept, putTimedOut}
 use Rattle.rulebook.specs.Votes.{storeVote}
-use Rattle.rulebook.specs.Rules.{Record, State, stateOf, castSkips}
-use Rattle.rulebook.specs.Run.{made, run}
+use Rattle.rulebook.specs.Rules.{State, stateOf, castSkips}
+use Rattle.rulebook.specs.Run.{mostRecords, made, run}
 use Rattle.rulebook.specs.Inputs.{Fed, verdict, timeOut, intake, fedWith, refusedWith, fedOn, feed}
 use Rattle.rulebook.specs.WellFormed.{Shaped, wellFormed, outboxWords, step}
 use Rattle.rulebook.proofs.ToolLaws.{given-keeps}
-use Rattle.settling.specs.Spare.{spare}
-use Rattle.settling.specs.Steps.{Placed, SameNode, Came, Paid, VoteFine, BlockFine, TimeoutFine, Settled, after, life}
+use Rattle.settling.specs.Steps.{Placed, SameNode, Came, Paid, VoteFine, Settled, after, life}
 use Rattle.settling.proofs.Places.{shaped-row}
 use Rattle.settling.proofs.SpareLaws.{spare-most, spare-other, spare-kept, spare-timedOut}
-use Rattle.settling.proofs.Spending.{same-node, stored-shaped, stored-same, came-self, skips-come, run-comes}
+use Rattle.settling.proofs.Spending.{same-node, stored-shaped, stored-same, skips-come, run-comes}
 use Rattle.settling.proofs.Settling.{run-settles}
 use Rattle.settling.proofs.Verdicts.{vote-fine, block-fine, timeout-fine}
 
@@ -51,6 +47,10 @@ paid-came l o p a c =
             stakes = c .same .stakes ∙ a .same .stakes;
           };
     }
+
+-- So many records fit: at most 116 are made.
+pub paid-within : (l m : Ledger) (n : ℕ) → Paid l m n → n ≤ mostRecords
+paid-within l m n h = omega (arith, h .spent, spare-most l)
 
 -- ---- what an accepted input stores is free
 
@@ -118,8 +118,8 @@ module _ (l : Ledger) (h : Placed l) where
       let p = intake-paid i e in paid-came l (intake l i) (run (intake l i)) p (run-comes (intake l i) (p .placed))
 
   -- An outbox of 128 records has room for a call.
-  pub called-within : (i : Input) → verdict l i ≡ Fine → made (run (intake l i)) ≤ 116
-  called-within i e = omega (arith, called-paid i e .spent, spare-most l)
+  pub called-within : (i : Input) → verdict l i ≡ Fine → made (run (intake l i)) ≤ mostRecords
+  called-within i e = paid-within l (run (intake l i) .ledger) (made (run (intake l i))) (called-paid i e)
 
   -- After an accepted input no rule applies.
   pub called-settled : (i : Input) → verdict l i ≡ Fine → Settled (run (intake l i))
@@ -167,6 +167,6 @@ life-paid l (i ∷ is) h =
     }
 
 -- "a node makes at most 116 records in its life".
-pub life-within : (l : Ledger) (is : List Input) → Shaped l → l .own < l .count → l .count ≤ mostNodes → length (life l is) ≤ 116
+pub life-within : (l : Ledger) (is : List Input) → Shaped l → l .own < l .count → l .count ≤ mostNodes → length (life l is) ≤ mostRecords
 life-within l is h own count =
-    omega (arith, life-paid l is (record { shaped = h; mine = omega arith }) .spent, spare-most l)
+    paid-within l (after l is) (length (life l is)) (life-paid l is (record { shaped = h; mine = omega arith }))

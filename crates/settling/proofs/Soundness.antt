@@ -1,8 +1,7 @@
 -- A ledger of the right shape that is well-formed stays so: through every rule, the run, and every input.
-use mathlib.Core.Path.{_≡_, refl, sym, ap, _∙_, subst}
-use mathlib.Core.Bool.{Bool, true, false}
+use mathlib.Core.Path.{_≡_, refl}
 use mathlib.Core.List.{List, [], _∷_}
-use Prim.Native.Nat.{ℕ, zero, suc, _+_, _<_, _≤_}
+use Prim.Native.Nat.{ℕ, _<_, _≤_}
 use native.Mathlib.Omega.{arith}
 use lib.Dec.{leb}
 use Rattle.rulebook.specs.declared.Block.{Block}
@@ -20,10 +19,10 @@ use Rattle.rulebook.specs.Votes.{placeOf, storeVote}
 use Rattle.rulebook.specs.Rules.{State, stateOf, cast, castSkip, castSkips, ruleA, ruleB, ruleC, ruleD, ruleE, ruleF}
 use Rattle.rulebook.specs.Run.{ruleAt, firstRule, scan, runFor, run}
 use Rattle.rulebook.specs.Inputs.{Fed, verdict, timeOut, intake, fedWith, refusedWith, fedOn, feed}
-use Rattle.rulebook.specs.WellFormed.{Shaped, wellFormed, outboxWords, step}
+use Rattle.rulebook.specs.WellFormed.{wellFormed, outboxWords, step}
 use Rattle.rulebook.proofs.ToolLaws.{given-keeps}
-use Rattle.settling.specs.Facts.{Formed, Sound}
-use Rattle.settling.specs.Steps.{Placed, Lawful, VoteFine, BlockFine, TimeoutFine, after}
+use Rattle.settling.specs.Facts.{Sound}
+use Rattle.settling.specs.Steps.{Placed, Lawful, BlockFine, after}
 use Rattle.settling.proofs.Places.{shaped-row, shaped-armed}
 use Rattle.settling.proofs.Spending.{stored-shaped}
 use Rattle.settling.proofs.LawfulRules.{skip-keeps, skips-keep, A-keeps, B-keeps, C-keeps, D-keeps, E-keeps, F-keeps, rule-keeps, rules-keep, scan-keeps, runFor-keeps, run-keeps}

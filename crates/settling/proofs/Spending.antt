@@ -1,21 +1,18 @@
 -- From any ledger with a place for everything: every record is paid by one of the potential, by whatever part of a call makes it;
 -- records only grow, and where none is made nothing changes.
-use mathlib.Core.Path.{_≡_, refl, sym, ap, _∙_, subst}
-use mathlib.Core.Bool.{Bool, true, false}
+use mathlib.Core.Path.{_≡_, refl, sym, ap, _∙_}
 use mathlib.Core.List.{List, [], _∷_, _++_, append-assoc}
-use Prim.Native.Nat.{ℕ, zero, suc, _+_, _-_, _*_, _<_, _≤_}
+use Prim.Native.Nat.{ℕ, suc, _+_, _-_, _≤_}
 use native.Mathlib.Omega.{arith}
-use lib.ListN.{length, getD, set, length-append, length-set}
+use lib.ListN.{length, set, length-append, length-set}
 use Rattle.rulebook.specs.declared.Cell.{Cell}
 use Rattle.rulebook.specs.declared.VoteKind.{VoteKind}
-use Rattle.rulebook.specs.declared.Place.the-variants.{Free}
-use Rattle.rulebook.specs.Weights.{mostNodes, lastSlot}
+use Rattle.rulebook.specs.Weights.{lastSlot}
 use Rattle.rulebook.specs.PaperNumbers.{voteNumber}
-use Rattle.rulebook.specs.Ledger.{Ledger, Row, none, rowAt, cellAt, ownCell, isArmed, putArmed, putFinal}
-use Rattle.rulebook.specs.Votes.{placeOf, withVote, storeVote}
+use Rattle.rulebook.specs.Ledger.{Ledger, Row, rowAt, cellAt, putArmed, putFinal}
+use Rattle.rulebook.specs.Votes.{withVote, storeVote}
 use Rattle.rulebook.specs.Rules.{Record, State, recordOf, report, cast, castSkips, ruleA, ruleB, ruleC, ruleD, ruleE, ruleF}
 use Rattle.rulebook.specs.Run.{made, ruleAt, firstRule, firstSlot, scan, runFor, run}
-use Rattle.rulebook.specs.Inputs.{misfits}
 use Rattle.rulebook.specs.WellFormed.{Shaped}
 use Rattle.settling.specs.Spare.{spare}
 use Rattle.settling.specs.Steps.{Placed, SameNode, Lawful, Came}

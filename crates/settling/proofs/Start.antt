@@ -1,24 +1,23 @@
 -- A node that starts is sound, and so it stays; and its life makes at most 116 records.
 use mathlib.Core.Path.{_≡_, refl, sym, ap, _∙_, subst}
-use mathlib.Core.Bool.{Bool, true, false, not, _&&_, _||_}
+use mathlib.Core.Bool.{true, false, not, _&&_, _||_}
 use mathlib.Core.List.{List, [], _∷_, _++_}
 use Prim.Native.Nat.{ℕ, zero, suc, _+_, _-_, _<_, _≤_}
 use native.Mathlib.Omega.{arith}
 use lib.ListN.{length, getD, replicate, length-append, length-replicate, List·getD-append}
-use lib.Seq.{getD-append-add}
-use lib.Dec.{eqb, leb, ltb}
-use borrow.Author.Tests.{not-true, not-false, leb-true, leb-false, le-ltb}
-use Rattle.rulebook.specs.declared.Cell.{Cell}
+use lib.Dec.{leb, ltb}
+use borrow.Author.Tests.{not-false, leb-true, leb-false, le-ltb}
 use Rattle.rulebook.specs.declared.Input.{Input}
 use Rattle.rulebook.specs.declared.Refusal.the-variants as refusal
-use Rattle.rulebook.specs.declared.Verdict.the-variants.{Fine, Refused}
-use Rattle.rulebook.specs.Tools.{given, allTo, sumTo}
+use Rattle.rulebook.specs.declared.Verdict.the-variants.{Fine}
+use Rattle.rulebook.specs.Tools.{given, allTo}
 use Rattle.rulebook.specs.Weights.{mostNodes, mostStake, lastSlot, windows, stakeIn, stakesFit, totalTo}
-use Rattle.rulebook.specs.Ledger.{Ledger, Row, none, noCell, noRow, rowAt, cellAt, fresh}
-use Rattle.rulebook.specs.Inputs.{startVerdict, badParent, feed}
-use Rattle.rulebook.specs.WellFormed.{Shaped, inOrder, cellFits, cellBlank, cellsFit, keptFits, rowBlank, wellFormed}
-use Rattle.rulebook.proofs.ToolLaws.{given-on, given-off, and-both, both-and, or-none, all-at, all-each, sum-same}
-use Rattle.settling.specs.Facts.{RowFacts, HeadFacts, Formed, Sound}
+use Rattle.rulebook.specs.Ledger.{Ledger, Row, none, noCell, noRow, rowAt, fresh}
+use Rattle.rulebook.specs.Run.{mostRecords}
+use Rattle.rulebook.specs.Inputs.{startVerdict}
+use Rattle.rulebook.specs.WellFormed.{Shaped, inOrder, cellFits, cellBlank, cellsFit, keptFits, rowBlank}
+use Rattle.rulebook.proofs.ToolLaws.{given-off, and-both, or-none, all-at, all-each, sum-same}
+use Rattle.settling.specs.Facts.{RowFacts, Formed, Sound}
 use Rattle.settling.specs.Steps.{after, life}
 use Rattle.settling.proofs.Verdicts.{refuse-fine}
 use Rattle.settling.proofs.FactLaws.{well-formed}
@@ -140,6 +139,6 @@ module _ (stakes : List ℕ) (own genesis : ℕ) (e : startVerdict stakes own ge
   pub start-sound : (is : List Input) → Sound (after (fresh stakes own genesis) is)
   start-sound is = life-sound (fresh stakes own genesis) is fresh-sound
 
-  pub start-within : (is : List Input) → length (life (fresh stakes own genesis) is) ≤ 116
+  pub start-within : (is : List Input) → length (life (fresh stakes own genesis) is) ≤ mostRecords
   start-within is =
       omega (arith, life-paid (fresh stakes own genesis) is (sound-placed (fresh stakes own genesis) fresh-sound) .spent, spare-most (fresh stakes own genesis))

@@ -1,7 +1,7 @@
 -- What a well-formed ledger keeps to, as facts instead of one test.
 use mathlib.Core.Path.{_≡_}
-use mathlib.Core.Bool.{Bool, true, false, not, _||_}
-use Prim.Native.Nat.{ℕ, suc, _<_, _≤_}
+use mathlib.Core.Bool.{true, false, not, _||_}
+use Prim.Native.Nat.{ℕ, _<_, _≤_}
 use lib.ListN.{getD}
 use lib.Dec.{eqb}
 use Rattle.rulebook.specs.declared.Cell.{Cell}

@@ -1,9 +1,8 @@
 -- What the parts of a call do to a state: each record is made lawfully, paid from the potential, and what is not theirs stays.
 use mathlib.Core.Path.{_≡_}
-use mathlib.Core.Bool.{Bool, true, false}
+use mathlib.Core.Bool.{true, false}
 use mathlib.Core.List.{List, [], _∷_, _++_}
-use Prim.Native.Nat.{ℕ, zero, suc, _+_, _<_, _≤_}
-use lib.ListN.{length}
+use Prim.Native.Nat.{ℕ, _+_, _<_, _≤_}
 use Rattle.rulebook.specs.declared.Block.{Block}
 use Rattle.rulebook.specs.declared.Vote.{Vote}
 use Rattle.rulebook.specs.declared.VoteKind.{VoteKind}
@@ -13,7 +12,7 @@ use Rattle.rulebook.specs.Weights.{mostNodes, lastSlot}
 use Rattle.rulebook.specs.Ledger.{Ledger, none, rowAt, cellAt, ownCell, isArmed, putArmed, putFinal}
 use Rattle.rulebook.specs.Votes.{placeOf}
 use Rattle.rulebook.specs.Rules.{Record, State, report, cast}
-use Rattle.rulebook.specs.Run.{made, ruleAt}
+use Rattle.rulebook.specs.Run.{made, ruleAt, runFor, run}
 use Rattle.rulebook.specs.Inputs.{isOther, misfits, badParent, feed}
 use Rattle.rulebook.specs.WellFormed.{Shaped}
 use Rattle.settling.specs.Spare.{spare}
@@ -60,6 +59,18 @@ pub record Paid (l m : Ledger) (records : ℕ) : Type 0 where
 pub record Settled (o : State) : Type 0 where
   pub quiet : (r s : ℕ) → 1 ≤ s → s ≤ lastSlot → made (ruleAt r o s) ≡ made o
   pub same : (r s : ℕ) → 1 ≤ s → s ≤ lastSlot → ruleAt r o s ≡ o
+
+-- Rule r of slot s is next: none before it, in earlier slots or in its own, applies.
+pub record Passed (o : State) (s r : ℕ) : Type 0 where
+  pub slots : (t q : ℕ) → 1 ≤ t → t < s → q < 6 → ruleAt q o t ≡ o
+  pub rules : (q : ℕ) → q < r → ruleAt q o s ≡ o
+
+-- A run that began at state o has come to state p: as many scans are left as find no rule at last.
+pub record Running (o p : State) : Type 0 where
+  pub left : ℕ
+  pub same : runFor left p ≡ run o
+  pub came : Came o p
+  pub fuel : spare (p .ledger) < left
 
 -- What an accepted vote, block or timeout has passed.
 pub record VoteFine (l : Ledger) (v : Vote) : Type 0 where
