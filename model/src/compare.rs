@@ -1,0 +1,157 @@
+//! Runs a program beside the model on the same scripts.
+//!
+//! Starting a program is slow, so several scripts go into one run: both sides
+//! are given the concatenation. A script with answers of 17 needs a program
+//! without a node and therefore begins a batch.
+
+use crate::gen;
+use crate::panel::{lines, Panel};
+use std::io::{Read, Write};
+use std::process::{Command, Stdio};
+use std::time::{Duration, Instant};
+
+const LARGEST_BATCH: usize = 60;
+
+pub struct Task {
+    pub seed: u64,
+    pub count: u64,
+    pub seconds: Option<u64>,
+    pub program: Vec<String>,
+}
+
+struct Batch {
+    text: String,
+    seeds: Vec<u64>,
+    /// For each script, the number of lines before it.
+    first_lines: Vec<usize>,
+}
+
+/// One line that the model expects, and where it comes from.
+struct Expected {
+    answer: String,
+    line: usize,
+    command: String,
+}
+
+/// Answers whether all compared scripts agree.
+pub fn compare(task: &Task) -> bool {
+    let begun = Instant::now();
+    let deadline = task.seconds.map(|seconds| begun + Duration::from_secs(seconds));
+    let last = task.seed.saturating_add(task.count);
+    let mut next = task.seed;
+    let (mut scripts, mut answers) = (0, 0);
+    while next < last && deadline.is_none_or(|d| Instant::now() < d) {
+        let batch = fill_batch(next, last);
+        next += batch.seeds.len() as u64;
+        match compare_batch(task, &batch) {
+            Ok(count) => answers += count,
+            Err(report) => {
+                println!("{report}");
+                return false;
+            }
+        }
+        scripts += batch.seeds.len();
+    }
+    let seconds = begun.elapsed().as_secs_f64();
+    println!("{scripts} scripts from seed {} agree, {answers} answer lines, {seconds:.1} s", task.seed);
+    true
+}
+
+fn fill_batch(first: u64, last: u64) -> Batch {
+    let mut batch = Batch { text: String::new(), seeds: Vec::new(), first_lines: Vec::new() };
+    for seed in first..last {
+        let script = gen::script(seed);
+        let alone = script.unstarted && !batch.seeds.is_empty();
+        if alone || batch.seeds.len() == LARGEST_BATCH {
+            break;
+        }
+        if !batch.text.is_empty() && !batch.text.ends_with('\n') {
+            batch.text.push('\n');
+        }
+        batch.first_lines.push(lines(batch.text.as_bytes()).len());
+        batch.text += &script.text;
+        batch.seeds.push(seed);
+    }
+    batch
+}
+
+impl Batch {
+    fn script_of(&self, line: usize) -> usize {
+        self.first_lines.iter().rposition(|&first| first <= line).expect("the first script begins at line 0")
+    }
+}
+
+/// The number of answer lines, or a report of the first difference.
+fn compare_batch(task: &Task, batch: &Batch) -> Result<usize, String> {
+    let expected = run_model(&batch.text);
+    let (output, status) = run_program(&task.program, &batch.text)?;
+    let got = lines(output.as_bytes());
+    for (i, want) in expected.iter().enumerate() {
+        if got.get(i) != Some(&want.answer.as_bytes()) {
+            return Err(report(batch, want, got.get(i).copied(), &status));
+        }
+    }
+    if got.len() > expected.len() {
+        let extra = String::from_utf8_lossy(got[expected.len()]);
+        return Err(format!("seeds {:?}: the program has a line past the end: {extra}", batch.seeds));
+    }
+    Ok(expected.len())
+}
+
+fn report(batch: &Batch, want: &Expected, got: Option<&[u8]>, status: &str) -> String {
+    let script = batch.script_of(want.line);
+    let got = got.map_or(format!("no line ({status})"), |line| String::from_utf8_lossy(line).into_owned());
+    format!(
+        "seed {} line {}: {}\n  model:   {}\n  program: {}\n  (batch of seeds {} to {})",
+        batch.seeds[script],
+        want.line - batch.first_lines[script] + 1,
+        shorten(&want.command),
+        want.answer,
+        got,
+        batch.seeds[0],
+        batch.seeds[batch.seeds.len() - 1],
+    )
+}
+
+fn shorten(command: &str) -> String {
+    if command.chars().count() <= 200 {
+        return command.to_string();
+    }
+    let head: String = command.chars().take(200).collect();
+    format!("{head}.. ({} bytes)", command.len())
+}
+
+fn run_model(text: &str) -> Vec<Expected> {
+    let mut panel = Panel::default();
+    let mut expected = Vec::new();
+    for (line, command) in lines(text.as_bytes()).into_iter().enumerate() {
+        for answer in panel.line(command).unwrap_or_default() {
+            let command = String::from_utf8_lossy(command).into_owned();
+            expected.push(Expected { answer, line, command });
+        }
+    }
+    expected
+}
+
+fn run_program(program: &[String], text: &str) -> Result<(String, String), String> {
+    let mut child = Command::new(&program[0])
+        .args(&program[1..])
+        .stdin(Stdio::piped())
+        .stdout(Stdio::piped())
+        .spawn()
+        .map_err(|error| format!("{} does not start: {error}", program[0]))?;
+    let mut stdin = child.stdin.take().expect("piped");
+    let mut stdout = child.stdout.take().expect("piped");
+    let mut output = Vec::new();
+    // Written from another thread: a full pipe each way would block both.
+    std::thread::scope(|scope| {
+        scope.spawn(move || {
+            // A program that ends early shows as missing lines.
+            let _ = stdin.write_all(text.as_bytes());
+        });
+        stdout.read_to_end(&mut output)
+    })
+    .map_err(|error| format!("{} cannot be read: {error}", program[0]))?;
+    let status = child.wait().map_err(|error| error.to_string())?;
+    Ok((String::from_utf8_lossy(&output).into_owned(), status.to_string()))
+}

@@ -1,0 +1,153 @@
+//! What a range of scripts reaches: answers by command, records by kind,
+//! branches of the rules, and the forms of packets.
+
+use crate::gen;
+use crate::packet;
+use crate::panel::{lines, Panel};
+use std::collections::BTreeMap;
+
+#[derive(Default)]
+pub struct Cover {
+    /// By command word and answer: a refusal number, 0 or `?`.
+    answers: BTreeMap<String, BTreeMap<String, u64>>,
+    records: BTreeMap<String, u64>,
+    notes: BTreeMap<String, u64>,
+    scripts: u64,
+    commands: u64,
+    longest: usize,
+    pub most_records_in_a_call: usize,
+    pub most_records_in_a_life: usize,
+    /// Records since the last accepted start.
+    life: usize,
+}
+
+const COMMANDS: [&str; 10] =
+    ["start", "vote", "block", "timeout", "look", "cert", "proof", "check", "checkproof", "votes"];
+
+pub fn cover(seed: u64, count: u64) -> Cover {
+    let mut cover = Cover::default();
+    for seed in seed..seed.saturating_add(count) {
+        cover.take_script(&gen::script(seed).text);
+    }
+    cover
+}
+
+impl Cover {
+    #[cfg(test)]
+    pub fn answers(&self, command: &str, answer: &str) -> u64 {
+        self.answers.get(command).and_then(|row| row.get(answer)).copied().unwrap_or(0)
+    }
+
+    #[cfg(test)]
+    pub fn records(&self, kind: u64) -> u64 {
+        self.records.get(&kind.to_string()).copied().unwrap_or(0)
+    }
+
+    #[cfg(test)]
+    pub fn notes(&self, what: &str) -> u64 {
+        self.notes.get(what).copied().unwrap_or(0)
+    }
+
+    fn take_script(&mut self, text: &str) {
+        let mut panel = Panel::default();
+        let script = lines(text.as_bytes());
+        self.scripts += 1;
+        self.longest = self.longest.max(script.len());
+        for line in script {
+            let Some(answer) = panel.line(line) else {
+                continue;
+            };
+            self.commands += 1;
+            self.take_answer(&String::from_utf8_lossy(line), &answer);
+            if let Some(node) = &mut panel.node {
+                for (what, times) in std::mem::take(&mut node.notes) {
+                    *self.notes.entry(what.to_string()).or_insert(0) += times;
+                }
+            }
+        }
+    }
+
+    fn take_answer(&mut self, line: &str, answer: &[String]) {
+        let words: Vec<&str> = line.split_ascii_whitespace().collect();
+        let command = if COMMANDS.contains(&words[0]) { words[0] } else { "(other)" };
+        let answered: Vec<&str> = answer.first().map_or(vec![], |line| line.split(' ').collect());
+        // `votes` has no number of its own: its lines are counted as 0.
+        let number = match (command, answered.as_slice()) {
+            ("votes", ["17"]) => "17",
+            ("votes", ["?"]) => "?",
+            ("votes", _) => "0",
+            (_, [number, ..]) => number,
+            (_, []) => "",
+        };
+        *self.answers.entry(command.to_string()).or_default().entry(number.to_string()).or_insert(0) += 1;
+        match command {
+            "start" if number == "0" => self.life = 0,
+            "vote" | "block" | "timeout" | "look" => self.take_records(&answered),
+            "cert" | "proof" if number == "0" => self.take_written(command, answered[2]),
+            "checkproof" if number != "?" => self.take_checked_proof(&words, number),
+            _ => {}
+        }
+    }
+
+    fn take_records(&mut self, answered: &[&str]) {
+        let records = answered.len().saturating_sub(2);
+        self.life += records;
+        self.most_records_in_a_call = self.most_records_in_a_call.max(records);
+        self.most_records_in_a_life = self.most_records_in_a_life.max(self.life);
+        for record in answered.iter().skip(2) {
+            let kind = record.split(',').next().unwrap_or("");
+            *self.records.entry(kind.to_string()).or_insert(0) += 1;
+        }
+    }
+
+    /// Which kinds were written, and by which sort of signers.
+    fn take_written(&mut self, command: &str, hex: &str) {
+        let bytes = from_hex(hex);
+        let mut rest = bytes.as_slice();
+        let numbers: Vec<u64> = std::iter::from_fn(|| packet::take_number(&mut rest).ok()).collect();
+        let forms: Vec<String> = numbers
+            .chunks(5)
+            .map(|cert| format!("{}{}", cert[0], if cert[4] != 0 { " with fallback signers" } else { "" }))
+            .collect();
+        self.note(format!("{command} written: kind {}", forms.join(" then ")));
+    }
+
+    /// Tells refusals of a proof's second certificate from those of its first.
+    fn take_checked_proof(&mut self, words: &[&str], number: &str) {
+        let bytes = if words[1] == "-" { Vec::new() } else { from_hex(words[1]) };
+        let stakes: Vec<u64> = words[2..].iter().filter_map(|word| word.parse().ok()).collect();
+        let good_first = (1..=bytes.len()).find_map(|end| packet::check(&bytes[..end], &stakes).ok());
+        if let Some(first) = good_first {
+            self.note(format!("checkproof {number} after a good first certificate of kind {}", first.kind));
+        }
+    }
+
+    fn note(&mut self, what: String) {
+        *self.notes.entry(what).or_insert(0) += 1;
+    }
+
+    pub fn show(&self) {
+        println!("{} scripts, {} commands, longest {} lines", self.scripts, self.commands, self.longest);
+        println!("\nanswers by command (number:times)");
+        for (command, row) in &self.answers {
+            let mut row: Vec<_> = row.iter().collect();
+            row.sort_by_key(|(number, _)| number.parse::<u64>().unwrap_or(u64::MAX));
+            let row: Vec<String> = row.iter().map(|(number, times)| format!("{number}:{times}")).collect();
+            println!("  {command:<11}{}", row.join("  "));
+        }
+        println!("\nrecords by kind");
+        for (kind, times) in &self.records {
+            println!("  {kind}: {times}");
+        }
+        println!("  most in a call {}, in a life {}", self.most_records_in_a_call, self.most_records_in_a_life);
+        println!("\nbranches");
+        for (what, times) in &self.notes {
+            println!("  {what}: {times}");
+        }
+    }
+}
+
+fn from_hex(hex: &str) -> Vec<u8> {
+    let byte = |at: usize| u8::from_str_radix(&hex[at..at + 2], 16).unwrap_or(0);
+    (0..hex.len() / 2 * 2).step_by(2).map(byte).collect()
+}

@@ -1,0 +1,124 @@
+//! Lines that are not commands, and lines that only look wrong.
+
+use super::writer::Writer;
+use crate::panel::LONGEST_LINE;
+
+const LINES: &[&str] = &[
+    "votes?",
+    "Look",
+    "LOOK",
+    "looks",
+    "loo",
+    "look 1",
+    "look look",
+    "votes 1",
+    "vote",
+    "vote 1",
+    "vote 1 1",
+    "vote 1 1 1",
+    "vote 1 1 1 7 7",
+    "vote 1 1 1 -7",
+    "vote 1 1 1 +7",
+    "vote 1 1 1 7.",
+    "vote 1 1 1 0x7",
+    "vote 1 1 1 7a",
+    "vote 1 1 1 18446744073709551616",
+    "vote 1 1 1 99999999999999999999",
+    "vote 1 1 1 184467440737095516150",
+    "vote 18446744073709551616 1 1 7",
+    "vote one 1 1 7",
+    "vote 1 1 1 seven",
+    "vote 1,1,1,7",
+    "vote\t1 1 1 7",
+    "vote 1 1\t1 7",
+    "block",
+    "block 1 7 0",
+    "block 1 7 0 1 1",
+    "block 1 7 0 x",
+    "block 1 7 -1 1",
+    "timeout",
+    "timeout 1 1",
+    "timeout 1x",
+    "timeout -",
+    "timeout 18446744073709551616",
+    "cert",
+    "cert 1 1",
+    "cert 1 1 7 7",
+    "cert a 1 7",
+    "proof",
+    "proof 1",
+    "proof 1 7 7",
+    "proof 1 7g",
+    "check",
+    "check 0 1",
+    "check 010 1",
+    "check 0G 1",
+    "check G0 1",
+    "check 0x01 1",
+    "check -- 1",
+    "check -0 1",
+    "check 01 1 x",
+    "check 01 1 18446744073709551616",
+    "check 01 -",
+    "checkproof",
+    "checkproof 1 1",
+    "checkproof 0101070100 1 1 -1",
+    "checkproof 01/1 1",
+    "start",
+    "start 0",
+    "start x 1 1",
+    "start 0 1 1 18446744073709551616",
+    "start 0 1 1 1.5",
+    "lo\u{f6}k",
+];
+
+/// Well formed, though with an odd look.
+const ODD_BUT_GOOD: &[&str] = &[
+    "vote 1 1 1 18446744073709551615",
+    "vote 18446744073709551615 0 0 0",
+    "vote 00000000000000000000000000001 001 01 07",
+    "timeout 00000000000000000000000001",
+    "timeout 18446744073709551615",
+    "check -",
+    "checkproof -",
+    "check - 1",
+    "checkproof - 1",
+    "check 0101070100",
+    "check 02010Aff0100 1 1 1 1 1 1 1 1",
+    "checkproof 0101070100 5",
+];
+
+pub fn line(w: &mut Writer) {
+    match w.random.below(12) {
+        0 => long_vote(w),
+        1 => long_check(w),
+        2 | 3 => {
+            let line = w.random.pick(ODD_BUT_GOOD);
+            w.raw(line);
+        }
+        _ => {
+            let line = w.random.pick(LINES);
+            w.raw(line);
+        }
+    }
+}
+
+/// At the longest length and one past it.
+fn some_length(w: &mut Writer) -> usize {
+    w.random.pick(&[LONGEST_LINE - 1, LONGEST_LINE, LONGEST_LINE + 1, LONGEST_LINE + 2, 2 * LONGEST_LINE + 1])
+}
+
+fn long_vote(w: &mut Writer) {
+    let (start, end) = ("vote 3", "1 16 0");
+    let spaces = some_length(w) - start.len() - end.len();
+    w.raw(&format!("{start}{}{end}", " ".repeat(spaces)));
+}
+
+fn long_check(w: &mut Writer) {
+    let word = w.random.pick(&["check ", "checkproof "]);
+    let certificate = "0101070100";
+    let padding = some_length(w) - word.len() - certificate.len() - 2;
+    let padding = "0".repeat(padding);
+    // Half of these have an odd number of digits.
+    w.raw(&format!("{word}{certificate}{padding} 5"));
+}

@@ -1,0 +1,237 @@
+//! Random scripts, each wholly set by its seed.
+
+mod history;
+mod malformed;
+mod noise;
+mod packets;
+mod ring;
+mod writer;
+
+use crate::random::Random;
+use history::Numbers;
+use ring::Ring;
+use writer::Writer;
+
+pub struct Script {
+    pub text: String,
+    /// Some command comes before any accepted start and answers 17, so the
+    /// script must be the first that a program is given.
+    pub unstarted: bool,
+}
+
+pub fn script(seed: u64) -> Script {
+    // The seed is stirred once, so that seeds in a row share nothing.
+    let mut random = Random::new(Random::new(seed).next());
+    match random.below(40) {
+        0 => tiny(random),
+        1 => before_start(random),
+        2 => restarts(random),
+        3 => only_malformed(random),
+        4 | 5 => faults(random),
+        6 | 7 => lone(random),
+        8..=11 => packets_only(random),
+        12..=14 => soup(random),
+        15..=17 => pushes(random),
+        18 => brink(random),
+        19..=21 => avalanche(random),
+        22 | 23 => standoffs(random),
+        _ => history(random),
+    }
+}
+
+fn begin(mut random: Random, ring: Ring, least: u64, most: u64) -> Writer {
+    let budget = random.range(least, most) as usize;
+    let mut w = Writer::new(random, ring, budget);
+    w.start();
+    w
+}
+
+fn end(mut w: Writer) -> Script {
+    w.say("votes");
+    w.into_script()
+}
+
+fn history(mut random: Random) -> Script {
+    let ring = history::ring_for_history(&mut random);
+    let mut w = begin(random, ring, 20, 270);
+    history::history(&mut w);
+    let most = w.random.pick(&[0, 5, 15]);
+    finish_with_audit(w, most)
+}
+
+fn pushes(mut random: Random) -> Script {
+    let ring = Ring::small(&mut random);
+    let mut w = begin(random, ring, 50, 250);
+    history::pushes(&mut w);
+    finish_with_audit(w, 8)
+}
+
+fn soup(mut random: Random) -> Script {
+    let ring = if random.percent(70) { Ring::small(&mut random) } else { Ring::any(&mut random) };
+    let mut w = begin(random, ring, 30, 250);
+    history::soup(&mut w);
+    finish_with_audit(w, 8)
+}
+
+fn lone(mut random: Random) -> Script {
+    let ring = Ring::dominated(&mut random);
+    let mut w = begin(random, ring, 5, 60);
+    history::lone(&mut w);
+    finish_with_audit(w, 10)
+}
+
+fn brink(mut random: Random) -> Script {
+    let ring = Ring::any(&mut random);
+    let mut w = begin(random, ring, 10, 150);
+    history::brink(&mut w);
+    finish_with_audit(w, 10)
+}
+
+fn avalanche(mut random: Random) -> Script {
+    let nodes = random.pick(&[5, 5, 5, 6, 7]);
+    let ring = Ring::of_fifths(&mut random, nodes);
+    let mut w = begin(random, ring, 200, 200);
+    history::avalanche(&mut w);
+    finish_with_audit(w, 8)
+}
+
+fn standoffs(mut random: Random) -> Script {
+    let nodes = random.pick(&[5, 5, 6, 8, 10]);
+    let ring = Ring::of_fifths(&mut random, nodes);
+    let mut w = begin(random, ring, 100, 200);
+    history::standoffs(&mut w);
+    finish_with_audit(w, 5)
+}
+
+/// The audit has lines of its own after the history's.
+fn finish_with_audit(mut w: Writer, most: usize) -> Script {
+    w.add_room(40);
+    packets::audit(&mut w, most);
+    end(w)
+}
+
+fn tiny(mut random: Random) -> Script {
+    let ring = Ring::small(&mut random);
+    let budget = random.below(6) as usize;
+    let mut w = Writer::new(random, ring, budget);
+    if w.random.percent(80) && !w.full() {
+        w.start();
+        let numbers = Numbers::any(&mut w.random, w.ring.genesis);
+        while !w.full() {
+            let slot = w.random.pick(&[1, 1, 1, 2, 5]);
+            let block = numbers.of_slot(slot)[0];
+            match w.random.below(4) {
+                0 => history::announce(&mut w, &numbers, slot, block),
+                1 => {
+                    w.say(format!("timeout {slot}"));
+                }
+                _ => noise::some(&mut w, &numbers),
+            }
+        }
+    }
+    end(w)
+}
+
+/// Node commands with no node; the checkers need none.
+fn before_start(mut random: Random) -> Script {
+    const NODE_COMMANDS: &[&str] = &[
+        "vote 1 1 1 7",
+        "vote 9 99 99 0",
+        "block 1 7 0 1",
+        "block 0 0 0 0",
+        "timeout 1",
+        "timeout 99",
+        "look",
+        "cert 1 1 7",
+        "cert 0 0 0",
+        "proof 1 7",
+        "proof 0 0",
+        "votes",
+    ];
+    let ring = Ring::small(&mut random);
+    let budget = random.range(3, 40) as usize;
+    let mut w = Writer::new(random, ring, budget);
+    while !w.full() {
+        match w.random.below(8) {
+            0 => malformed::line(&mut w),
+            1 => {
+                let line = noise::bad_start(&mut w);
+                w.say(line);
+            }
+            2 => {
+                w.say("checkproof 0101070100 5");
+            }
+            _ => {
+                let line = w.random.pick(NODE_COMMANDS);
+                w.say(line);
+            }
+        }
+    }
+    if w.random.percent(60) {
+        w.start();
+        w.add_room(60);
+        history::soup(&mut w);
+    }
+    end(w)
+}
+
+/// Several nodes one after the other, with refused starts between.
+fn restarts(mut random: Random) -> Script {
+    let ring = Ring::small(&mut random);
+    let mut w = begin(random, ring, 10, 40);
+    for _ in 0..w.random.range(2, 5) {
+        history::soup(&mut w);
+        let line = noise::bad_start(&mut w);
+        w.say(line);
+        w.say("votes");
+        w.say("look");
+        let ring = Ring::any(&mut w.random);
+        w.restart(ring);
+        w.say("votes");
+        let room = w.random.range(5, 40) as usize;
+        w.add_room(room);
+    }
+    history::soup(&mut w);
+    end(w)
+}
+
+fn only_malformed(mut random: Random) -> Script {
+    let ring = Ring::small(&mut random);
+    let mut w = begin(random, ring, 10, 100);
+    while !w.full() {
+        malformed::line(&mut w);
+    }
+    end(w)
+}
+
+/// Refused lines over a node with some history.
+fn faults(mut random: Random) -> Script {
+    let ring = Ring::small(&mut random);
+    let mut w = begin(random, ring, 20, 60);
+    history::soup(&mut w);
+    let numbers = Numbers::any(&mut w.random, w.ring.genesis);
+    let room = w.random.range(20, 150) as usize;
+    w.add_room(room);
+    while !w.full() {
+        match w.random.below(5) {
+            0 => noise::faulty_vote(&mut w, &numbers),
+            1 => noise::faulty_block(&mut w, &numbers),
+            2 => noise::faulty_cert(&mut w, &numbers),
+            3 => noise::faulty_proof(&mut w, &numbers),
+            _ => noise::some(&mut w, &numbers),
+        }
+    }
+    end(w)
+}
+
+fn packets_only(mut random: Random) -> Script {
+    let ring = Ring::any(&mut random);
+    let mut w = begin(random, ring, 10, 200);
+    match w.random.below(6) {
+        0 => packets::taken_apart(&mut w),
+        1 => packets::random_bytes(&mut w),
+        2 => packets::weighed(&mut w),
+        _ => packets::hand_made(&mut w),
+    }
+    end(w)
+}

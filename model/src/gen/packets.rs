@@ -1,0 +1,357 @@
+//! Packets: written ones taken to the checker whole and damaged, and
+//! hand-made ones with every fault.
+
+use super::noise::spoil_table;
+use super::ring::{words, Ring};
+use super::writer::Writer;
+use crate::node::{Cert, LAST_SLOT};
+use crate::packet::put_number;
+use crate::panel::show_hex;
+use crate::random::Random;
+use crate::stakes::{Threshold, P40, P60, P80};
+
+// ---- written packets ----
+
+/// Asks the writers for what the votes name, and takes the answers to the
+/// checkers.
+pub fn audit(w: &mut Writer, most: usize) {
+    let mut questions = questions(w);
+    w.random.shuffle(&mut questions);
+    // What is held says more than what is not.
+    questions.sort_by_key(|question| !question.1);
+    let held = questions.iter().filter(|question| question.1).count();
+    let mut asked = 0;
+    for (i, (question, _)) in questions.into_iter().enumerate() {
+        if w.full() || asked >= most {
+            return;
+        }
+        if i >= held && !w.random.percent(15) {
+            continue;
+        }
+        asked += 1;
+        let answer = w.say(question);
+        if let Some(packet) = packet_of(&answer) {
+            take_to_checkers(w, &packet);
+        }
+    }
+}
+
+/// Every certificate and proof about slots and blocks with votes, each with
+/// whether it is held.
+fn questions(w: &Writer) -> Vec<(String, bool)> {
+    let node = w.node();
+    let mut all = Vec::new();
+    for slot in 1..=LAST_SLOT {
+        for block in node.named_blocks(slot) {
+            for kind in 1..=3 {
+                let held = node.holds(slot, Cert::of_kind(kind, block).unwrap());
+                all.push((format!("cert {kind} {slot} {block}"), held));
+            }
+            all.push((format!("proof {slot} {block}"), node.is_final(slot, block)));
+        }
+        for kind in 4..=5 {
+            all.push((format!("cert {kind} {slot} 0"), node.holds(slot, Cert::of_kind(kind, 0).unwrap())));
+        }
+    }
+    all
+}
+
+fn packet_of(answer: &[String]) -> Option<Vec<u8>> {
+    let hex = answer.first()?.split(' ').nth(2)?;
+    let byte = |at: usize| u8::from_str_radix(&hex[at..at + 2], 16).ok();
+    (0..hex.len()).step_by(2).map(byte).collect()
+}
+
+fn take_to_checkers(w: &mut Writer, packet: &[u8]) {
+    let right = w.ring.stakes.clone();
+    check(w, packet, &right);
+    if w.random.percent(40) {
+        let wrong = other_stakes(&mut w.random, &right);
+        check(w, packet, &wrong);
+    }
+    while w.random.percent(45) {
+        let damaged = damage(&mut w.random, packet);
+        check(w, &damaged, &right);
+    }
+}
+
+/// Mostly the checker that fits the packet's beginning.
+fn check(w: &mut Writer, packet: &[u8], stakes: &[u64]) {
+    let mut hex = show_hex(packet);
+    match w.random.below(10) {
+        0 => hex = hex.to_lowercase(),
+        1 => {
+            let mixed = |c: char| if w.random.percent(50) { c.to_ascii_lowercase() } else { c };
+            hex = hex.chars().map(mixed).collect();
+        }
+        _ => {}
+    }
+    let command = if w.random.percent(50) { "check" } else { "checkproof" };
+    w.say(format!("{command} {hex} {}", words(stakes)).trim_end().to_string());
+}
+
+fn other_stakes(random: &mut Random, right: &[u64]) -> Vec<u64> {
+    let mut stakes = right.to_vec();
+    let at = random.index(stakes.len());
+    match random.below(9) {
+        0 => stakes[at] = stakes[at].saturating_sub(1).max(1),
+        1 => stakes[at] += random.range(1, 3),
+        2 => stakes[at] *= 2,
+        3 => {
+            stakes.pop();
+        }
+        4 => stakes.push(random.range(1, 5)),
+        5 => random.shuffle(&mut stakes),
+        6 => stakes.rotate_left(1),
+        7 => stakes.clear(),
+        _ => spoil_table(random, &mut stakes),
+    }
+    stakes
+}
+
+/// One place changed.
+fn damage(random: &mut Random, packet: &[u8]) -> Vec<u8> {
+    let mut damaged = packet.to_vec();
+    if damaged.is_empty() {
+        return vec![random.next() as u8];
+    }
+    let at = random.index(damaged.len());
+    match random.below(9) {
+        0 | 1 => damaged[at] ^= 1 << random.below(8),
+        2 => damaged.truncate(at),
+        3 => damaged.push(random.pick(&[0, 1, 0x80, 0xFF])),
+        4 => damaged.insert(at, random.pick(&[0, 0x80, 1])),
+        5 => {
+            damaged.remove(at);
+        }
+        6 => damaged[at] = random.next() as u8,
+        // A number drawn out by a group of zeros: not shortest.
+        7 => {
+            let end = (at..damaged.len()).find(|&i| damaged[i] < 0x80).unwrap_or(at);
+            damaged[end] |= 0x80;
+            damaged.insert(end + 1, 0);
+        }
+        _ => {
+            let copy = damaged.clone();
+            damaged.extend(copy);
+        }
+    }
+    damaged
+}
+
+// ---- hand-made packets ----
+
+/// The five numbers of a certificate.
+#[derive(Clone, Copy)]
+struct Fields {
+    kind: u64,
+    slot: u64,
+    block: u64,
+    a: u64,
+    b: u64,
+}
+
+impl Fields {
+    /// A certificate that the ring's table accepts.
+    fn good(random: &mut Random, ring: &Ring, kind: u64, slot: u64) -> Fields {
+        let threshold = if kind == 1 { P80 } else { P60 };
+        let mut signers = ring.reaching(random, threshold);
+        if random.percent(40) {
+            signers.push(random.index(ring.nodes()));
+        }
+        let fallbacks = if kind == 3 || kind == 4 { random.pick(&[0, 50, 100]) } else { 0 };
+        let block = if kind <= 3 { random.any_number().max(1) } else { 0 };
+        let mut fields = Fields { kind, slot, block, a: 0, b: 0 };
+        for node in signers {
+            let bit = 1 << node;
+            let signed = (fields.a | fields.b) & bit != 0;
+            match (signed, random.percent(fallbacks)) {
+                (true, _) => {}
+                (false, true) => fields.b |= bit,
+                (false, false) => fields.a |= bit,
+            }
+        }
+        fields
+    }
+
+    /// One fault that a checker must see, among those of 4, 3, 5, 14, 15.
+    fn spoil(&mut self, random: &mut Random, ring: &Ring) {
+        let nodes = ring.nodes() as u64;
+        let any_bit = 1 << random.below(nodes);
+        match random.below(9) {
+            0 => self.kind = random.pick(&[0, 6, 7, 127, 128, 256 | self.kind, 1 << 32 | self.kind, u64::MAX]),
+            1 => self.slot = random.pick(&[0, 17, 18, 127, 128, 256 | self.slot, 1 << 32 | self.slot, u64::MAX]),
+            2 => self.block = if self.block == 0 { random.any_number().max(1) } else { 0 },
+            3 if nodes < 64 => self.a |= 1 << random.range(nodes, 63),
+            4 if nodes < 64 => self.b |= 1 << random.range(nodes, 63),
+            5 if self.a != 0 => self.b |= self.a,
+            6 => self.b |= any_bit,
+            7 => self.lighten(random, ring),
+            _ => (self.a, self.b) = random.pick(&[(0, 0), (self.b, self.a), (self.a & any_bit, 0)]),
+        }
+    }
+
+    /// As many signers as can be without reaching the threshold.
+    fn lighten(&mut self, random: &mut Random, ring: &Ring) {
+        let threshold = if self.kind == 1 { P80 } else { P60 };
+        let mut signers = ring.reaching(random, threshold);
+        signers.pop();
+        self.a = signers.into_iter().map(|node| 1u64 << node).sum();
+        self.b = 0;
+    }
+
+    fn numbers(&self) -> [u64; 5] {
+        [self.kind, self.slot, self.block, self.a, self.b]
+    }
+}
+
+fn shortest(number: u64) -> Vec<u8> {
+    let mut bytes = Vec::new();
+    put_number(&mut bytes, number);
+    bytes
+}
+
+/// A number written as it must not be, or just may.
+fn odd_form(random: &mut Random, number: u64) -> Vec<u8> {
+    let mut bytes = shortest(number);
+    match random.below(4) {
+        // Drawn out by groups of zeros, up to and past the tenth byte.
+        0 | 1 => {
+            let most = 11usize.saturating_sub(bytes.len()).max(1);
+            let extra = random.pick(&[1, 1, 2, most.saturating_sub(1).max(1), most]);
+            *bytes.last_mut().unwrap() |= 0x80;
+            bytes.resize(bytes.len() + extra - 1, 0x80);
+            bytes.push(0);
+        }
+        2 => bytes = ten_bytes(random),
+        // Cut short: the next number's first byte is taken for its own.
+        _ => *bytes.last_mut().unwrap() |= 0x80,
+    }
+    bytes
+}
+
+/// Nine bytes with more to follow, then a tenth of each interesting value.
+fn ten_bytes(random: &mut Random) -> Vec<u8> {
+    let fill = random.pick(&[0x80, 0xFF, 0x81]);
+    let tenth = random.pick(&[0, 1, 1, 2, 3, 0x7F, 0x80, 0x81, 0xFF]);
+    let mut bytes = vec![fill; 9];
+    bytes.push(tenth);
+    bytes
+}
+
+fn encode(random: &mut Random, fields: &Fields, odd: bool) -> Vec<u8> {
+    let odd_one = if odd { random.index(5) } else { 5 };
+    let mut packet = Vec::new();
+    for (i, &number) in fields.numbers().iter().enumerate() {
+        packet.extend(if i == odd_one { odd_form(random, number) } else { shortest(number) });
+    }
+    packet
+}
+
+/// A certificate with that chance, in percent, of each sort of fault.
+fn certificate(random: &mut Random, ring: &Ring, kind: u64, slot: u64, fault: u64) -> Vec<u8> {
+    let mut fields = Fields::good(random, ring, kind, slot);
+    while random.percent(fault) {
+        fields.spoil(random, ring);
+    }
+    let odd = random.percent(fault / 2);
+    encode(random, &fields, odd)
+}
+
+/// Mostly of the two proof forms.
+fn proof(random: &mut Random, ring: &Ring, fault: u64) -> Vec<u8> {
+    let slot = random.range(1, LAST_SLOT);
+    let first_kind = random.pick(&[1, 2, 2, 2, 2, 2, 3, 4, 5]);
+    let mut packet = certificate(random, ring, first_kind, slot, fault / 2);
+    if first_kind != 1 || random.percent(10) {
+        let second_kind = if random.percent(80) { 5 } else { random.range(1, 5) };
+        let second_slot = if random.percent(85) { slot } else { random.range(1, LAST_SLOT) };
+        packet.extend(certificate(random, ring, second_kind, second_slot, fault));
+    }
+    packet
+}
+
+/// Hand-made packets, each to one of the checkers.
+pub fn hand_made(w: &mut Writer) {
+    let fault = w.random.pick(&[0, 20, 40, 60]);
+    while !w.full() {
+        if w.random.percent(10) {
+            let any = w.random.percent(50);
+            w.ring = if any { Ring::any(&mut w.random) } else { Ring::small(&mut w.random) };
+        }
+        let ring = w.ring.clone();
+        let mut packet = if w.random.percent(50) {
+            proof(&mut w.random, &ring, fault)
+        } else {
+            let (kind, slot) = (w.random.range(1, 5), w.random.range(1, LAST_SLOT));
+            certificate(&mut w.random, &ring, kind, slot, fault)
+        };
+        if w.random.percent(fault / 3) {
+            packet = damage(&mut w.random, &packet);
+        }
+        let mut stakes = ring.stakes;
+        if w.random.percent(fault / 6) {
+            stakes = other_stakes(&mut w.random, &stakes);
+        }
+        check(w, &packet, &stakes);
+    }
+}
+
+/// One good packet, then each of its prefixes and each single bit flipped,
+/// as far as the script has room.
+pub fn taken_apart(w: &mut Writer) {
+    let ring = w.ring.clone();
+    let mut packet = proof(&mut w.random, &ring, 0);
+    if w.random.percent(30) {
+        let kind = w.random.range(1, 5);
+        packet = certificate(&mut w.random, &ring, kind, 16, 0);
+    }
+    check(w, &packet, &ring.stakes);
+    for length in 0..packet.len() {
+        check(w, &packet[..length], &ring.stakes);
+    }
+    for bit in 0..packet.len() * 8 {
+        if w.full() {
+            return;
+        }
+        let mut flipped = packet.clone();
+        flipped[bit / 8] ^= 1 << (bit % 8);
+        check(w, &flipped, &ring.stakes);
+    }
+}
+
+/// Random bytes, with small ones likely so that some get past the numbers.
+pub fn random_bytes(w: &mut Writer) {
+    while !w.full() {
+        let length = w.random.below(14);
+        let byte = |random: &mut Random| match random.below(4) {
+            0 => random.next() as u8,
+            1 => random.pick(&[0x80, 0xFF, 0x7F]),
+            _ => random.below(7) as u8,
+        };
+        let packet: Vec<u8> = (0..length).map(|_| byte(&mut w.random)).collect();
+        let stakes = w.ring.stakes.clone();
+        check(w, &packet, &stakes);
+    }
+}
+
+/// Signers around every threshold, by one checker after the other.
+pub fn weighed(w: &mut Writer) {
+    let ring = w.ring.clone();
+    while !w.full() {
+        let kind = w.random.range(1, 5);
+        let threshold: Threshold = w.random.pick(&[P40, P60, P60, P80, P80]);
+        let mut signers = ring.reaching(&mut w.random, threshold);
+        if w.random.percent(50) {
+            signers.pop();
+        }
+        let a = signers.into_iter().map(|node| 1u64 << node).sum();
+        let block = if kind <= 3 { 7 } else { 0 };
+        let slot = w.random.range(1, LAST_SLOT);
+        let mut packet = encode(&mut w.random, &Fields { kind, slot, block, a, b: 0 }, false);
+        if kind == 2 {
+            packet.extend(certificate(&mut w.random, &ring, 5, slot, 0));
+        }
+        check(w, &packet, &ring.stakes);
+    }
+}

@@ -1,0 +1,146 @@
+//! The script under way: lines are written and obeyed at the same time, so
+//! that later lines can be chosen by what the node then holds.
+
+use super::ring::Ring;
+use crate::node::Node;
+use crate::panel::Panel;
+use crate::random::Random;
+
+pub struct Writer {
+    pub random: Random,
+    pub panel: Panel,
+    pub ring: Ring,
+    text: String,
+    commands: usize,
+    budget: usize,
+    /// Command lines so far, for repeats.
+    said: Vec<String>,
+    /// Whether some answer was 17, which needs a panel without a node.
+    unstarted: bool,
+    style: Style,
+}
+
+/// How the lines of one script are laid out, in percent.
+struct Style {
+    crlf: u64,
+    wide_spaces: u64,
+    leading_zeros: u64,
+    silent_lines: u64,
+}
+
+impl Style {
+    fn any(random: &mut Random) -> Style {
+        if random.percent(70) {
+            return Style { crlf: 0, wide_spaces: 0, leading_zeros: 0, silent_lines: 0 };
+        }
+        Style {
+            crlf: random.pick(&[0, 0, 30, 100]),
+            wide_spaces: random.pick(&[0, 10, 50]),
+            leading_zeros: random.pick(&[0, 0, 5]),
+            silent_lines: random.pick(&[0, 5]),
+        }
+    }
+}
+
+impl Writer {
+    pub fn new(mut random: Random, ring: Ring, budget: usize) -> Writer {
+        let style = Style::any(&mut random);
+        Writer {
+            random,
+            panel: Panel::default(),
+            ring,
+            text: String::new(),
+            commands: 0,
+            budget,
+            said: Vec::new(),
+            unstarted: false,
+            style,
+        }
+    }
+
+    pub fn say(&mut self, line: impl Into<String>) -> Vec<String> {
+        let line = line.into();
+        self.said.push(line.clone());
+        let laid_out = self.lay_out(&line);
+        let answer = self.raw(&laid_out);
+        if self.random.percent(self.style.silent_lines) {
+            let silent = self.random.pick(&["", "#", "# vote 1 1 1 1", "#look"]);
+            self.raw(silent);
+        }
+        answer
+    }
+
+    /// A line exactly as given.
+    pub fn raw(&mut self, line: &str) -> Vec<String> {
+        let answer = self.panel.line(line.as_bytes());
+        self.text += line;
+        self.text += if self.random.percent(self.style.crlf) { "\r\n" } else { "\n" };
+        let answer = answer.unwrap_or_default();
+        self.commands += 1;
+        self.unstarted |= answer == ["17"];
+        answer
+    }
+
+    fn lay_out(&mut self, line: &str) -> String {
+        let mut laid_out = String::new();
+        for (i, word) in line.split(' ').enumerate() {
+            if i > 0 {
+                let spaces = if self.random.percent(self.style.wide_spaces) { self.random.range(2, 5) } else { 1 };
+                laid_out += &" ".repeat(spaces as usize);
+            }
+            // Words of digits in second place may be packets, where zeros count.
+            let number = i > 1 && word.bytes().all(|byte| byte.is_ascii_digit());
+            if number && self.random.percent(self.style.leading_zeros) {
+                laid_out += "00";
+            }
+            laid_out += word;
+        }
+        laid_out
+    }
+
+    pub fn full(&self) -> bool {
+        self.commands >= self.budget
+    }
+
+    pub fn room(&self) -> usize {
+        self.budget.saturating_sub(self.commands)
+    }
+
+    /// Lets the script go on for some lines from here.
+    pub fn add_room(&mut self, lines: usize) {
+        self.budget = self.commands + lines;
+    }
+
+    pub fn node(&self) -> &Node {
+        self.panel.node.as_ref().expect("this part of a script has a node")
+    }
+
+    pub fn start(&mut self) {
+        self.say(self.ring.start_line());
+    }
+
+    pub fn restart(&mut self, ring: Ring) {
+        self.ring = ring;
+        self.start();
+    }
+
+    pub fn repeat_some_line(&mut self) {
+        let recent = self.said.len().min(40);
+        let line = self.said[self.said.len() - 1 - self.random.index(recent)].clone();
+        if !line.starts_with("start") {
+            self.say(line);
+        }
+    }
+
+    pub fn vote(&mut self, kind: u64, node: usize, slot: u64, block: u64) {
+        self.say(format!("vote {kind} {node} {slot} {block}"));
+    }
+
+    pub fn into_script(mut self) -> super::Script {
+        if self.random.percent(20) {
+            let without_end = self.text.trim_end_matches(['\r', '\n']).len();
+            self.text.truncate(without_end);
+        }
+        super::Script { text: self.text, unstarted: self.unstarted }
+    }
+}

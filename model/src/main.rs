@@ -1,0 +1,91 @@
+//! A plain model of the node, and random scripts to hold a program against it.
+
+mod compare;
+mod cover;
+mod gen;
+mod node;
+mod packet;
+mod panel;
+mod random;
+mod refusal;
+mod stakes;
+#[cfg(test)]
+mod tests;
+
+use std::io::{self, BufWriter, Read, Write};
+use std::process::ExitCode;
+
+const USAGE: &str = "usage:
+  model run                                 obeys the script on standard input
+  model gen SEED                            prints the script of that seed
+  model compare SEED COUNT [SECONDS] -- PROGRAM [WORD..]
+                                            runs PROGRAM beside the model
+  model cover SEED COUNT                    counts what those scripts reach";
+
+fn main() -> ExitCode {
+    let words: Vec<String> = std::env::args().skip(1).collect();
+    let words: Vec<&str> = words.iter().map(String::as_str).collect();
+    match obey(&words) {
+        Some(Ok(true)) => ExitCode::SUCCESS,
+        Some(Ok(false)) => ExitCode::from(1),
+        // A reader that goes away, such as `head`, is no fault.
+        Some(Err(error)) if error.kind() == io::ErrorKind::BrokenPipe => ExitCode::SUCCESS,
+        Some(Err(error)) => {
+            eprintln!("{error}");
+            ExitCode::from(2)
+        }
+        None => {
+            eprintln!("{USAGE}");
+            ExitCode::from(2)
+        }
+    }
+}
+
+/// None when the words are not understood; otherwise whether all is well.
+fn obey(words: &[&str]) -> Option<io::Result<bool>> {
+    match words {
+        ["run"] => Some(run()),
+        ["gen", seed] => Some(generate(seed.parse().ok()?)),
+        ["cover", seed, count] => {
+            cover::cover(seed.parse().ok()?, count.parse().ok()?).show();
+            Some(Ok(true))
+        }
+        ["compare", rest @ ..] => Some(Ok(compare::compare(&compare_task(rest)?))),
+        _ => None,
+    }
+}
+
+fn compare_task(words: &[&str]) -> Option<compare::Task> {
+    let bar = words.iter().position(|&word| word == "--")?;
+    let program: Vec<String> = words[bar + 1..].iter().map(|word| word.to_string()).collect();
+    if program.is_empty() {
+        return None;
+    }
+    let (seed, count, seconds) = match words[..bar] {
+        [seed, count] => (seed, count, None),
+        [seed, count, seconds] => (seed, count, Some(seconds.parse().ok()?)),
+        _ => return None,
+    };
+    Some(compare::Task { seed: seed.parse().ok()?, count: count.parse().ok()?, seconds, program })
+}
+
+fn run() -> io::Result<bool> {
+    let mut script = Vec::new();
+    io::stdin().read_to_end(&mut script)?;
+    let mut panel = panel::Panel::default();
+    let mut out = BufWriter::new(io::stdout().lock());
+    for line in panel::lines(&script) {
+        for answer in panel.line(line).unwrap_or_default() {
+            writeln!(out, "{answer}")?;
+        }
+    }
+    out.flush()?;
+    Ok(true)
+}
+
+fn generate(seed: u64) -> io::Result<bool> {
+    let mut out = io::stdout().lock();
+    out.write_all(gen::script(seed).text.as_bytes())?;
+    out.flush()?;
+    Ok(true)
+}

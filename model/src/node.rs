@@ -1,0 +1,663 @@
+//! One node: its pool of votes and its voter.
+//!
+//! Everything is computed anew from the stored votes each time it is asked
+//! for. That is slow, but each function below can be held against one
+//! sentence of the document.
+
+use crate::refusal::Refusal;
+use crate::stakes::{Stakes, Threshold, P20, P40, P60, P80};
+use std::collections::{BTreeMap, BTreeSet};
+
+pub const LAST_SLOT: u64 = 16;
+pub const WINDOW: u64 = 4;
+pub const MOST_FALLBACKS: usize = 3;
+
+pub const RECORD_FINALIZED: u64 = 6;
+pub const RECORD_ARMED: u64 = 7;
+
+#[derive(Clone, Copy, PartialEq, Eq, Debug)]
+pub enum Vote {
+    Notar(u64),
+    NotarFallback(u64),
+    Skip,
+    SkipFallback,
+    Final,
+}
+
+impl Vote {
+    pub fn kind(self) -> u64 {
+        match self {
+            Vote::Notar(_) => 1,
+            Vote::NotarFallback(_) => 2,
+            Vote::Skip => 3,
+            Vote::SkipFallback => 4,
+            Vote::Final => 5,
+        }
+    }
+
+    pub fn block(self) -> u64 {
+        match self {
+            Vote::Notar(b) | Vote::NotarFallback(b) => b,
+            Vote::Skip | Vote::SkipFallback | Vote::Final => 0,
+        }
+    }
+
+    /// Kind must be 1 to 5; the block must be there for kinds 1 and 2 only.
+    fn new(kind: u64, block: u64) -> Result<Vote, Refusal> {
+        let (vote, needs_block) = match kind {
+            1 => (Vote::Notar(block), true),
+            2 => (Vote::NotarFallback(block), true),
+            3 => (Vote::Skip, false),
+            4 => (Vote::SkipFallback, false),
+            5 => (Vote::Final, false),
+            _ => return Err(Refusal::NoSuchKind),
+        };
+        if needs_block != (block != 0) {
+            return Err(Refusal::BlockNumber);
+        }
+        Ok(vote)
+    }
+}
+
+/// A certificate kind with the block it is for.
+#[derive(Clone, Copy, PartialEq, Eq, Debug)]
+pub enum Cert {
+    FastFinal(u64),
+    Notar(u64),
+    NotarFallback(u64),
+    Skip,
+    Final,
+}
+
+impl Cert {
+    pub fn kind(self) -> u64 {
+        match self {
+            Cert::FastFinal(_) => 1,
+            Cert::Notar(_) => 2,
+            Cert::NotarFallback(_) => 3,
+            Cert::Skip => 4,
+            Cert::Final => 5,
+        }
+    }
+
+    pub fn block(self) -> u64 {
+        match self {
+            Cert::FastFinal(b) | Cert::Notar(b) | Cert::NotarFallback(b) => b,
+            Cert::Skip | Cert::Final => 0,
+        }
+    }
+
+    /// None when the kind is not 1 to 5; the block is not looked at.
+    pub fn of_kind(kind: u64, block: u64) -> Option<Cert> {
+        match kind {
+            1 => Some(Cert::FastFinal(block)),
+            2 => Some(Cert::Notar(block)),
+            3 => Some(Cert::NotarFallback(block)),
+            4 => Some(Cert::Skip),
+            5 => Some(Cert::Final),
+            _ => None,
+        }
+    }
+
+    pub fn needs_block(self) -> bool {
+        !matches!(self, Cert::Skip | Cert::Final)
+    }
+
+    pub fn allows_fallback_signers(self) -> bool {
+        matches!(self, Cert::NotarFallback(_) | Cert::Skip)
+    }
+
+    pub fn threshold(self) -> Threshold {
+        match self {
+            Cert::FastFinal(_) => P80,
+            _ => P60,
+        }
+    }
+
+    /// The votes that mask A names.
+    fn counts_first(self, cell: &Cell) -> bool {
+        match self {
+            Cert::FastFinal(b) | Cert::Notar(b) | Cert::NotarFallback(b) => cell.notar_is(b),
+            Cert::Skip => cell.is_skip(),
+            Cert::Final => cell.final_vote,
+        }
+    }
+
+    /// The fallback votes that count beside those.
+    fn counts_fallback(self, cell: &Cell) -> bool {
+        match self {
+            Cert::NotarFallback(b) => cell.notar_fallbacks.contains(&b),
+            Cert::Skip => cell.skip_fallback,
+            Cert::FastFinal(_) | Cert::Notar(_) | Cert::Final => false,
+        }
+    }
+
+    fn counts(self, cell: &Cell) -> bool {
+        self.counts_first(cell) || self.counts_fallback(cell)
+    }
+}
+
+#[derive(Clone, Copy, PartialEq, Eq, Debug)]
+pub enum Initial {
+    Notar(u64),
+    Skip,
+}
+
+/// What the pool keeps of one node in one slot.
+#[derive(Clone, Default, PartialEq, Eq, Debug)]
+pub struct Cell {
+    pub initial: Option<Initial>,
+    pub notar_fallbacks: BTreeSet<u64>,
+    pub skip_fallback: bool,
+    pub final_vote: bool,
+}
+
+impl Cell {
+    pub fn notar_block(&self) -> Option<u64> {
+        match self.initial {
+            Some(Initial::Notar(b)) => Some(b),
+            _ => None,
+        }
+    }
+
+    pub fn notar_is(&self, block: u64) -> bool {
+        self.initial == Some(Initial::Notar(block))
+    }
+
+    pub fn is_skip(&self) -> bool {
+        self.initial == Some(Initial::Skip)
+    }
+
+    fn keeps(&self, vote: Vote) -> bool {
+        match vote {
+            Vote::Notar(b) => self.notar_is(b),
+            Vote::NotarFallback(b) => self.notar_fallbacks.contains(&b),
+            Vote::Skip => self.is_skip(),
+            Vote::SkipFallback => self.skip_fallback,
+            Vote::Final => self.final_vote,
+        }
+    }
+
+    fn has_place_for(&self, vote: Vote) -> bool {
+        match vote {
+            Vote::Notar(_) | Vote::Skip => self.initial.is_none(),
+            Vote::NotarFallback(_) => self.notar_fallbacks.len() < MOST_FALLBACKS,
+            Vote::SkipFallback => !self.skip_fallback,
+            Vote::Final => !self.final_vote,
+        }
+    }
+
+    fn store(&mut self, vote: Vote) {
+        match vote {
+            Vote::Notar(b) => self.initial = Some(Initial::Notar(b)),
+            Vote::NotarFallback(b) => {
+                self.notar_fallbacks.insert(b);
+            }
+            Vote::Skip => self.initial = Some(Initial::Skip),
+            Vote::SkipFallback => self.skip_fallback = true,
+            Vote::Final => self.final_vote = true,
+        }
+    }
+
+    /// The kept votes in kind, block order.
+    pub fn votes(&self) -> Vec<Vote> {
+        let mut all = Vec::new();
+        all.extend(self.notar_block().map(Vote::Notar));
+        all.extend(self.notar_fallbacks.iter().map(|&b| Vote::NotarFallback(b)));
+        all.extend(self.is_skip().then_some(Vote::Skip));
+        all.extend(self.skip_fallback.then_some(Vote::SkipFallback));
+        all.extend(self.final_vote.then_some(Vote::Final));
+        all
+    }
+}
+
+/// The block kept for a slot.
+#[derive(Clone, Copy, PartialEq, Eq, Debug)]
+pub struct Block {
+    pub number: u64,
+    pub parent_slot: u64,
+    pub parent: u64,
+}
+
+/// Slots number from 1, so the first place of each row is never used.
+const ROWS: usize = LAST_SLOT as usize + 1;
+
+#[derive(Clone, PartialEq, Eq, Debug)]
+pub struct Record {
+    pub kind: u64,
+    pub slot: u64,
+    pub block: u64,
+}
+
+#[derive(Clone)]
+pub struct Node {
+    stakes: Stakes,
+    own: usize,
+    genesis: u64,
+    pool: Vec<Vec<Cell>>,
+    kept: [Option<Block>; ROWS],
+    timed_out: [bool; ROWS],
+    /// By the window's first slot.
+    armed: [bool; ROWS],
+    finalized: [bool; ROWS],
+    /// Records of the input under way.
+    outbox: Vec<Record>,
+    /// How often each branch of the rules was taken; for `cover` only.
+    pub notes: BTreeMap<&'static str, u64>,
+}
+
+pub fn is_slot(slot: u64) -> bool {
+    (1..=LAST_SLOT).contains(&slot)
+}
+
+pub fn first_of_window(slot: u64) -> u64 {
+    (slot - 1) / WINDOW * WINDOW + 1
+}
+
+pub fn is_first(slot: u64) -> bool {
+    first_of_window(slot) == slot
+}
+
+fn window_of(slot: u64) -> std::ops::Range<u64> {
+    first_of_window(slot)..first_of_window(slot) + WINDOW
+}
+
+// ---- what the pool holds ----
+
+impl Node {
+    pub fn start(own: u64, genesis: u64, stakes: &[u64]) -> Result<Node, Refusal> {
+        let stakes = Stakes::new(stakes)?;
+        if !stakes.has_node(own) || genesis == 0 {
+            return Err(Refusal::Sizes);
+        }
+        Ok(Node {
+            own: own as usize,
+            genesis,
+            pool: vec![vec![Cell::default(); stakes.count()]; ROWS],
+            stakes,
+            kept: [None; ROWS],
+            timed_out: [false; ROWS],
+            armed: [false; ROWS],
+            finalized: [false; ROWS],
+            outbox: Vec::new(),
+            notes: BTreeMap::new(),
+        })
+    }
+
+    pub fn stakes(&self) -> &Stakes {
+        &self.stakes
+    }
+
+    pub fn cells(&self, slot: u64) -> &[Cell] {
+        &self.pool[slot as usize]
+    }
+
+    pub fn own_cell(&self, slot: u64) -> &Cell {
+        &self.pool[slot as usize][self.own]
+    }
+
+    pub fn kept_block(&self, slot: u64) -> Option<Block> {
+        self.kept[slot as usize]
+    }
+
+    pub fn is_armed(&self, slot: u64) -> bool {
+        self.armed[first_of_window(slot) as usize]
+    }
+
+    /// Each node's stake is taken once, however many of its votes count.
+    fn weight(&self, slot: u64, counts: impl Fn(&Cell) -> bool) -> u64 {
+        let cells = self.cells(slot).iter();
+        cells.zip(self.stakes.each()).filter(|(cell, _)| counts(cell)).map(|(_, &stake)| stake).sum()
+    }
+
+    fn notar_weight(&self, slot: u64, block: u64) -> u64 {
+        self.weight(slot, |cell| cell.notar_is(block))
+    }
+
+    fn skip_weight(&self, slot: u64) -> u64 {
+        self.weight(slot, Cell::is_skip)
+    }
+
+    /// Every block with an initial notar vote in the slot, lowest first.
+    pub fn notar_blocks(&self, slot: u64) -> BTreeSet<u64> {
+        self.cells(slot).iter().filter_map(Cell::notar_block).collect()
+    }
+
+    pub fn holds(&self, slot: u64, cert: Cert) -> bool {
+        let weight = self.weight(slot, |cell| cert.counts(cell));
+        self.stakes.reaches(weight, cert.threshold())
+    }
+
+    fn mask(&self, slot: u64, counts: impl Fn(&Cell) -> bool) -> u64 {
+        let cells = self.cells(slot).iter().enumerate();
+        cells.filter(|(_, cell)| counts(cell)).map(|(node, _)| 1u64 << node).sum()
+    }
+
+    /// Masks A and B of a certificate. B leaves out who is in A already.
+    pub fn signers(&self, slot: u64, cert: Cert) -> (u64, u64) {
+        let a = self.mask(slot, |cell| cert.counts_first(cell));
+        let b = self.mask(slot, |cell| cert.counts_fallback(cell) && !cert.counts_first(cell));
+        (a, b)
+    }
+
+    fn holds_as_parent(&self, parent_slot: u64, parent: u64) -> bool {
+        if parent_slot == 0 {
+            return parent == self.genesis;
+        }
+        self.holds(parent_slot, Cert::Notar(parent))
+            || self.holds(parent_slot, Cert::NotarFallback(parent))
+    }
+
+    pub fn ready(&self, first_slot: u64, parent_slot: u64, parent: u64) -> bool {
+        parent_slot < first_slot
+            && self.holds_as_parent(parent_slot, parent)
+            && (parent_slot + 1..first_slot).all(|between| self.holds(between, Cert::Skip))
+    }
+
+    /// Every block with a vote of kind 1 or 2 in the slot.
+    pub fn named_blocks(&self, slot: u64) -> BTreeSet<u64> {
+        let mut blocks = self.notar_blocks(slot);
+        for cell in self.cells(slot) {
+            blocks.extend(&cell.notar_fallbacks);
+        }
+        blocks
+    }
+
+    /// All parents ready for a first slot, from the nearest slot down.
+    pub fn ready_parents(&self, first_slot: u64) -> Vec<(u64, u64)> {
+        let mut parents = Vec::new();
+        for slot in (1..first_slot).rev() {
+            let blocks = self.named_blocks(slot).into_iter();
+            parents.extend(blocks.filter(|&b| self.holds_as_parent(slot, b)).map(|b| (slot, b)));
+            if !self.holds(slot, Cert::Skip) {
+                return parents;
+            }
+        }
+        parents.push((0, self.genesis));
+        parents
+    }
+
+    /// Every stored vote as (slot, node, vote) in slot, node, kind, block order.
+    pub fn stored_votes(&self) -> Vec<(u64, usize, Vote)> {
+        let mut all = Vec::new();
+        for slot in 1..=LAST_SLOT {
+            for (node, cell) in self.cells(slot).iter().enumerate() {
+                all.extend(cell.votes().into_iter().map(|vote| (slot, node, vote)));
+            }
+        }
+        all
+    }
+}
+
+// ---- inputs ----
+
+impl Node {
+    pub fn vote(&mut self, kind: u64, node: u64, slot: u64, block: u64) -> Result<Vec<Record>, Refusal> {
+        // The order of the tests is the document's: 4, 3, 2, 6, 5, 7, 8.
+        let vote = Vote::new(kind, block);
+        if vote == Err(Refusal::NoSuchKind) {
+            return Err(Refusal::NoSuchKind);
+        }
+        if !is_slot(slot) {
+            return Err(Refusal::NoSuchSlot);
+        }
+        if !self.stakes.has_node(node) {
+            return Err(Refusal::NoSuchNode);
+        }
+        if node == self.own as u64 {
+            return Err(Refusal::OwnName);
+        }
+        let vote = vote?;
+        let cell = &mut self.pool[slot as usize][node as usize];
+        if cell.keeps(vote) {
+            return Err(Refusal::AlreadyKept);
+        }
+        if !cell.has_place_for(vote) {
+            return Err(Refusal::AnotherStands);
+        }
+        cell.store(vote);
+        Ok(self.run_rules())
+    }
+
+    pub fn block(&mut self, slot: u64, number: u64, parent_slot: u64, parent: u64) -> Result<Vec<Record>, Refusal> {
+        if !is_slot(slot) {
+            return Err(Refusal::NoSuchSlot);
+        }
+        if number == 0 || parent == 0 {
+            return Err(Refusal::BlockNumber);
+        }
+        if parent_slot >= slot || (parent_slot == 0 && parent != self.genesis) {
+            return Err(Refusal::WrongParent);
+        }
+        let block = Block { number, parent_slot, parent };
+        match self.kept[slot as usize] {
+            Some(kept) if kept == block => return Err(Refusal::AlreadyKept),
+            Some(_) => return Err(Refusal::AnotherStands),
+            None => self.kept[slot as usize] = Some(block),
+        }
+        Ok(self.run_rules())
+    }
+
+    pub fn timeout(&mut self, slot: u64) -> Result<Vec<Record>, Refusal> {
+        if !is_slot(slot) {
+            return Err(Refusal::NoSuchSlot);
+        }
+        if !self.is_armed(slot) {
+            return Err(Refusal::NotArmed);
+        }
+        if self.timed_out[slot as usize] {
+            return Err(Refusal::AlreadyKept);
+        }
+        self.timed_out[slot as usize] = true;
+        if self.own_cell(slot).initial.is_none() {
+            self.cast_skips_in_window(slot);
+            self.note("timeout that skips");
+        } else {
+            self.note("timeout that casts nothing");
+        }
+        Ok(self.run_rules())
+    }
+
+    pub fn look(&mut self) -> Vec<Record> {
+        self.run_rules()
+    }
+}
+
+// ---- the voter ----
+
+type Rule = fn(&mut Node, u64) -> bool;
+
+/// In the order of the document; each answers whether it applied.
+const RULES: [Rule; 6] =
+    [Node::rule_a, Node::rule_b, Node::rule_c, Node::rule_d, Node::rule_e, Node::rule_f];
+
+impl Node {
+    fn run_rules(&mut self) -> Vec<Record> {
+        while self.apply_first_rule() {}
+        std::mem::take(&mut self.outbox)
+    }
+
+    fn apply_first_rule(&mut self) -> bool {
+        for slot in 1..=LAST_SLOT {
+            for rule in RULES {
+                if rule(self, slot) {
+                    return true;
+                }
+            }
+        }
+        false
+    }
+
+    fn record(&mut self, kind: u64, slot: u64, block: u64) {
+        self.outbox.push(Record { kind, slot, block });
+    }
+
+    fn cast(&mut self, slot: u64, vote: Vote) {
+        self.pool[slot as usize][self.own].store(vote);
+        self.record(vote.kind(), slot, vote.block());
+    }
+
+    fn note(&mut self, what: &'static str) {
+        *self.notes.entry(what).or_insert(0) += 1;
+    }
+
+    /// Answers whether any skip was cast.
+    fn cast_skips_in_window(&mut self, slot: u64) -> bool {
+        let mut any = false;
+        for s in window_of(slot) {
+            if self.own_cell(s).initial.is_none() {
+                self.cast(s, Vote::Skip);
+                any = true;
+            }
+        }
+        any
+    }
+
+    /// A: the window opens.
+    fn rule_a(&mut self, slot: u64) -> bool {
+        if !is_first(slot) || self.is_armed(slot) {
+            return false;
+        }
+        let parents = self.ready_parents(slot);
+        let Some(&(nearest, _)) = parents.first() else {
+            return false;
+        };
+        self.note(if nearest + 1 == slot { "A with a parent next door" } else { "A over skipped slots only" });
+        self.armed[slot as usize] = true;
+        self.record(RECORD_ARMED, slot, 0);
+        true
+    }
+
+    /// B: notarize the kept block.
+    fn rule_b(&mut self, slot: u64) -> bool {
+        let Some(block) = self.kept_block(slot) else {
+            return false;
+        };
+        if self.own_cell(slot).initial.is_some() || !self.parent_allows(slot, block) {
+            return false;
+        }
+        self.note(match (is_first(slot), block.parent_slot + 1 == slot) {
+            (true, true) => "B in a first slot, parent next door",
+            (true, false) => "B in a first slot, parent over skipped slots",
+            (false, _) => "B in a later slot",
+        });
+        self.cast(slot, Vote::Notar(block.number));
+        true
+    }
+
+    fn parent_allows(&self, slot: u64, block: Block) -> bool {
+        if is_first(slot) {
+            self.ready(slot, block.parent_slot, block.parent)
+        } else {
+            block.parent_slot == slot - 1 && self.own_cell(slot - 1).notar_is(block.parent)
+        }
+    }
+
+    /// C: vote for finality of the own notarized block.
+    fn rule_c(&mut self, slot: u64) -> bool {
+        let own = self.own_cell(slot);
+        let Some(block) = own.notar_block() else {
+            return false;
+        };
+        let fell_back = own.skip_fallback || !own.notar_fallbacks.is_empty();
+        if fell_back || own.final_vote || !self.holds(slot, Cert::Notar(block)) {
+            return false;
+        }
+        self.note("C");
+        self.cast(slot, Vote::Final);
+        true
+    }
+
+    /// D: a block that others notarize may still win.
+    fn rule_d(&mut self, slot: u64) -> bool {
+        if self.own_cell(slot).initial.is_none() {
+            return false;
+        }
+        self.notar_blocks(slot).into_iter().any(|block| self.fall_back_to(slot, block))
+    }
+
+    /// Rule D for one block; answers whether anything was cast.
+    fn fall_back_to(&mut self, slot: u64, block: u64) -> bool {
+        if self.own_cell(slot).notar_is(block) || !self.safe_to_notar(slot, block) {
+            return false;
+        }
+        let skipped = self.cast_skips_in_window(slot);
+        let own = self.own_cell(slot);
+        let finished = own.final_vote;
+        let fall_back = !finished && !own.keeps(Vote::NotarFallback(block)) && own.has_place_for(Vote::NotarFallback(block));
+        if fall_back {
+            self.cast(slot, Vote::NotarFallback(block));
+        }
+        self.note_fallback(slot, block, skipped, fall_back, finished);
+        skipped || fall_back
+    }
+
+    fn safe_to_notar(&self, slot: u64, block: u64) -> bool {
+        let notar = self.notar_weight(slot, block);
+        let reaches = |weight, threshold| self.stakes.reaches(weight, threshold);
+        reaches(notar, P40) || (reaches(notar, P20) && reaches(self.skip_weight(slot) + notar, P60))
+    }
+
+    /// E: the slot may still be skipped.
+    fn rule_e(&mut self, slot: u64) -> bool {
+        let own = self.own_cell(slot);
+        if own.initial.is_none() || own.is_skip() || !self.safe_to_skip(slot) {
+            return false;
+        }
+        let skipped = self.cast_skips_in_window(slot);
+        let own = self.own_cell(slot);
+        let finished = own.final_vote;
+        let fall_back = !finished && !own.skip_fallback;
+        if fall_back {
+            self.cast(slot, Vote::SkipFallback);
+        }
+        if fall_back {
+            self.note(if skipped { "E with skips and skip-fallback" } else { "E with skip-fallback" });
+        } else if skipped {
+            self.note(if finished { "E beside an own final" } else { "E with skips only" });
+        }
+        skipped || fall_back
+    }
+
+    fn safe_to_skip(&self, slot: u64) -> bool {
+        let notars: Vec<u64> = self.notar_blocks(slot).into_iter().map(|b| self.notar_weight(slot, b)).collect();
+        let all: u64 = notars.iter().sum();
+        let largest = notars.iter().copied().max().unwrap_or(0);
+        self.stakes.reaches(self.skip_weight(slot) + all - largest, P40)
+    }
+
+    /// F: a block of the slot is final.
+    fn rule_f(&mut self, slot: u64) -> bool {
+        if self.finalized[slot as usize] {
+            return false;
+        }
+        let Some(block) = self.notar_blocks(slot).into_iter().find(|&b| self.is_final(slot, b)) else {
+            return false;
+        };
+        self.note(if self.holds(slot, Cert::FastFinal(block)) { "F by kind 1" } else { "F by kinds 2 and 5" });
+        self.finalized[slot as usize] = true;
+        self.record(RECORD_FINALIZED, slot, block);
+        true
+    }
+
+    pub fn is_final(&self, slot: u64, block: u64) -> bool {
+        self.holds(slot, Cert::FastFinal(block))
+            || (self.holds(slot, Cert::Notar(block)) && self.holds(slot, Cert::Final))
+    }
+
+    fn note_fallback(&mut self, slot: u64, block: u64, skipped: bool, fell_back: bool, finished: bool) {
+        if fell_back {
+            let by_40 = self.stakes.reaches(self.notar_weight(slot, block), P40);
+            self.note(if by_40 { "D by 40" } else { "D by 20 and 60" });
+            if self.own_cell(slot).notar_fallbacks.len() == MOST_FALLBACKS {
+                self.note("D for a third block");
+            }
+            if self.own_cell(slot).notar_block().is_some() {
+                self.note("D beside an own notar");
+            }
+        }
+        if skipped {
+            self.note(if finished { "D beside an own final" } else { "D with skips" });
+        }
+    }
+}

@@ -1,0 +1,157 @@
+//! Packets: the writers and the checkers.
+
+use crate::node::{is_slot, Cert, Node};
+use crate::refusal::Refusal;
+use crate::stakes::Stakes;
+
+/// 64 bits need ten groups of seven; the tenth has room for one bit only.
+const TENTH: usize = 9;
+
+pub fn put_number(packet: &mut Vec<u8>, mut number: u64) {
+    while number > 0x7F {
+        packet.push(number as u8 | 0x80);
+        number >>= 7;
+    }
+    packet.push(number as u8);
+}
+
+/// Takes one number off the front of the packet.
+pub fn take_number(packet: &mut &[u8]) -> Result<u64, Refusal> {
+    let mut number = 0;
+    for place in 0.. {
+        let Some((&byte, rest)) = packet.split_first() else {
+            return Err(Refusal::PacketLength);
+        };
+        *packet = rest;
+        // This also ends the loop: a tenth byte of 00 or 01 has no top bit.
+        if place == TENTH && byte > 1 {
+            return Err(Refusal::PacketNumber);
+        }
+        number |= u64::from(byte & 0x7F) << (7 * place);
+        if byte & 0x80 == 0 {
+            let shortest = place == 0 || byte != 0;
+            return if shortest { Ok(number) } else { Err(Refusal::PacketNumber) };
+        }
+    }
+    unreachable!()
+}
+
+// ---- writers ----
+
+pub fn write_cert(node: &Node, kind: u64, slot: u64, block: u64) -> Result<Vec<u8>, Refusal> {
+    let cert = Cert::of_kind(kind, block).ok_or(Refusal::NoSuchKind)?;
+    if !is_slot(slot) {
+        return Err(Refusal::NoSuchSlot);
+    }
+    if cert.needs_block() != (block != 0) {
+        return Err(Refusal::BlockNumber);
+    }
+    if !node.holds(slot, cert) {
+        return Err(Refusal::NotHeld);
+    }
+    Ok(cert_bytes(node, slot, cert))
+}
+
+pub fn write_proof(node: &Node, slot: u64, block: u64) -> Result<Vec<u8>, Refusal> {
+    if !is_slot(slot) {
+        return Err(Refusal::NoSuchSlot);
+    }
+    if block == 0 {
+        return Err(Refusal::BlockNumber);
+    }
+    if !node.is_final(slot, block) {
+        return Err(Refusal::NotHeld);
+    }
+    if node.holds(slot, Cert::FastFinal(block)) {
+        return Ok(cert_bytes(node, slot, Cert::FastFinal(block)));
+    }
+    let mut packet = cert_bytes(node, slot, Cert::Notar(block));
+    packet.extend(cert_bytes(node, slot, Cert::Final));
+    Ok(packet)
+}
+
+fn cert_bytes(node: &Node, slot: u64, cert: Cert) -> Vec<u8> {
+    let (a, b) = node.signers(slot, cert);
+    let mut packet = Vec::new();
+    for number in [cert.kind(), slot, cert.block(), a, b] {
+        put_number(&mut packet, number);
+    }
+    packet
+}
+
+// ---- checkers ----
+
+#[derive(Clone, Copy, PartialEq, Eq, Debug)]
+pub struct Checked {
+    pub kind: u64,
+    pub slot: u64,
+    pub block: u64,
+    pub count: u64,
+    pub weight: u64,
+}
+
+pub fn check(packet: &[u8], stakes: &[u64]) -> Result<Checked, Refusal> {
+    let stakes = Stakes::new(stakes)?;
+    let mut rest = packet;
+    let checked = check_one(&mut rest, &stakes)?;
+    nothing_remains(rest)?;
+    Ok(checked)
+}
+
+pub fn check_proof(packet: &[u8], stakes: &[u64]) -> Result<Checked, Refusal> {
+    let stakes = Stakes::new(stakes)?;
+    let mut rest = packet;
+    let first = check_one(&mut rest, &stakes)?;
+    match first.kind {
+        1 => {}
+        2 => {
+            let second = check_one(&mut rest, &stakes)?;
+            if second.kind != 5 || second.slot != first.slot {
+                return Err(Refusal::NotAProof);
+            }
+        }
+        _ => return Err(Refusal::NotAProof),
+    }
+    nothing_remains(rest)?;
+    Ok(first)
+}
+
+fn nothing_remains(rest: &[u8]) -> Result<(), Refusal> {
+    if rest.is_empty() {
+        Ok(())
+    } else {
+        Err(Refusal::PacketLength)
+    }
+}
+
+/// One certificate off the front. All five numbers are read before any is judged.
+fn check_one(rest: &mut &[u8], stakes: &Stakes) -> Result<Checked, Refusal> {
+    let kind = take_number(rest)?;
+    let slot = take_number(rest)?;
+    let block = take_number(rest)?;
+    let a = take_number(rest)?;
+    let b = take_number(rest)?;
+
+    let cert = Cert::of_kind(kind, block).ok_or(Refusal::NoSuchKind)?;
+    if !is_slot(slot) {
+        return Err(Refusal::NoSuchSlot);
+    }
+    if cert.needs_block() != (block != 0) {
+        return Err(Refusal::BlockNumber);
+    }
+    let beyond = (a | b) & !nodes_of_table(stakes) != 0;
+    let in_both = a & b != 0;
+    let b_not_due = b != 0 && !cert.allows_fallback_signers();
+    if beyond || in_both || b_not_due {
+        return Err(Refusal::Signers);
+    }
+    let weight = stakes.weight_of_mask(a | b);
+    if !stakes.reaches(weight, cert.threshold()) {
+        return Err(Refusal::TooLight);
+    }
+    Ok(Checked { kind, slot, block, count: u64::from((a | b).count_ones()), weight })
+}
+
+fn nodes_of_table(stakes: &Stakes) -> u64 {
+    (0..stakes.count()).map(|node| 1u64 << node).sum()
+}

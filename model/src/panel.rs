@@ -1,0 +1,193 @@
+//! The script: one command a line, one answer a command.
+
+use crate::node::{Node, Record};
+use crate::packet;
+use crate::refusal::Refusal;
+
+/// Counted without the line's end.
+pub const LONGEST_LINE: usize = 4096;
+
+const NOT_A_COMMAND: &str = "?";
+
+#[derive(Default)]
+pub struct Panel {
+    pub node: Option<Node>,
+}
+
+/// What is wrong with a line as such, before anything is asked of the node.
+struct Malformed;
+
+enum Command {
+    Start { own: u64, genesis: u64, stakes: Vec<u64> },
+    Vote { kind: u64, node: u64, slot: u64, block: u64 },
+    Block { slot: u64, number: u64, parent_slot: u64, parent: u64 },
+    Timeout { slot: u64 },
+    Look,
+    Cert { kind: u64, slot: u64, block: u64 },
+    Proof { slot: u64, block: u64 },
+    Check { packet: Vec<u8>, stakes: Vec<u64> },
+    CheckProof { packet: Vec<u8>, stakes: Vec<u64> },
+    Votes,
+}
+
+impl Panel {
+    /// The answer's lines; None for a line that is skipped.
+    pub fn line(&mut self, line: &[u8]) -> Option<Vec<String>> {
+        let words = words(line);
+        if words.is_empty() || line.starts_with(b"#") {
+            return None;
+        }
+        let command = if line.len() > LONGEST_LINE { Err(Malformed) } else { parse(&words) };
+        Some(match command {
+            Ok(command) => self.obey(command).unwrap_or_else(|refusal| vec![refusal.number().to_string()]),
+            Err(Malformed) => vec![NOT_A_COMMAND.to_string()],
+        })
+    }
+
+    fn obey(&mut self, command: Command) -> Result<Vec<String>, Refusal> {
+        let answer = match command {
+            Command::Start { own, genesis, stakes } => {
+                self.node = Some(Node::start(own, genesis, &stakes)?);
+                "0".to_string()
+            }
+            Command::Vote { kind, node, slot, block } => show_records(&self.node()?.vote(kind, node, slot, block)?),
+            Command::Block { slot, number, parent_slot, parent } => {
+                show_records(&self.node()?.block(slot, number, parent_slot, parent)?)
+            }
+            Command::Timeout { slot } => show_records(&self.node()?.timeout(slot)?),
+            Command::Look => show_records(&self.node()?.look()),
+            Command::Cert { kind, slot, block } => show_packet(&packet::write_cert(self.node()?, kind, slot, block)?),
+            Command::Proof { slot, block } => show_packet(&packet::write_proof(self.node()?, slot, block)?),
+            Command::Check { packet, stakes } => show_checked(packet::check(&packet, &stakes)?),
+            Command::CheckProof { packet, stakes } => show_checked(packet::check_proof(&packet, &stakes)?),
+            Command::Votes => return Ok(show_votes(self.node()?)),
+        };
+        Ok(vec![answer])
+    }
+
+    fn node(&mut self) -> Result<&mut Node, Refusal> {
+        self.node.as_mut().ok_or(Refusal::NoNode)
+    }
+}
+
+// ---- reading ----
+
+/// The lines of a script without their ends, LF or CRLF.
+pub fn lines(script: &[u8]) -> Vec<&[u8]> {
+    let mut lines: Vec<&[u8]> = script.split(|&byte| byte == b'\n').collect();
+    // What follows the last LF is a line only if it has bytes.
+    if lines.last().is_some_and(|last| last.is_empty()) {
+        lines.pop();
+    }
+    lines.into_iter().map(|line| line.strip_suffix(b"\r").unwrap_or(line)).collect()
+}
+
+fn words(line: &[u8]) -> Vec<&[u8]> {
+    line.split(|&byte| byte == b' ').filter(|word| !word.is_empty()).collect()
+}
+
+fn parse(words: &[&[u8]]) -> Result<Command, Malformed> {
+    let rest = &words[1..];
+    match words[0] {
+        b"start" => {
+            let mut numbers = all_numbers(rest)?;
+            if numbers.len() < 2 {
+                return Err(Malformed);
+            }
+            let stakes = numbers.split_off(2);
+            Ok(Command::Start { own: numbers[0], genesis: numbers[1], stakes })
+        }
+        b"vote" => {
+            let [kind, node, slot, block] = numbers(rest)?;
+            Ok(Command::Vote { kind, node, slot, block })
+        }
+        b"block" => {
+            let [slot, number, parent_slot, parent] = numbers(rest)?;
+            Ok(Command::Block { slot, number, parent_slot, parent })
+        }
+        b"timeout" => {
+            let [slot] = numbers(rest)?;
+            Ok(Command::Timeout { slot })
+        }
+        b"look" => numbers::<0>(rest).map(|_| Command::Look),
+        b"votes" => numbers::<0>(rest).map(|_| Command::Votes),
+        b"cert" => {
+            let [kind, slot, block] = numbers(rest)?;
+            Ok(Command::Cert { kind, slot, block })
+        }
+        b"proof" => {
+            let [slot, block] = numbers(rest)?;
+            Ok(Command::Proof { slot, block })
+        }
+        b"check" => packet_and_stakes(rest).map(|(packet, stakes)| Command::Check { packet, stakes }),
+        b"checkproof" => packet_and_stakes(rest).map(|(packet, stakes)| Command::CheckProof { packet, stakes }),
+        _ => Err(Malformed),
+    }
+}
+
+fn numbers<const N: usize>(words: &[&[u8]]) -> Result<[u64; N], Malformed> {
+    all_numbers(words)?.try_into().map_err(|_| Malformed)
+}
+
+fn all_numbers(words: &[&[u8]]) -> Result<Vec<u64>, Malformed> {
+    words.iter().map(|word| number(word)).collect()
+}
+
+fn number(word: &[u8]) -> Result<u64, Malformed> {
+    // Tested by hand: the library's parser would let a plus sign pass.
+    if !word.iter().all(u8::is_ascii_digit) {
+        return Err(Malformed);
+    }
+    std::str::from_utf8(word).map_err(|_| Malformed)?.parse().map_err(|_| Malformed)
+}
+
+fn packet_and_stakes(words: &[&[u8]]) -> Result<(Vec<u8>, Vec<u64>), Malformed> {
+    let (packet, stakes) = words.split_first().ok_or(Malformed)?;
+    Ok((hex(packet)?, all_numbers(stakes)?))
+}
+
+fn hex(word: &[u8]) -> Result<Vec<u8>, Malformed> {
+    if word == b"-" {
+        return Ok(Vec::new());
+    }
+    if word.len() % 2 != 0 {
+        return Err(Malformed);
+    }
+    word.chunks(2).map(|pair| Ok(hex_digit(pair[0])? << 4 | hex_digit(pair[1])?)).collect()
+}
+
+fn hex_digit(digit: u8) -> Result<u8, Malformed> {
+    (digit as char).to_digit(16).map(|value| value as u8).ok_or(Malformed)
+}
+
+// ---- showing ----
+
+fn show_records(records: &[Record]) -> String {
+    let mut line = format!("0 {}", records.len());
+    for r in records {
+        line += &format!(" {},{},{}", r.kind, r.slot, r.block);
+    }
+    line
+}
+
+pub fn show_hex(packet: &[u8]) -> String {
+    if packet.is_empty() {
+        return "-".to_string();
+    }
+    packet.iter().map(|byte| format!("{byte:02X}")).collect()
+}
+
+fn show_packet(packet: &[u8]) -> String {
+    format!("0 {} {}", packet.len(), show_hex(packet))
+}
+
+fn show_checked(c: packet::Checked) -> String {
+    format!("0 {} {} {} {} {}", c.kind, c.slot, c.block, c.count, c.weight)
+}
+
+fn show_votes(node: &Node) -> Vec<String> {
+    let show = |(slot, node, vote): (u64, usize, crate::node::Vote)| {
+        format!("{slot} {node} {} {}", vote.kind(), vote.block())
+    };
+    node.stored_votes().into_iter().map(show).collect()
+}

@@ -1,0 +1,718 @@
+//! The bench cases of the document, and corners that are easily missed.
+
+use crate::cover::cover;
+use crate::gen;
+use crate::node::{Cert, Node, Record};
+use crate::packet::{check, check_proof, put_number, take_number, write_cert, write_proof, Checked};
+use crate::panel::{lines, Panel};
+use crate::refusal::Refusal;
+use crate::stakes::{Stakes, P20, P40, P60, P80};
+
+// ---- helpers ----
+
+fn node(own: u64, stakes: &[u64]) -> Node {
+    Node::start(own, 1, stakes).unwrap()
+}
+
+fn ten() -> Node {
+    node(0, &[1; 10])
+}
+
+fn shown(records: Vec<Record>) -> Vec<(u64, u64, u64)> {
+    records.into_iter().map(|r| (r.kind, r.slot, r.block)).collect()
+}
+
+fn vote(node: &mut Node, kind: u64, from: u64, slot: u64, block: u64) -> Vec<(u64, u64, u64)> {
+    shown(node.vote(kind, from, slot, block).unwrap())
+}
+
+fn votes(node: &mut Node, kind: u64, from: std::ops::RangeInclusive<u64>, slot: u64, block: u64) -> Vec<(u64, u64, u64)> {
+    from.flat_map(|n| vote(node, kind, n, slot, block)).collect()
+}
+
+fn block(node: &mut Node, slot: u64, number: u64, parent_slot: u64, parent: u64) -> Vec<(u64, u64, u64)> {
+    shown(node.block(slot, number, parent_slot, parent).unwrap())
+}
+
+fn timeout(node: &mut Node, slot: u64) -> Vec<(u64, u64, u64)> {
+    shown(node.timeout(slot).unwrap())
+}
+
+fn look(node: &mut Node) -> Vec<(u64, u64, u64)> {
+    shown(node.look())
+}
+
+fn refused<T: std::fmt::Debug>(result: Result<T, Refusal>) -> u64 {
+    result.unwrap_err().number()
+}
+
+fn bytes(hex: &str) -> Vec<u8> {
+    hex.split_whitespace().map(|byte| u8::from_str_radix(byte, 16).unwrap()).collect()
+}
+
+fn run(script: &str) -> Vec<String> {
+    let mut panel = Panel::default();
+    lines(script.as_bytes()).into_iter().flat_map(|line| panel.line(line).unwrap_or_default()).collect()
+}
+
+// ---- bench cases ----
+
+#[test]
+fn b1_one_node_finalizes_its_block() {
+    let mut n = node(0, &[5]);
+    assert_eq!(block(&mut n, 1, 7, 0, 1), [(7, 1, 0), (1, 1, 7), (5, 1, 0), (6, 1, 7)]);
+}
+
+#[test]
+fn b2_timeout_skips_the_armed_window() {
+    let mut n = node(0, &[5]);
+    assert_eq!(look(&mut n), [(7, 1, 0)]);
+    assert_eq!(timeout(&mut n, 1), [(3, 1, 0), (3, 2, 0), (3, 3, 0), (3, 4, 0), (7, 5, 0)]);
+
+    let mut unlooked = node(0, &[5]);
+    assert_eq!(refused(unlooked.timeout(1)), 10);
+}
+
+#[test]
+fn b3_thresholds_of_certificates() {
+    let ten = Stakes::new(&[10]).unwrap();
+    assert!(ten.reaches(6, P60) && !ten.reaches(5, P60));
+    assert!(ten.reaches(8, P80) && !ten.reaches(7, P80));
+    let eleven = Stakes::new(&[11]).unwrap();
+    assert!(eleven.reaches(7, P60) && !eleven.reaches(6, P60));
+    assert!(eleven.reaches(9, P80) && !eleven.reaches(8, P80));
+}
+
+#[test]
+fn b3_as_held_certificates() {
+    for (total, notar, fast) in [(10u64, 6u64, 8u64), (11, 7, 9)] {
+        let mut n = node(0, &vec![1; total as usize]);
+        for signed in 1..total {
+            vote(&mut n, 1, signed, 2, 9);
+            assert_eq!(n.holds(2, Cert::Notar(9)), signed >= notar, "{signed} of {total}");
+            assert_eq!(n.holds(2, Cert::FastFinal(9)), signed >= fast, "{signed} of {total}");
+        }
+    }
+}
+
+#[test]
+fn b4_no_fallback_after_the_own_final() {
+    let mut n = ten();
+    assert_eq!(block(&mut n, 1, 7, 0, 1), [(7, 1, 0), (1, 1, 7)]);
+    assert_eq!(votes(&mut n, 1, 1..=4, 1, 7), []);
+    assert_eq!(vote(&mut n, 1, 5, 1, 7), [(5, 1, 0)]);
+    assert_eq!(votes(&mut n, 3, 6..=8, 1, 0), []);
+    assert_eq!(vote(&mut n, 3, 9, 1, 0), [(3, 2, 0), (3, 3, 0), (3, 4, 0)]);
+    assert!(!n.own_cell(1).skip_fallback);
+}
+
+#[test]
+fn b5_three_fallbacks_lowest_first() {
+    let mut n = ten();
+    look(&mut n);
+    assert_eq!(timeout(&mut n, 1)[0], (3, 1, 0));
+    votes(&mut n, 3, 1..=2, 1, 0);
+    // The order in which the blocks came is not theirs by number.
+    assert_eq!(votes(&mut n, 1, 4..=5, 1, 23), []);
+    assert_eq!(votes(&mut n, 1, 6..=7, 1, 21), []);
+    assert_eq!(votes(&mut n, 1, 8..=9, 1, 22), []);
+    assert_eq!(vote(&mut n, 3, 3, 1, 0), [(2, 1, 21), (2, 1, 22), (2, 1, 23)]);
+}
+
+#[test]
+fn b6_two_votes_of_one_node_weigh_once() {
+    let mut n = ten();
+    votes(&mut n, 3, 1..=5, 3, 0);
+    votes(&mut n, 4, 1..=5, 3, 0);
+    assert!(!n.holds(3, Cert::Skip));
+    assert_eq!(refused(write_cert(&n, 4, 3, 0)), 18);
+    vote(&mut n, 4, 6, 3, 0);
+    assert!(n.holds(3, Cert::Skip));
+    assert_eq!(n.signers(3, Cert::Skip), (0b11_1110, 0b100_0000));
+}
+
+#[test]
+fn b7_kinds_2_and_4_side_by_side() {
+    let mut n = node(9, &[1; 10]);
+    votes(&mut n, 1, 0..=5, 2, 7);
+    votes(&mut n, 3, 6..=8, 2, 0);
+    look(&mut n);
+    // The own node is the fourth that skips.
+    assert_eq!(timeout(&mut n, 2)[..4], [(3, 1, 0), (3, 2, 0), (3, 3, 0), (3, 4, 0)]);
+    assert!(n.holds(2, Cert::Notar(7)) && !n.holds(2, Cert::Skip));
+    votes(&mut n, 4, 0..=1, 2, 0);
+    assert!(n.holds(2, Cert::Notar(7)) && n.holds(2, Cert::Skip));
+    assert!(write_cert(&n, 2, 2, 7).is_ok() && write_cert(&n, 4, 2, 0).is_ok());
+}
+
+#[test]
+fn b8_numbers() {
+    for (number, hex) in [(0, "00"), (127, "7F"), (128, "80 01"), (300, "AC 02")] {
+        let mut packet = Vec::new();
+        put_number(&mut packet, number);
+        assert_eq!(packet, bytes(hex));
+        assert_eq!(take_number(&mut packet.as_slice()), Ok(number));
+    }
+    assert_eq!(refused(take_number(&mut bytes("80 00").as_slice())), 13);
+    assert_eq!(refused(check(&bytes("80 00"), &[5])), 13);
+}
+
+#[test]
+fn b9_proofs() {
+    let mut n = node(0, &[5]);
+    block(&mut n, 1, 7, 0, 1);
+    let proof = write_proof(&n, 1, 7).unwrap();
+    assert_eq!(proof, bytes("01 01 07 01 00"));
+    let answer = Checked { kind: 1, slot: 1, block: 7, count: 1, weight: 5 };
+    assert_eq!(check_proof(&proof, &[5]), Ok(answer));
+    let slow = bytes("02 01 07 01 00 05 01 00 01 00");
+    assert_eq!(check_proof(&slow, &[5]), Ok(Checked { kind: 2, ..answer }));
+}
+
+#[test]
+fn b10_parent_over_skipped_slots() {
+    for missing in [None, Some(3), Some(4)] {
+        let mut n = ten();
+        look(&mut n);
+        votes(&mut n, 1, 1..=3, 2, 7);
+        votes(&mut n, 2, 4..=6, 2, 7);
+        assert!(n.holds(2, Cert::NotarFallback(7)) && !n.holds(2, Cert::Notar(7)));
+        for slot in [3, 4] {
+            let voters = if missing == Some(slot) { 1..=5 } else { 1..=6 };
+            votes(&mut n, 3, voters, slot, 0);
+        }
+        assert_eq!(n.ready(5, 2, 7), missing.is_none());
+        assert_eq!(n.is_armed(5), missing.is_none());
+        let voted = block(&mut n, 5, 50, 2, 7);
+        assert_eq!(voted.contains(&(1, 5, 50)), missing.is_none());
+    }
+}
+
+/// Nodes 0, 1 stand by block 7, nodes 2, 3 by block 8, and node 4 shows each
+/// side another vote.
+#[test]
+fn b11_a_faulty_fifth_gives_two_proofs() {
+    let side = |own: u64, block_number: u64, fellow: u64| {
+        let mut n = node(own, &[1; 5]);
+        block(&mut n, 1, block_number, 0, 1);
+        vote(&mut n, 1, fellow, 1, block_number);
+        assert_eq!(vote(&mut n, 1, 4, 1, block_number)[0], (5, 1, 0));
+        vote(&mut n, 5, fellow, 1, 0);
+        assert_eq!(vote(&mut n, 5, 4, 1, 0), [(6, 1, block_number)]);
+        write_proof(&n, 1, block_number).unwrap()
+    };
+    let one = side(0, 7, 1);
+    let other = side(2, 8, 3);
+    assert_eq!(check_proof(&one, &[1; 5]).unwrap().block, 7);
+    assert_eq!(check_proof(&other, &[1; 5]).unwrap().block, 8);
+}
+
+// ---- sizes ----
+
+#[test]
+fn start_refuses_what_breaks_the_sizes() {
+    let start = |own, genesis, stakes: &[u64]| Node::start(own, genesis, stakes).map(|_| ()).map_err(Refusal::number);
+    assert_eq!(start(0, 1, &[]), Err(1));
+    assert_eq!(start(0, 1, &[1; 65]), Err(1));
+    assert_eq!(start(63, u64::MAX, &[1; 64]), Ok(()));
+    assert_eq!(start(64, 1, &[1; 64]), Err(1));
+    assert_eq!(start(1, 1, &[1]), Err(1));
+    assert_eq!(start(0, 0, &[1]), Err(1));
+    assert_eq!(start(0, 1, &[1, 0, 1]), Err(1));
+    assert_eq!(start(0, 1, &[1 << 48]), Ok(()));
+    assert_eq!(start(0, 1, &[1 << 48, 1]), Err(1));
+    assert_eq!(start(0, 1, &[1 << 63, 1 << 63, 4]), Err(1));
+}
+
+#[test]
+fn largest_total_does_not_overflow() {
+    let half = 1 << 47;
+    let stakes = Stakes::new(&[half, half]).unwrap();
+    assert!(stakes.reaches(half, P40) && !stakes.reaches(half, P60));
+    let fifth = (1u64 << 48).div_ceil(5);
+    assert!(stakes.reaches(fifth, P20) && !stakes.reaches(fifth - 1, P20));
+}
+
+// ---- refusals and their order ----
+
+#[test]
+fn vote_refusals_in_order() {
+    let mut n = ten();
+    assert_eq!(refused(n.vote(0, 99, 0, 7)), 4);
+    assert_eq!(refused(n.vote(6, 99, 0, 7)), 4);
+    assert_eq!(refused(n.vote(1, 99, 17, 0)), 3);
+    assert_eq!(refused(n.vote(1, 10, 16, 0)), 2);
+    assert_eq!(refused(n.vote(1, 0, 16, 0)), 6);
+    assert_eq!(refused(n.vote(1, 1, 16, 0)), 5);
+    assert_eq!(refused(n.vote(2, 1, 16, 0)), 5);
+    for kind in 3..=5 {
+        assert_eq!(refused(n.vote(kind, 1, 16, 7)), 5);
+    }
+    assert!(n.stored_votes().is_empty());
+}
+
+#[test]
+fn repeats_and_second_votes() {
+    let mut n = ten();
+    vote(&mut n, 1, 1, 2, 7);
+    assert_eq!(refused(n.vote(1, 1, 2, 7)), 7);
+    assert_eq!(refused(n.vote(1, 1, 2, 8)), 8);
+    assert_eq!(refused(n.vote(3, 1, 2, 0)), 8);
+    vote(&mut n, 3, 2, 2, 0);
+    assert_eq!(refused(n.vote(3, 2, 2, 0)), 7);
+    assert_eq!(refused(n.vote(1, 2, 2, 7)), 8);
+    for kind in [4, 5] {
+        vote(&mut n, kind, 1, 2, 0);
+        assert_eq!(refused(n.vote(kind, 1, 2, 0)), 7);
+    }
+    // A fallback to the block that the node notarized is stored.
+    for b in [7, 9, 8] {
+        vote(&mut n, 2, 1, 2, b);
+    }
+    for b in [7, 8, 9] {
+        assert_eq!(refused(n.vote(2, 1, 2, b)), 7);
+    }
+    assert_eq!(refused(n.vote(2, 1, 2, 10)), 8);
+    // Other slots and other nodes have places of their own.
+    vote(&mut n, 1, 1, 3, 8);
+    vote(&mut n, 2, 3, 2, 10);
+}
+
+#[test]
+fn block_refusals_in_order() {
+    let mut n = ten();
+    assert_eq!(refused(n.block(0, 0, 0, 0)), 3);
+    assert_eq!(refused(n.block(17, 0, 0, 0)), 3);
+    assert_eq!(refused(n.block(2, 0, 2, 1)), 5);
+    assert_eq!(refused(n.block(2, 5, 2, 0)), 5);
+    assert_eq!(refused(n.block(2, 5, 2, 1)), 11);
+    assert_eq!(refused(n.block(2, 5, u64::MAX, 1)), 11);
+    assert_eq!(refused(n.block(2, 5, 0, 2)), 11);
+    block(&mut n, 2, 5, 0, 1);
+    assert_eq!(refused(n.block(2, 5, 0, 1)), 7);
+    assert_eq!(refused(n.block(2, 5, 0, 2)), 11);
+    assert_eq!(refused(n.block(2, 5, 1, 1)), 8);
+    assert_eq!(refused(n.block(2, 6, 0, 1)), 8);
+}
+
+#[test]
+fn timeout_refusals_in_order() {
+    let mut n = ten();
+    assert_eq!(refused(n.timeout(0)), 3);
+    assert_eq!(refused(n.timeout(17)), 3);
+    assert_eq!(refused(n.timeout(1)), 10);
+    look(&mut n);
+    timeout(&mut n, 2);
+    assert_eq!(refused(n.timeout(2)), 7);
+    assert_eq!(refused(n.timeout(5)), 10);
+    assert_eq!(timeout(&mut n, 1), []);
+}
+
+#[test]
+fn a_refused_input_runs_no_rule() {
+    let mut n = ten();
+    assert_eq!(refused(n.vote(1, 0, 1, 7)), 6);
+    assert_eq!(refused(n.timeout(4)), 10);
+    assert_eq!(look(&mut n), [(7, 1, 0)]);
+}
+
+#[test]
+fn writer_refusals_in_order() {
+    let n = ten();
+    assert_eq!(refused(write_cert(&n, 0, 0, 0)), 4);
+    assert_eq!(refused(write_cert(&n, 6, 17, 0)), 4);
+    assert_eq!(refused(write_cert(&n, 1, 17, 0)), 3);
+    assert_eq!(refused(write_cert(&n, 3, 16, 0)), 5);
+    assert_eq!(refused(write_cert(&n, 4, 16, 1)), 5);
+    assert_eq!(refused(write_cert(&n, 5, 16, 0)), 18);
+    assert_eq!(refused(write_proof(&n, 0, 0)), 3);
+    assert_eq!(refused(write_proof(&n, 1, 0)), 5);
+    assert_eq!(refused(write_proof(&n, 1, 1)), 18);
+}
+
+// ---- voting ----
+
+#[test]
+fn timeout_for_a_slot_with_a_vote_casts_nothing() {
+    let mut n = ten();
+    block(&mut n, 1, 7, 0, 1);
+    assert_eq!(timeout(&mut n, 1), []);
+    assert_eq!(timeout(&mut n, 3), [(3, 2, 0), (3, 3, 0), (3, 4, 0)]);
+    assert_eq!(refused(n.timeout(1)), 7);
+}
+
+#[test]
+fn later_slot_needs_the_own_notar_next_door() {
+    let mut n = ten();
+    assert_eq!(block(&mut n, 2, 8, 1, 7), [(7, 1, 0)]);
+    // Slot 1 goes to another block: no vote for slot 2.
+    assert_eq!(block(&mut n, 1, 9, 0, 1), [(1, 1, 9)]);
+    let mut m = ten();
+    block(&mut m, 3, 30, 2, 8);
+    block(&mut m, 2, 8, 1, 7);
+    assert_eq!(block(&mut m, 1, 7, 0, 1), [(1, 1, 7), (1, 2, 8), (1, 3, 30)]);
+    // A parent two slots down is of no use inside a window.
+    assert_eq!(block(&mut m, 4, 40, 2, 8), []);
+}
+
+#[test]
+fn first_slot_asks_for_the_kept_blocks_own_parent() {
+    let mut n = ten();
+    look(&mut n);
+    // Armed by block 7, while the kept block builds on 8.
+    assert_eq!(block(&mut n, 5, 50, 4, 8), []);
+    assert_eq!(votes(&mut n, 1, 1..=6, 4, 7), [(7, 5, 0)]);
+    assert_eq!(votes(&mut n, 2, 1..=5, 4, 8), []);
+    assert_eq!(vote(&mut n, 2, 6, 4, 8), [(1, 5, 50)]);
+}
+
+#[test]
+fn skips_through_every_window() {
+    let mut n = node(0, &[5]);
+    look(&mut n);
+    for first in [1, 5, 9] {
+        assert_eq!(*timeout(&mut n, first).last().unwrap(), (7, first + 4, 0));
+    }
+    // Genesis is ready over twelve skipped slots.
+    assert_eq!(block(&mut n, 13, 9, 0, 1), [(1, 13, 9), (5, 13, 0), (6, 13, 9)]);
+    assert_eq!(timeout(&mut n, 14), [(3, 14, 0), (3, 15, 0), (3, 16, 0)]);
+}
+
+#[test]
+fn fallback_by_40() {
+    let mut n = ten();
+    block(&mut n, 1, 7, 0, 1);
+    assert_eq!(votes(&mut n, 1, 1..=3, 1, 8), []);
+    // 40 on 8 is also 40 beside the largest only if 7 is the larger: it is not.
+    assert_eq!(vote(&mut n, 1, 4, 1, 8), [(3, 2, 0), (3, 3, 0), (3, 4, 0), (2, 1, 8)]);
+}
+
+#[test]
+fn fallback_by_20_and_60() {
+    let mut n = ten();
+    look(&mut n);
+    timeout(&mut n, 1);
+    votes(&mut n, 3, 1..=3, 1, 0);
+    assert_eq!(vote(&mut n, 1, 4, 1, 8), []);
+    assert_eq!(vote(&mut n, 1, 5, 1, 8), [(2, 1, 8)]);
+    // 19 percent is not enough, however much skips.
+    let mut m = node(0, &[62, 19, 19]);
+    look(&mut m);
+    timeout(&mut m, 1);
+    assert_eq!(vote(&mut m, 1, 1, 1, 8), []);
+}
+
+#[test]
+fn skip_fallbacks_count_for_the_certificate_but_not_for_d() {
+    let mut n = ten();
+    look(&mut n);
+    timeout(&mut n, 1);
+    votes(&mut n, 4, 1..=5, 1, 0);
+    assert!(n.holds(1, Cert::Skip));
+    assert_eq!(votes(&mut n, 1, 6..=8, 1, 8), []);
+}
+
+#[test]
+fn skip_fallback_by_skips_and_other_blocks() {
+    let mut n = ten();
+    block(&mut n, 1, 7, 0, 1);
+    vote(&mut n, 1, 1, 1, 7);
+    vote(&mut n, 1, 2, 1, 8);
+    votes(&mut n, 3, 3..=4, 1, 0);
+    assert_eq!(vote(&mut n, 3, 5, 1, 0), [(3, 2, 0), (3, 3, 0), (3, 4, 0), (4, 1, 0)]);
+    // After the fallback the certificate for 7 brings no final vote.
+    assert_eq!(votes(&mut n, 1, 6..=9, 1, 7), []);
+    assert!(n.holds(1, Cert::Notar(7)) && !n.own_cell(1).final_vote);
+}
+
+#[test]
+fn both_fallbacks_in_one_slot() {
+    let mut n = node(0, &[1, 2, 2]);
+    block(&mut n, 1, 7, 0, 1);
+    // D comes before E, and its skips leave E the fallback alone.
+    assert_eq!(vote(&mut n, 1, 1, 1, 8), [(3, 2, 0), (3, 3, 0), (3, 4, 0), (2, 1, 8)]);
+    assert_eq!(vote(&mut n, 3, 2, 1, 0), [(4, 1, 0)]);
+}
+
+#[test]
+fn another_block_at_40_beside_an_own_final() {
+    let mut n = ten();
+    block(&mut n, 1, 7, 0, 1);
+    assert_eq!(votes(&mut n, 1, 1..=5, 1, 7), [(5, 1, 0)]);
+    assert_eq!(votes(&mut n, 1, 6..=8, 1, 8), []);
+    assert_eq!(vote(&mut n, 1, 9, 1, 8), [(3, 2, 0), (3, 3, 0), (3, 4, 0)]);
+}
+
+#[test]
+fn fallback_to_a_block_never_announced() {
+    let mut n = ten();
+    look(&mut n);
+    timeout(&mut n, 4);
+    assert_eq!(votes(&mut n, 1, 1..=4, 3, 99), [(2, 3, 99)]);
+}
+
+#[test]
+fn no_fallback_before_the_own_initial_vote() {
+    let mut n = ten();
+    look(&mut n);
+    assert_eq!(votes(&mut n, 1, 1..=5, 1, 8), []);
+    assert_eq!(timeout(&mut n, 1), [(3, 1, 0), (3, 2, 0), (3, 3, 0), (3, 4, 0), (2, 1, 8)]);
+}
+
+#[test]
+fn fallback_votes_are_no_stake_for_d() {
+    let mut n = ten();
+    look(&mut n);
+    timeout(&mut n, 1);
+    assert_eq!(votes(&mut n, 2, 1..=9, 1, 8), []);
+    assert!(n.holds(1, Cert::NotarFallback(8)) && !n.holds(1, Cert::Notar(8)));
+}
+
+#[test]
+fn finality_is_recorded_once_and_needs_no_own_vote() {
+    let mut n = ten();
+    look(&mut n);
+    votes(&mut n, 5, 1..=6, 4, 0);
+    assert_eq!(votes(&mut n, 1, 1..=6, 4, 7), [(6, 4, 7), (7, 5, 0)]);
+    assert_eq!(votes(&mut n, 1, 7..=9, 4, 7), []);
+    let mut fast = ten();
+    look(&mut fast);
+    assert_eq!(votes(&mut fast, 1, 1..=8, 3, 7), [(6, 3, 7)]);
+}
+
+#[test]
+fn own_skips_of_a_timeout_come_before_the_rules() {
+    let mut n = ten();
+    look(&mut n);
+    for slot in 1..=4 {
+        votes(&mut n, 3, 1..=5, slot, 0);
+    }
+    assert_eq!(timeout(&mut n, 3), [(3, 1, 0), (3, 2, 0), (3, 3, 0), (3, 4, 0), (7, 5, 0)]);
+}
+
+// ---- packets ----
+
+#[test]
+fn ten_byte_numbers() {
+    let take = |hex: &str| take_number(&mut bytes(hex).as_slice()).map_err(Refusal::number);
+    assert_eq!(take("FF FF FF FF FF FF FF FF FF 01"), Ok(u64::MAX));
+    assert_eq!(take("80 80 80 80 80 80 80 80 80 01"), Ok(1 << 63));
+    assert_eq!(take("FF FF FF FF FF FF FF FF 7F"), Ok(u64::MAX >> 1));
+    assert_eq!(take("FF FF FF FF FF FF FF FF FF 00"), Err(13));
+    assert_eq!(take("FF FF FF FF FF FF FF FF FF 02"), Err(13));
+    // Above 01 there and then, though more would follow.
+    assert_eq!(take("80 80 80 80 80 80 80 80 80 80"), Err(13));
+    assert_eq!(take("80 80 80 80 80 80 80 80 80 81"), Err(13));
+    assert_eq!(take("80 80 80 80 80 80 80 80 80"), Err(12));
+    assert_eq!(take(""), Err(12));
+    assert_eq!(take("80"), Err(12));
+    assert_eq!(take("80 80 00"), Err(13));
+    assert_eq!(take("FF 00"), Err(13));
+}
+
+#[test]
+fn the_longest_packets_fit_their_buffers() {
+    let mut n = node(0, &[1; 64]);
+    votes(&mut n, 1, 13..=63, 16, u64::MAX);
+    votes(&mut n, 2, 1..=12, 16, u64::MAX);
+    assert!(write_cert(&n, 3, 16, u64::MAX).unwrap().len() <= 32);
+    votes(&mut n, 5, 20..=63, 16, 0);
+    assert!(write_proof(&n, 16, u64::MAX).unwrap().len() <= 64);
+}
+
+#[test]
+fn a_node_with_both_votes_is_in_mask_a_alone() {
+    let mut n = ten();
+    look(&mut n);
+    votes(&mut n, 1, 1..=4, 2, 7);
+    votes(&mut n, 2, 3..=7, 2, 7);
+    assert_eq!(n.signers(2, Cert::NotarFallback(7)), (0b1_1110, 0b1110_0000));
+    let packet = write_cert(&n, 3, 2, 7).unwrap();
+    assert_eq!(packet, bytes("03 02 07 1E E0 01"));
+    assert_eq!(check(&packet, &[1; 10]), Ok(Checked { kind: 3, slot: 2, block: 7, count: 7, weight: 7 }));
+}
+
+#[test]
+fn checker_refusals_in_order() {
+    let no = |hex: &str, stakes: &[u64]| refused(check(&bytes(hex), stakes));
+    assert_eq!(no("80 00", &[]), 1);
+    assert_eq!(no("80 00", &[0]), 1);
+    assert_eq!(no("", &[5]), 12);
+    assert_eq!(no("00 00 00 00", &[5]), 12);
+    assert_eq!(no("00 00 00 00 80", &[5]), 12);
+    assert_eq!(no("00 80 00", &[5]), 13);
+    assert_eq!(no("00 00 00 06 02 00", &[5]), 4);
+    assert_eq!(no("06 00 00 06 02 00", &[5]), 4);
+    assert_eq!(no("01 00 00 06 02 00", &[5]), 3);
+    assert_eq!(no("01 11 00 06 02 00", &[5]), 3);
+    assert_eq!(no("01 10 00 06 02 00", &[5]), 5);
+    assert_eq!(no("04 10 01 06 02 00", &[5]), 5);
+    assert_eq!(no("01 10 01 02 00 00", &[5]), 14);
+    assert_eq!(no("03 10 01 00 02 00", &[5]), 14);
+    assert_eq!(no("03 10 01 01 01 00", &[5]), 14);
+    assert_eq!(no("01 10 01 00 01 00", &[5]), 14);
+    assert_eq!(no("02 10 01 00 01 00", &[5]), 14);
+    assert_eq!(no("05 10 00 00 01 00", &[5]), 14);
+    assert_eq!(no("01 10 01 00 00 00", &[5]), 15);
+    assert_eq!(no("01 10 01 01 00 00", &[5]), 12);
+    assert_eq!(no("05 01 00 1F 00", &[1; 9]), 15);
+    assert_eq!(no("01 01 07 07 00", &[1; 4]), 15);
+}
+
+#[test]
+fn mask_b_alone_carries_kinds_3_and_4() {
+    let good = |kind, block| Checked { kind, slot: 16, block, count: 1, weight: 5 };
+    assert_eq!(check(&bytes("03 10 01 00 01"), &[5]), Ok(good(3, 1)));
+    assert_eq!(check(&bytes("04 10 00 00 01"), &[5]), Ok(good(4, 0)));
+}
+
+#[test]
+fn proof_refusals_in_order() {
+    let no = |hex: &str| refused(check_proof(&bytes(hex), &[5]));
+    // The first certificate whole, then its kind, whatever follows.
+    assert_eq!(no("03 01 07 00 00 80 00"), 15);
+    for first in ["03 01 07 01 00", "04 01 00 01 00", "05 01 00 01 00"] {
+        assert_eq!(no(first), 16);
+        assert_eq!(no(&format!("{first} 80 00")), 16);
+    }
+    // The second whole, then its kind and slot.
+    assert_eq!(no("02 01 07 01 00"), 12);
+    assert_eq!(no("02 01 07 01 00 80 00"), 13);
+    assert_eq!(no("02 01 07 01 00 06 02 00 00 00"), 4);
+    assert_eq!(no("02 01 07 01 00 05 02 00 00 00"), 15);
+    assert_eq!(no("02 01 07 01 00 05 02 00 01 00"), 16);
+    assert_eq!(no("02 01 07 01 00 04 01 00 01 00 00"), 16);
+    assert_eq!(no("02 01 07 01 00 02 01 07 01 00"), 16);
+    // Leftover bytes last.
+    assert_eq!(no("02 01 07 01 00 05 01 00 01 00 00"), 12);
+    assert_eq!(no("01 01 07 01 00 05 01 00 01 00"), 12);
+}
+
+#[test]
+fn the_writer_prefers_kind_1() {
+    let mut n = ten();
+    look(&mut n);
+    votes(&mut n, 5, 1..=6, 2, 0);
+    votes(&mut n, 1, 1..=6, 2, 7);
+    assert_eq!(write_proof(&n, 2, 7).unwrap(), bytes("02 02 07 7E 00 05 02 00 7E 00"));
+    votes(&mut n, 1, 7..=8, 2, 7);
+    assert_eq!(write_proof(&n, 2, 7).unwrap(), bytes("01 02 07 FE 03 00"));
+    assert_eq!(refused(write_proof(&n, 2, 8)), 18);
+}
+
+// ---- the script ----
+
+#[test]
+fn commands_before_a_start() {
+    let script = "look\nvote 9 9 9 9\nvotes\ncheck - 5\nstart 0 0 1\nlook\nstart 0 1\nstart 0 1 1\nlook";
+    assert_eq!(run(script), ["17", "17", "17", "12", "1", "17", "1", "0", "0 1 7,1,0"]);
+}
+
+#[test]
+fn a_refused_start_leaves_the_node() {
+    let script = "start 0 1 1 1\nvote 3 1 2 0\nstart 0 1 0\nvotes\nstart 0 1 1 1\nvotes\nlook";
+    assert_eq!(run(script), ["0", "0 1 7,1,0", "1", "2 1 3 0", "0", "0 1 7,1,0"]);
+}
+
+#[test]
+fn stored_votes_are_shown_in_order() {
+    let script = "start 0 1 1 1 1 1 1 1\nvote 5 2 1 0\nvote 2 2 1 9\nvote 4 2 1 0\nvote 2 2 1 10\nvote 3 2 1 0\nvote 1 1 1 7\nvotes";
+    assert_eq!(run(script)[7..], ["1 1 1 7", "1 2 2 9", "1 2 2 10", "1 2 3 0", "1 2 4 0", "1 2 5 0"]);
+}
+
+#[test]
+fn layout_of_lines() {
+    assert_eq!(run("# c\r\n\r\nstart  0   1 5\r\n\nblock 1 007 0 1"), ["0", "0 4 7,1,0 1,1,7 5,1,0 6,1,7"]);
+    assert_eq!(run("start 0 1 5\nblock 1 7 0 1\nproof 1 7\ncert 5 1 0")[2..], ["0 5 0101070100", "0 5 0501000100"]);
+    assert_eq!(run("check 02010aFf0100 1 1 1 1 1 1 1 1"), ["0 2 1 10 8 8"]);
+    assert_eq!(run("check -\ncheckproof 0101070100\ncheck"), ["1", "1", "?"]);
+}
+
+#[test]
+fn lines_that_are_not_commands() {
+    for line in ["look 1", "Look", "vote 1 1 1", "vote 1 1 1 +7", "vote 1 1 1 18446744073709551616", "start 0", "check 0 1", "check 0g 1", "lo\tok", "timeout"] {
+        assert_eq!(run(line), ["?"], "{line}");
+    }
+    let spaced = |length: usize| format!("vote 1{}1 1 7", " ".repeat(length - 11));
+    assert_eq!(run(&spaced(4096)), ["17"]);
+    assert_eq!(run(&spaced(4097)), ["?"]);
+}
+
+// ---- the generator ----
+
+#[test]
+fn scripts_are_set_by_their_seed() {
+    for seed in 0..50 {
+        assert_eq!(gen::script(seed).text, gen::script(seed).text);
+    }
+    assert_ne!(gen::script(1).text, gen::script(2).text);
+}
+
+#[test]
+fn scripts_are_of_fair_size_and_end_with_the_votes() {
+    for seed in 0..300 {
+        let text = gen::script(seed).text;
+        let count = lines(text.as_bytes()).len();
+        assert!((1..=330).contains(&count), "seed {seed}: {count} lines");
+        assert!(text.contains("votes"));
+    }
+}
+
+/// Every refusal that a command can give, by command.
+const POSSIBLE: &[(&str, &[u64])] = &[
+    ("start", &[0, 1]),
+    ("vote", &[0, 2, 3, 4, 5, 6, 7, 8, 17]),
+    ("block", &[0, 3, 5, 7, 8, 11, 17]),
+    ("timeout", &[0, 3, 7, 10, 17]),
+    ("look", &[0, 17]),
+    ("cert", &[0, 3, 4, 5, 17, 18]),
+    ("proof", &[0, 3, 5, 17, 18]),
+    ("check", &[0, 1, 3, 4, 5, 12, 13, 14, 15]),
+    ("checkproof", &[0, 1, 3, 4, 5, 12, 13, 14, 15, 16]),
+    ("votes", &[0, 17]),
+];
+
+const BRANCHES: &[&str] = &[
+    "A with a parent next door",
+    "A over skipped slots only",
+    "B in a first slot, parent next door",
+    "B in a first slot, parent over skipped slots",
+    "B in a later slot",
+    "C",
+    "D by 40",
+    "D by 20 and 60",
+    "D for a third block",
+    "D with skips",
+    "D beside an own final",
+    "D beside an own notar",
+    "E with skip-fallback",
+    "E with skips and skip-fallback",
+    "E beside an own final",
+    "F by kind 1",
+    "F by kinds 2 and 5",
+    "timeout that skips",
+    "timeout that casts nothing",
+    "cert written: kind 3 with fallback signers",
+    "cert written: kind 4 with fallback signers",
+    "proof written: kind 1",
+    "proof written: kind 2 then 5",
+];
+
+#[test]
+fn five_hundred_scripts_reach_everything() {
+    let seen = cover(1, 500);
+    for (command, numbers) in POSSIBLE {
+        for number in *numbers {
+            let times = seen.answers(command, &number.to_string());
+            assert!(times >= 10, "{command} answered {number} only {times} times");
+        }
+    }
+    for kind in 1..=7 {
+        assert!(seen.records(kind) >= 50, "few records of kind {kind}");
+    }
+    for what in BRANCHES {
+        assert!(seen.notes(what) >= 20, "few of: {what}");
+    }
+    // A life from a fresh start has room for no more than these.
+    assert!(seen.most_records_in_a_call <= 67 && seen.most_records_in_a_life <= 68);
+}
