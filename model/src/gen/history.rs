@@ -547,7 +547,7 @@ pub fn standoffs(w: &mut Writer) {
     let numbers = Numbers::any(&mut w.random, w.ring.genesis);
     let mut first = 1;
     while first <= LAST_SLOT && !w.full() {
-        let last_voted = first + w.random.pick(&[0, 0, 1, 2, 3]);
+        let last_voted = first + w.random.pick(&[0, 0, 1, 1, 2, 3]);
         for slot in first..=last_voted {
             let blocks = some_order(&mut w.random, numbers.of_slot(slot));
             announce(w, &numbers, slot, blocks[0]);
@@ -555,7 +555,7 @@ pub fn standoffs(w: &mut Writer) {
             w.random.shuffle(&mut camps);
             camp_votes(w, &[0, camps[0], camps[1]], slot, M, &blocks);
             if slot == last_voted || w.random.percent(30) {
-                let leans = w.random.pick(&[[A, A], [S, S], [A, S], [A, N], [A, B]]);
+                let leans = w.random.pick(&[[A, A], [A, A], [A, A], [S, S], [A, S], [A, N], [A, B]]);
                 camp_votes(w, &[camps[2]], slot, leans[0], &blocks);
                 camp_votes(w, &[camps[3]], slot, leans[1], &blocks);
             }

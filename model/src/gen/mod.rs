@@ -34,7 +34,7 @@ pub fn script(seed: u64) -> Script {
         15..=17 => pushes(random),
         18 => brink(random),
         19..=21 => avalanche(random),
-        22 | 23 => standoffs(random),
+        22..=24 => standoffs(random),
         _ => history(random),
     }
 }
