@@ -581,6 +581,42 @@ fn camp_votes(w: &mut Writer, camps: &[usize], slot: u64, lean: Lean, blocks: &[
     }
 }
 
+/// A parent and a first slot any distance apart, with the skipped slots
+/// between brought in any order; now and then a pier is missing.
+pub fn bridges(w: &mut Writer) {
+    let numbers = Numbers::any(&mut w.random, w.ring.genesis);
+    let first = w.random.pick(&[5, 9, 9, 13, 13, 13]);
+    let parent_slot = w.random.below(first);
+    let block = w.random.pick(&numbers.of_slot(parent_slot));
+    let mut piers: Vec<(u64, Cert)> = (parent_slot + 1..first).map(|slot| (slot, Cert::Skip)).collect();
+    if parent_slot > 0 {
+        piers.push((parent_slot, Cert::NotarFallback(block)));
+    }
+    if w.random.percent(30) {
+        // A second, nearer parent makes two ready at once.
+        let slot = w.random.range(1, first - 1);
+        piers.push((slot, Cert::Notar(numbers.of_slot(slot)[0])));
+    }
+    if w.random.percent(60) {
+        w.random.shuffle(&mut piers);
+    }
+    if w.random.percent(25) {
+        let at = w.random.index(piers.len());
+        piers.remove(at);
+    }
+    let number = w.random.pick(&numbers.of_slot(first));
+    let parent = if parent_slot == 0 { w.ring.genesis } else { block };
+    let announced = format!("block {first} {number} {parent_slot} {parent}");
+    if w.random.percent(50) {
+        w.say(announced.as_str());
+    }
+    for (slot, cert) in piers {
+        push(w, cert, slot);
+    }
+    w.say(announced);
+    w.say(format!("timeout {first}"));
+}
+
 pub fn ring_for_history(random: &mut Random) -> Ring {
     match random.below(10) {
         0..=3 => {

@@ -35,6 +35,7 @@ pub fn script(seed: u64) -> Script {
         18 => brink(random),
         19..=21 => avalanche(random),
         22..=24 => standoffs(random),
+        25 | 26 => bridges(random),
         _ => history(random),
     }
 }
@@ -100,6 +101,13 @@ fn standoffs(mut random: Random) -> Script {
     let ring = Ring::of_fifths(&mut random, nodes);
     let mut w = begin(random, ring, 100, 200);
     history::standoffs(&mut w);
+    finish_with_audit(w, 5)
+}
+
+fn bridges(mut random: Random) -> Script {
+    let ring = Ring::small(&mut random);
+    let mut w = begin(random, ring, 150, 250);
+    history::bridges(&mut w);
     finish_with_audit(w, 5)
 }
 

@@ -21,6 +21,9 @@ impl Ring {
     }
 
     pub fn small(random: &mut Random) -> Ring {
+        if random.percent(25) {
+            return Ring::heavy(random);
+        }
         let nodes = random.pick(&[3, 4, 5, 5, 5, 5, 6, 7, 8, 10]);
         Ring::of(random, nodes)
     }
@@ -70,6 +73,31 @@ impl Ring {
             ring.stakes[node] += 1;
         }
         ring
+    }
+
+    /// Few nodes, so that a single vote leaps over a threshold or two.
+    pub fn heavy(random: &mut Random) -> Ring {
+        let shares: &[u64] = random.pick(&[
+            &[1u64, 2, 2] as &[u64],
+            &[1, 2, 2],
+            &[1, 1, 3],
+            &[1, 1, 1, 2],
+            &[2, 3],
+            &[1, 4],
+            &[2, 1, 1, 1],
+            &[3, 4, 3],
+            &[1, 3, 3, 3],
+            &[2, 4, 3, 1],
+        ]);
+        let unit = random.pick(&[1, 1, 1, 20, MOST_TOTAL / 12]);
+        let mut stakes: Vec<u64> = shares.iter().map(|share| share * unit).collect();
+        // One unit off moves sums that were exact to just beside.
+        if unit > 1 && random.percent(50) {
+            let node = random.index(stakes.len());
+            stakes[node] = stakes[node] + random.below(3) - 1;
+        }
+        random.shuffle(&mut stakes);
+        Ring::with(random, stakes)
     }
 
     /// The own node alone reaches a threshold, or just misses it.
