@@ -45,8 +45,8 @@ pub fn compare(task: &Task) -> bool {
         next += batch.seeds.len() as u64;
         match compare_batch(task, &batch) {
             Ok(count) => answers += count,
-            Err(report) => {
-                println!("{report}");
+            Err(difference) => {
+                println!("{}", alone_if_possible(task, &batch, difference).report);
                 return false;
             }
         }
@@ -81,36 +81,54 @@ impl Batch {
     }
 }
 
-/// The number of answer lines, or a report of the first difference.
-fn compare_batch(task: &Task, batch: &Batch) -> Result<usize, String> {
+struct Difference {
+    report: String,
+    /// The script it shows in, unless it belongs to none.
+    seed: Option<u64>,
+}
+
+/// The same difference from a run of the one script, if it shows there too:
+/// that is easier to follow.
+fn alone_if_possible(task: &Task, batch: &Batch, mut difference: Difference) -> Difference {
+    let Some(seed) = difference.seed else {
+        return difference;
+    };
+    if let Err(alone) = compare_batch(task, &fill_batch(seed, seed + 1)) {
+        return alone;
+    }
+    let last = batch.seeds[batch.seeds.len() - 1];
+    let note = format!("\n  only in one run of seeds {} to {last}, not in that script alone", batch.seeds[0]);
+    difference.report += &note;
+    difference
+}
+
+/// The number of answer lines, or the first difference.
+fn compare_batch(task: &Task, batch: &Batch) -> Result<usize, Difference> {
     let expected = run_model(&batch.text);
-    let (output, status) = run_program(&task.program, &batch.text)?;
+    let run = run_program(&task.program, &batch.text);
+    let (output, status) = run.map_err(|report| Difference { report, seed: None })?;
     let got = lines(output.as_bytes());
     for (i, want) in expected.iter().enumerate() {
         if got.get(i) != Some(&want.answer.as_bytes()) {
-            return Err(report(batch, want, got.get(i).copied(), &status));
+            return Err(describe(batch, want, got.get(i).copied(), &status));
         }
     }
     if got.len() > expected.len() {
         let extra = String::from_utf8_lossy(got[expected.len()]);
-        return Err(format!("seeds {:?}: the program has a line past the end: {extra}", batch.seeds));
+        let report = format!("seeds {:?}: the program has a line past the end: {extra}", batch.seeds);
+        return Err(Difference { report, seed: None });
     }
     Ok(expected.len())
 }
 
-fn report(batch: &Batch, want: &Expected, got: Option<&[u8]>, status: &str) -> String {
+fn describe(batch: &Batch, want: &Expected, got: Option<&[u8]>, status: &str) -> Difference {
     let script = batch.script_of(want.line);
+    let seed = batch.seeds[script];
+    let line = want.line - batch.first_lines[script] + 1;
+    let command = shorten(&want.command);
     let got = got.map_or(format!("no line ({status})"), |line| String::from_utf8_lossy(line).into_owned());
-    format!(
-        "seed {} line {}: {}\n  model:   {}\n  program: {}\n  (batch of seeds {} to {})",
-        batch.seeds[script],
-        want.line - batch.first_lines[script] + 1,
-        shorten(&want.command),
-        want.answer,
-        got,
-        batch.seeds[0],
-        batch.seeds[batch.seeds.len() - 1],
-    )
+    let report = format!("seed {seed} line {line}: {command}\n  model:   {}\n  program: {got}", want.answer);
+    Difference { report, seed: Some(seed) }
 }
 
 fn shorten(command: &str) -> String {

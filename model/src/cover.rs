@@ -5,6 +5,7 @@ use crate::gen;
 use crate::packet;
 use crate::panel::{lines, Panel};
 use std::collections::BTreeMap;
+use std::io::{self, Write};
 
 #[derive(Default)]
 pub struct Cover {
@@ -126,24 +127,30 @@ impl Cover {
         *self.notes.entry(what).or_insert(0) += 1;
     }
 
-    pub fn show(&self) {
-        println!("{} scripts, {} commands, longest {} lines", self.scripts, self.commands, self.longest);
-        println!("\nanswers by command (number:times)");
+    pub fn show(&self, out: &mut impl Write) -> io::Result<()> {
+        writeln!(
+            out,
+            "{} scripts, {} commands, longest {} lines",
+            self.scripts, self.commands, self.longest
+        )?;
+        writeln!(out, "\nanswers by command (number:times)")?;
         for (command, row) in &self.answers {
             let mut row: Vec<_> = row.iter().collect();
             row.sort_by_key(|(number, _)| number.parse::<u64>().unwrap_or(u64::MAX));
             let row: Vec<String> = row.iter().map(|(number, times)| format!("{number}:{times}")).collect();
-            println!("  {command:<11}{}", row.join("  "));
+            writeln!(out, "  {command:<11}{}", row.join("  "))?;
         }
-        println!("\nrecords by kind");
+        writeln!(out, "\nrecords by kind")?;
         for (kind, times) in &self.records {
-            println!("  {kind}: {times}");
+            writeln!(out, "  {kind}: {times}")?;
         }
-        println!("  most in a call {}, in a life {}", self.most_records_in_a_call, self.most_records_in_a_life);
-        println!("\nbranches");
+        let (call, life) = (self.most_records_in_a_call, self.most_records_in_a_life);
+        writeln!(out, "  most in a call {call}, in a life {life}")?;
+        writeln!(out, "\nbranches")?;
         for (what, times) in &self.notes {
-            println!("  {what}: {times}");
+            writeln!(out, "  {what}: {times}")?;
         }
+        Ok(())
     }
 }
 

@@ -47,8 +47,8 @@ fn obey(words: &[&str]) -> Option<io::Result<bool>> {
         ["run"] => Some(run()),
         ["gen", seed] => Some(generate(seed.parse().ok()?)),
         ["cover", seed, count] => {
-            cover::cover(seed.parse().ok()?, count.parse().ok()?).show();
-            Some(Ok(true))
+            let cover = cover::cover(seed.parse().ok()?, count.parse().ok()?);
+            Some(cover.show(&mut io::stdout().lock()).map(|()| true))
         }
         ["compare", rest @ ..] => Some(Ok(compare::compare(&compare_task(rest)?))),
         _ => None,

@@ -344,8 +344,7 @@ impl Node {
         if parent_slot == 0 {
             return parent == self.genesis;
         }
-        self.holds(parent_slot, Cert::Notar(parent))
-            || self.holds(parent_slot, Cert::NotarFallback(parent))
+        self.holds(parent_slot, Cert::Notar(parent)) || self.holds(parent_slot, Cert::NotarFallback(parent))
     }
 
     pub fn ready(&self, first_slot: u64, parent_slot: u64, parent: u64) -> bool {
@@ -419,7 +418,13 @@ impl Node {
         Ok(self.run_rules())
     }
 
-    pub fn block(&mut self, slot: u64, number: u64, parent_slot: u64, parent: u64) -> Result<Vec<Record>, Refusal> {
+    pub fn block(
+        &mut self,
+        slot: u64,
+        number: u64,
+        parent_slot: u64,
+        parent: u64,
+    ) -> Result<Vec<Record>, Refusal> {
         if !is_slot(slot) {
             return Err(Refusal::NoSuchSlot);
         }
@@ -468,8 +473,7 @@ impl Node {
 type Rule = fn(&mut Node, u64) -> bool;
 
 /// In the order of the document; each answers whether it applied.
-const RULES: [Rule; 6] =
-    [Node::rule_a, Node::rule_b, Node::rule_c, Node::rule_d, Node::rule_e, Node::rule_f];
+const RULES: [Rule; 6] = [Node::rule_a, Node::rule_b, Node::rule_c, Node::rule_d, Node::rule_e, Node::rule_f];
 
 impl Node {
     fn run_rules(&mut self) -> Vec<Record> {
@@ -522,7 +526,11 @@ impl Node {
         let Some(&(nearest, _)) = parents.first() else {
             return false;
         };
-        self.note(if nearest + 1 == slot { "A with a parent next door" } else { "A over skipped slots only" });
+        self.note(if nearest + 1 == slot {
+            "A with a parent next door"
+        } else {
+            "A over skipped slots only"
+        });
         self.armed[slot as usize] = true;
         self.record(RECORD_ARMED, slot, 0);
         true
@@ -584,7 +592,9 @@ impl Node {
         let skipped = self.cast_skips_in_window(slot);
         let own = self.own_cell(slot);
         let finished = own.final_vote;
-        let fall_back = !finished && !own.keeps(Vote::NotarFallback(block)) && own.has_place_for(Vote::NotarFallback(block));
+        let fall_back = !finished
+            && !own.keeps(Vote::NotarFallback(block))
+            && own.has_place_for(Vote::NotarFallback(block));
         if fall_back {
             self.cast(slot, Vote::NotarFallback(block));
         }
@@ -620,7 +630,8 @@ impl Node {
     }
 
     fn safe_to_skip(&self, slot: u64) -> bool {
-        let notars: Vec<u64> = self.notar_blocks(slot).into_iter().map(|b| self.notar_weight(slot, b)).collect();
+        let notars: Vec<u64> =
+            self.notar_blocks(slot).into_iter().map(|b| self.notar_weight(slot, b)).collect();
         let all: u64 = notars.iter().sum();
         let largest = notars.iter().copied().max().unwrap_or(0);
         self.stakes.reaches(self.skip_weight(slot) + all - largest, P40)
@@ -634,7 +645,11 @@ impl Node {
         let Some(block) = self.notar_blocks(slot).into_iter().find(|&b| self.is_final(slot, b)) else {
             return false;
         };
-        self.note(if self.holds(slot, Cert::FastFinal(block)) { "F by kind 1" } else { "F by kinds 2 and 5" });
+        self.note(if self.holds(slot, Cert::FastFinal(block)) {
+            "F by kind 1"
+        } else {
+            "F by kinds 2 and 5"
+        });
         self.finalized[slot as usize] = true;
         self.record(RECORD_FINALIZED, slot, block);
         true

@@ -50,13 +50,17 @@ impl Panel {
                 self.node = Some(Node::start(own, genesis, &stakes)?);
                 "0".to_string()
             }
-            Command::Vote { kind, node, slot, block } => show_records(&self.node()?.vote(kind, node, slot, block)?),
+            Command::Vote { kind, node, slot, block } => {
+                show_records(&self.node()?.vote(kind, node, slot, block)?)
+            }
             Command::Block { slot, number, parent_slot, parent } => {
                 show_records(&self.node()?.block(slot, number, parent_slot, parent)?)
             }
             Command::Timeout { slot } => show_records(&self.node()?.timeout(slot)?),
             Command::Look => show_records(&self.node()?.look()),
-            Command::Cert { kind, slot, block } => show_packet(&packet::write_cert(self.node()?, kind, slot, block)?),
+            Command::Cert { kind, slot, block } => {
+                show_packet(&packet::write_cert(self.node()?, kind, slot, block)?)
+            }
             Command::Proof { slot, block } => show_packet(&packet::write_proof(self.node()?, slot, block)?),
             Command::Check { packet, stakes } => show_checked(packet::check(&packet, &stakes)?),
             Command::CheckProof { packet, stakes } => show_checked(packet::check_proof(&packet, &stakes)?),
@@ -120,7 +124,9 @@ fn parse(words: &[&[u8]]) -> Result<Command, Malformed> {
             Ok(Command::Proof { slot, block })
         }
         b"check" => packet_and_stakes(rest).map(|(packet, stakes)| Command::Check { packet, stakes }),
-        b"checkproof" => packet_and_stakes(rest).map(|(packet, stakes)| Command::CheckProof { packet, stakes }),
+        b"checkproof" => {
+            packet_and_stakes(rest).map(|(packet, stakes)| Command::CheckProof { packet, stakes })
+        }
         _ => Err(Malformed),
     }
 }

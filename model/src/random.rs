@@ -17,7 +17,7 @@ impl Random {
 
     /// 0 to n - 1.
     pub fn below(&mut self, n: u64) -> u64 {
-        (u128::from(self.next()) * u128::from(n) >> 64) as u64
+        ((u128::from(self.next()) * u128::from(n)) >> 64) as u64
     }
 
     /// low to high, both included.

@@ -26,7 +26,13 @@ fn vote(node: &mut Node, kind: u64, from: u64, slot: u64, block: u64) -> Vec<(u6
     shown(node.vote(kind, from, slot, block).unwrap())
 }
 
-fn votes(node: &mut Node, kind: u64, from: std::ops::RangeInclusive<u64>, slot: u64, block: u64) -> Vec<(u64, u64, u64)> {
+fn votes(
+    node: &mut Node,
+    kind: u64,
+    from: std::ops::RangeInclusive<u64>,
+    slot: u64,
+    block: u64,
+) -> Vec<(u64, u64, u64)> {
     from.flat_map(|n| vote(node, kind, n, slot, block)).collect()
 }
 
@@ -211,7 +217,8 @@ fn b11_a_faulty_fifth_gives_two_proofs() {
 
 #[test]
 fn start_refuses_what_breaks_the_sizes() {
-    let start = |own, genesis, stakes: &[u64]| Node::start(own, genesis, stakes).map(|_| ()).map_err(Refusal::number);
+    let start =
+        |own, genesis, stakes: &[u64]| Node::start(own, genesis, stakes).map(|_| ()).map_err(Refusal::number);
     assert_eq!(start(0, 1, &[]), Err(1));
     assert_eq!(start(0, 1, &[1; 65]), Err(1));
     assert_eq!(start(63, u64::MAX, &[1; 64]), Ok(()));
@@ -623,14 +630,28 @@ fn stored_votes_are_shown_in_order() {
 #[test]
 fn layout_of_lines() {
     assert_eq!(run("# c\r\n\r\nstart  0   1 5\r\n\nblock 1 007 0 1"), ["0", "0 4 7,1,0 1,1,7 5,1,0 6,1,7"]);
-    assert_eq!(run("start 0 1 5\nblock 1 7 0 1\nproof 1 7\ncert 5 1 0")[2..], ["0 5 0101070100", "0 5 0501000100"]);
+    assert_eq!(
+        run("start 0 1 5\nblock 1 7 0 1\nproof 1 7\ncert 5 1 0")[2..],
+        ["0 5 0101070100", "0 5 0501000100"]
+    );
     assert_eq!(run("check 02010aFf0100 1 1 1 1 1 1 1 1"), ["0 2 1 10 8 8"]);
     assert_eq!(run("check -\ncheckproof 0101070100\ncheck"), ["1", "1", "?"]);
 }
 
 #[test]
 fn lines_that_are_not_commands() {
-    for line in ["look 1", "Look", "vote 1 1 1", "vote 1 1 1 +7", "vote 1 1 1 18446744073709551616", "start 0", "check 0 1", "check 0g 1", "lo\tok", "timeout"] {
+    for line in [
+        "look 1",
+        "Look",
+        "vote 1 1 1",
+        "vote 1 1 1 +7",
+        "vote 1 1 1 18446744073709551616",
+        "start 0",
+        "check 0 1",
+        "check 0g 1",
+        "lo\tok",
+        "timeout",
+    ] {
         assert_eq!(run(line), ["?"], "{line}");
     }
     let spaced = |length: usize| format!("vote 1{}1 1 7", " ".repeat(length - 11));

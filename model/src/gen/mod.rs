@@ -5,6 +5,7 @@ mod malformed;
 mod noise;
 mod packets;
 mod ring;
+mod scenes;
 mod writer;
 
 use crate::random::Random;
@@ -36,6 +37,7 @@ pub fn script(seed: u64) -> Script {
         19..=21 => avalanche(random),
         22..=24 => standoffs(random),
         25 | 26 => bridges(random),
+        27 | 28 => leaps(random),
         _ => history(random),
     }
 }
@@ -63,28 +65,28 @@ fn history(mut random: Random) -> Script {
 fn pushes(mut random: Random) -> Script {
     let ring = Ring::small(&mut random);
     let mut w = begin(random, ring, 50, 250);
-    history::pushes(&mut w);
+    scenes::pushes(&mut w);
     finish_with_audit(w, 8)
 }
 
 fn soup(mut random: Random) -> Script {
     let ring = if random.percent(70) { Ring::small(&mut random) } else { Ring::any(&mut random) };
     let mut w = begin(random, ring, 30, 250);
-    history::soup(&mut w);
+    scenes::soup(&mut w);
     finish_with_audit(w, 8)
 }
 
 fn lone(mut random: Random) -> Script {
     let ring = Ring::dominated(&mut random);
     let mut w = begin(random, ring, 5, 60);
-    history::lone(&mut w);
+    scenes::lone(&mut w);
     finish_with_audit(w, 10)
 }
 
 fn brink(mut random: Random) -> Script {
     let ring = Ring::any(&mut random);
     let mut w = begin(random, ring, 10, 150);
-    history::brink(&mut w);
+    scenes::brink(&mut w);
     finish_with_audit(w, 10)
 }
 
@@ -92,7 +94,7 @@ fn avalanche(mut random: Random) -> Script {
     let nodes = random.pick(&[5, 5, 5, 6, 7]);
     let ring = Ring::of_fifths(&mut random, nodes);
     let mut w = begin(random, ring, 200, 200);
-    history::avalanche(&mut w);
+    scenes::avalanche(&mut w);
     finish_with_audit(w, 8)
 }
 
@@ -100,15 +102,22 @@ fn standoffs(mut random: Random) -> Script {
     let nodes = random.pick(&[5, 5, 6, 8, 10]);
     let ring = Ring::of_fifths(&mut random, nodes);
     let mut w = begin(random, ring, 100, 200);
-    history::standoffs(&mut w);
+    scenes::standoffs(&mut w);
     finish_with_audit(w, 5)
 }
 
 fn bridges(mut random: Random) -> Script {
     let ring = Ring::small(&mut random);
     let mut w = begin(random, ring, 150, 250);
-    history::bridges(&mut w);
+    scenes::bridges(&mut w);
     finish_with_audit(w, 5)
+}
+
+fn leaps(mut random: Random) -> Script {
+    let ring = Ring::heavy(&mut random);
+    let mut w = begin(random, ring, 200, 200);
+    scenes::leaps(&mut w);
+    finish_with_audit(w, 8)
 }
 
 /// The audit has lines of its own after the history's.
@@ -178,7 +187,7 @@ fn before_start(mut random: Random) -> Script {
     if w.random.percent(60) {
         w.start();
         w.add_room(60);
-        history::soup(&mut w);
+        scenes::soup(&mut w);
     }
     end(w)
 }
@@ -188,7 +197,7 @@ fn restarts(mut random: Random) -> Script {
     let ring = Ring::small(&mut random);
     let mut w = begin(random, ring, 10, 40);
     for _ in 0..w.random.range(2, 5) {
-        history::soup(&mut w);
+        scenes::soup(&mut w);
         let line = noise::bad_start(&mut w);
         w.say(line);
         w.say("votes");
@@ -199,7 +208,7 @@ fn restarts(mut random: Random) -> Script {
         let room = w.random.range(5, 40) as usize;
         w.add_room(room);
     }
-    history::soup(&mut w);
+    scenes::soup(&mut w);
     end(w)
 }
 
@@ -216,7 +225,7 @@ fn only_malformed(mut random: Random) -> Script {
 fn faults(mut random: Random) -> Script {
     let ring = Ring::small(&mut random);
     let mut w = begin(random, ring, 20, 60);
-    history::soup(&mut w);
+    scenes::soup(&mut w);
     let numbers = Numbers::any(&mut w.random, w.ring.genesis);
     let room = w.random.range(20, 150) as usize;
     w.add_room(room);

@@ -179,8 +179,13 @@ impl Fields {
         let nodes = ring.nodes() as u64;
         let any_bit = 1 << random.below(nodes);
         match random.below(9) {
-            0 => self.kind = random.pick(&[0, 6, 7, 127, 128, 256 | self.kind, 1 << 32 | self.kind, u64::MAX]),
-            1 => self.slot = random.pick(&[0, 17, 18, 127, 128, 256 | self.slot, 1 << 32 | self.slot, u64::MAX]),
+            0 => {
+                self.kind = random.pick(&[0, 6, 7, 127, 128, 256 | self.kind, 1 << 32 | self.kind, u64::MAX])
+            }
+            1 => {
+                self.slot =
+                    random.pick(&[0, 17, 18, 127, 128, 256 | self.slot, 1 << 32 | self.slot, u64::MAX])
+            }
             2 => self.block = if self.block == 0 { random.any_number().max(1) } else { 0 },
             3 if nodes < 64 => self.a |= 1 << random.range(nodes, 63),
             4 if nodes < 64 => self.b |= 1 << random.range(nodes, 63),

@@ -80,6 +80,8 @@ impl Ring {
         let shares: &[u64] = random.pick(&[
             &[1u64, 2, 2] as &[u64],
             &[1, 2, 2],
+            &[1, 4, 5],
+            &[3, 8, 9],
             &[1, 1, 3],
             &[1, 1, 1, 2],
             &[2, 3],
@@ -89,15 +91,21 @@ impl Ring {
             &[1, 3, 3, 3],
             &[2, 4, 3, 1],
         ]);
-        let unit = random.pick(&[1, 1, 1, 20, MOST_TOTAL / 12]);
+        let unit = random.pick(&[1, 1, 1, 20, MOST_TOTAL / 20]);
         let mut stakes: Vec<u64> = shares.iter().map(|share| share * unit).collect();
         // One unit off moves sums that were exact to just beside.
         if unit > 1 && random.percent(50) {
             let node = random.index(stakes.len());
             stakes[node] = stakes[node] + random.below(3) - 1;
         }
-        random.shuffle(&mut stakes);
-        Ring::with(random, stakes)
+        let turn = random.index(stakes.len());
+        stakes.rotate_right(turn);
+        let mut ring = Ring::with(random, stakes);
+        // The first share is often the one that makes the own node's life hard.
+        if random.percent(50) {
+            ring.move_own_to(turn);
+        }
+        ring
     }
 
     /// The own node alone reaches a threshold, or just misses it.
@@ -110,8 +118,14 @@ impl Ring {
             stakes[0] = least.max(1);
         }
         let mut ring = Ring::with(random, stakes);
-        ring.own = 0;
+        ring.move_own_to(0);
         ring
+    }
+
+    fn move_own_to(&mut self, node: usize) {
+        let home = self.camps.iter().position(|camp| camp.contains(&node)).expect("every node has a camp");
+        self.camps.swap(0, home);
+        self.own = node;
     }
 
     pub fn with(random: &mut Random, stakes: Vec<u64>) -> Ring {

@@ -3,7 +3,7 @@
 
 use super::ring::Ring;
 use crate::node::Node;
-use crate::panel::Panel;
+use crate::panel::{Panel, LONGEST_LINE};
 use crate::random::Random;
 
 pub struct Writer {
@@ -74,7 +74,9 @@ impl Writer {
     pub fn raw(&mut self, line: &str) -> Vec<String> {
         let answer = self.panel.line(line.as_bytes());
         self.text += line;
-        self.text += if self.random.percent(self.style.crlf) { "\r\n" } else { "\n" };
+        // Whether the CR counts towards the longest line is not asked here.
+        let crlf = line.len() < LONGEST_LINE / 2 && self.random.percent(self.style.crlf);
+        self.text += if crlf { "\r\n" } else { "\n" };
         let answer = answer.unwrap_or_default();
         self.commands += 1;
         self.unstarted |= answer == ["17"];
@@ -85,7 +87,8 @@ impl Writer {
         let mut laid_out = String::new();
         for (i, word) in line.split(' ').enumerate() {
             if i > 0 {
-                let spaces = if self.random.percent(self.style.wide_spaces) { self.random.range(2, 5) } else { 1 };
+                let spaces =
+                    if self.random.percent(self.style.wide_spaces) { self.random.range(2, 5) } else { 1 };
                 laid_out += &" ".repeat(spaces as usize);
             }
             // Words of digits in second place may be packets, where zeros count.

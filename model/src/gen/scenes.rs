@@ -1,0 +1,324 @@
+//! Other courses of events than a planned history, each made to bring on
+//! what plans seldom do.
+
+use super::history::{announce, push, second_votes, some_order, Lean, Numbers, A, B, C, M, N, S, SECONDS};
+use super::noise;
+use super::writer::Writer;
+use crate::node::{is_first, Cert, LAST_SLOT, WINDOW};
+use crate::random::Random;
+use crate::stakes::{P40, P60, P80};
+
+/// One goal after another, chosen by what the node holds then.
+pub fn pushes(w: &mut Writer) {
+    let numbers = Numbers::any(&mut w.random, w.ring.genesis);
+    let mut slot = w.random.pick(&[1, 1, 1, 4, 5, 8, 12]);
+    while !w.full() {
+        let blocks = numbers.of_slot(slot);
+        let block = w.random.pick(&blocks[..2]);
+        match w.random.below(13) {
+            0 | 1 => push(w, Cert::Notar(block), slot),
+            2 => push(w, Cert::FastFinal(block), slot),
+            3 | 4 => push(w, Cert::NotarFallback(block), slot),
+            5 | 6 => push(w, Cert::Skip, slot),
+            7 => push(w, Cert::Final, slot),
+            8..=10 => announce(w, &numbers, slot, block),
+            11 => {
+                w.say(format!("timeout {slot}"));
+            }
+            _ => noise::some(w, &numbers),
+        }
+        if w.random.percent(35) {
+            slot = slot % LAST_SLOT + 1;
+        }
+        if w.random.percent(3) {
+            slot = w.random.range(1, LAST_SLOT);
+        }
+    }
+}
+
+/// An own node that carries the ring nearly alone: blocks and timeouts only.
+pub fn lone(w: &mut Writer) {
+    let numbers = Numbers::any(&mut w.random, w.ring.genesis);
+    let mut slot = 1;
+    while !w.full() && slot <= LAST_SLOT {
+        let blocks = numbers.of_slot(slot);
+        let block = w.random.pick(&blocks);
+        match w.random.below(10) {
+            0 => {
+                w.say(format!("timeout {slot}"));
+            }
+            1 => {
+                // Ahead of its time: the node votes when its parent comes.
+                let ahead = (slot + w.random.below(5)).min(LAST_SLOT);
+                let number = w.random.pick(&numbers.of_slot(ahead));
+                announce(w, &numbers, ahead, number);
+            }
+            2 => {
+                w.say("look");
+            }
+            3 => noise::some(w, &numbers),
+            _ => announce(w, &numbers, slot, block),
+        }
+        slot += w.random.pick(&[0, 1, 1, 1]);
+    }
+}
+
+/// Anything at all in few slots with few numbers, so that votes collide.
+pub fn soup(w: &mut Writer) {
+    let numbers = Numbers::any(&mut w.random, w.ring.genesis);
+    let slots: &[u64] = w.random.pick(&[
+        &[1u64] as &[u64],
+        &[1, 2],
+        &[1, 2, 3, 4, 5],
+        &[4, 5],
+        &[2, 3, 4, 5, 6],
+        &[8, 9, 10, 11, 12, 13],
+        &[1, 5, 9, 13],
+        &[13, 14, 15, 16],
+        &[1, 2, 3, 4, 5, 6, 7, 8, 9, 10, 11, 12, 13, 14, 15, 16],
+    ]);
+    let others = w.ring.others();
+    let block_range = w.random.range(1, 4) as usize;
+    while !w.full() {
+        let slot = w.random.pick(slots);
+        let block = {
+            let all = numbers.of_slot(slot);
+            w.random.pick(&all[..block_range])
+        };
+        match w.random.below(20) {
+            0 | 1 => announce(w, &numbers, slot, block),
+            2 => {
+                w.say(format!("timeout {slot}"));
+            }
+            3 => {
+                w.say("look");
+            }
+            4 => noise::some(w, &numbers),
+            _ if others.is_empty() => announce(w, &numbers, slot, block),
+            _ => {
+                let node = w.random.pick(&others);
+                let kind = w.random.pick(&[1, 1, 1, 1, 2, 2, 3, 3, 3, 4, 5]);
+                w.vote(kind, node, slot, if kind <= 2 { block } else { 0 });
+            }
+        }
+    }
+}
+
+/// One slot brought vote by vote around a threshold, with both sides of it
+/// asked for.
+pub fn brink(w: &mut Writer) {
+    let numbers = Numbers::any(&mut w.random, w.ring.genesis);
+    let slot = w.random.range(1, LAST_SLOT);
+    let blocks = numbers.of_slot(slot);
+    w.say("look");
+    announce(w, &numbers, slot, blocks[0]);
+    let threshold = w.random.pick(&[P40, P60, P80]);
+    let kind = w.random.range(1, 5);
+    let block = if kind <= 2 { w.random.pick(&blocks[..2]) } else { 0 };
+    for node in w.ring.clone().reaching(&mut w.random, threshold) {
+        if w.full() {
+            return;
+        }
+        w.vote(kind, node, slot, block);
+        if w.random.percent(30) {
+            let cert = w.random.range(1, 5);
+            let block = if cert <= 3 { blocks[0] } else { 0 };
+            w.say(format!("cert {cert} {slot} {block}"));
+        }
+    }
+}
+
+/// What the four other camps do so that one own vote sets off more.
+const PRIMED: &[[Lean; 4]] = &[
+    [M, M, N, N],
+    [M, M, N, N],
+    [M, M, A, N],
+    [M, M, M, N],
+    [M, M, S, S],
+    [S, S, N, N],
+    [S, S, A, A],
+    [S, A, B, C],
+    [S, A, B, C],
+    [S, S, A, B],
+    [A, A, B, B],
+    [S, S, S, A],
+];
+
+/// Votes and blocks for every slot while the own node waits; then one input
+/// lets it run through many slots and windows at once.
+pub fn avalanche(w: &mut Writer) {
+    let numbers = Numbers::any(&mut w.random, w.ring.genesis);
+    let mains: Vec<u64> = (0..=LAST_SLOT).map(|slot| w.random.pick(&numbers.of_slot(slot))).collect();
+    let mut actions = Vec::new();
+    let shared = w.random.percent(40).then(|| w.random.pick(PRIMED));
+    for slot in 1..=LAST_SLOT {
+        let leans = shared.unwrap_or_else(|| w.random.pick(PRIMED));
+        primed_votes(
+            w,
+            &mut actions,
+            slot,
+            leans,
+            blocks_led_by(mains[slot as usize], numbers.of_slot(slot)),
+        );
+    }
+    for slot in 2..=LAST_SLOT {
+        if w.random.percent(90) {
+            actions.push(primed_block(&mut w.random, slot, &mains, w.ring.genesis));
+        }
+    }
+    w.random.shuffle(&mut actions);
+    let by_timeout = w.random.percent(40);
+    if by_timeout {
+        w.say("look");
+    }
+    for line in actions {
+        w.say(line);
+    }
+    if by_timeout {
+        w.say("timeout 1");
+    }
+    w.say(format!("block 1 {} 0 {}", mains[1], w.ring.genesis));
+    for slot in [1, 5, 9, 13] {
+        let slot = slot + w.random.below(WINDOW);
+        w.say(format!("timeout {slot}"));
+    }
+}
+
+fn blocks_led_by(main: u64, mut blocks: [u64; 4]) -> [u64; 4] {
+    let at = blocks.iter().position(|&block| block == main).expect("main is one of them");
+    blocks.swap(0, at);
+    blocks
+}
+
+fn primed_votes(w: &mut Writer, lines: &mut Vec<String>, slot: u64, mut leans: [Lean; 4], blocks: [u64; 4]) {
+    w.random.shuffle(&mut leans);
+    let second = w.random.pick(SECONDS);
+    for (camp, lean) in leans.into_iter().enumerate() {
+        for node in w.ring.camps[camp + 1].clone() {
+            match lean {
+                Lean::Block(i) => lines.push(format!("vote 1 {node} {slot} {}", blocks[i])),
+                Lean::Skip => lines.push(format!("vote 3 {node} {slot} 0")),
+                Lean::Nothing => {}
+            }
+            let votes = second_votes(&mut w.random, second, lean, &blocks);
+            lines.extend(votes.iter().map(|(kind, block)| format!("vote {kind} {node} {slot} {block}")));
+        }
+    }
+}
+
+/// The slot's main block upon an earlier main block, mostly the one before.
+fn primed_block(random: &mut Random, slot: u64, mains: &[u64], genesis: u64) -> String {
+    let parent_slot = if is_first(slot) && random.percent(40) { random.below(slot) } else { slot - 1 };
+    let parent = if parent_slot == 0 { genesis } else { mains[parent_slot as usize] };
+    format!("block {slot} {} {parent_slot} {parent}", mains[slot as usize])
+}
+
+/// In each window the own node gets as far as its final vote; then the other
+/// camps turn against the block, which must bring no fallback.
+pub fn standoffs(w: &mut Writer) {
+    let numbers = Numbers::any(&mut w.random, w.ring.genesis);
+    let mut first = 1;
+    while first <= LAST_SLOT && !w.full() {
+        let last_voted = first + w.random.pick(&[0, 0, 1, 1, 2, 3]);
+        for slot in first..=last_voted {
+            let blocks = some_order(&mut w.random, numbers.of_slot(slot));
+            announce(w, &numbers, slot, blocks[0]);
+            let mut camps = [1, 2, 3, 4];
+            w.random.shuffle(&mut camps);
+            camp_votes(w, &[0, camps[0], camps[1]], slot, M, &blocks);
+            if slot == last_voted || w.random.percent(30) {
+                let leans = w.random.pick(&[[A, A], [A, A], [A, A], [S, S], [A, S], [A, N], [A, B]]);
+                camp_votes(w, &[camps[2]], slot, leans[0], &blocks);
+                camp_votes(w, &[camps[3]], slot, leans[1], &blocks);
+            }
+        }
+        // Skips of the others lead over to the next window.
+        for slot in last_voted + 1..first + WINDOW {
+            push(w, Cert::Skip, slot);
+        }
+        first += WINDOW;
+    }
+}
+
+fn camp_votes(w: &mut Writer, camps: &[usize], slot: u64, lean: Lean, blocks: &[u64; 4]) {
+    let mut nodes: Vec<usize> = camps.iter().flat_map(|&camp| w.ring.camps[camp].clone()).collect();
+    nodes.retain(|&node| node != w.ring.own);
+    w.random.shuffle(&mut nodes);
+    for node in nodes {
+        match lean {
+            Lean::Block(i) => w.vote(1, node, slot, blocks[i]),
+            Lean::Skip => w.vote(3, node, slot, 0),
+            Lean::Nothing => {}
+        }
+    }
+}
+
+/// Few heavy nodes that vote once or twice in each slot of a chain, so that
+/// one vote carries the own node past several rules.
+pub fn leaps(w: &mut Writer) {
+    let numbers = Numbers::any(&mut w.random, w.ring.genesis);
+    for slot in 1..=LAST_SLOT {
+        if is_first(slot) && slot > 1 && w.node().ready_parents(slot).is_empty() {
+            lead_over(w, slot);
+        }
+        let blocks = some_order(&mut w.random, numbers.of_slot(slot));
+        announce(w, &numbers, slot, blocks[0]);
+        let mut others = w.ring.others();
+        for _ in 0..w.random.range(1, 2) {
+            w.random.shuffle(&mut others);
+            for &node in &others {
+                let leap = [(1, blocks[0]), (1, blocks[1]), (3, 0), (2, blocks[0]), (4, 0), (5, 0)];
+                let choices = w.random.pick(&[2, 3, 3, 6]);
+                let (kind, block) = w.random.pick(&leap[..choices]);
+                w.vote(kind, node, slot, block);
+            }
+        }
+    }
+}
+
+/// Skips from the window's end down, until some parent is ready.
+fn lead_over(w: &mut Writer, first: u64) {
+    for slot in (first - WINDOW..first).rev() {
+        push(w, Cert::Skip, slot);
+        if !w.node().ready_parents(first).is_empty() {
+            return;
+        }
+    }
+}
+
+/// A parent and a first slot any distance apart, with the skipped slots
+/// between brought in any order; now and then a pier is missing.
+pub fn bridges(w: &mut Writer) {
+    let numbers = Numbers::any(&mut w.random, w.ring.genesis);
+    let first = w.random.pick(&[5, 9, 9, 13, 13, 13]);
+    let farthest = if w.random.percent(50) { 5 } else { first };
+    let parent_slot = w.random.below(farthest);
+    let block = w.random.pick(&numbers.of_slot(parent_slot));
+    let mut piers: Vec<(u64, Cert)> = (parent_slot + 1..first).map(|slot| (slot, Cert::Skip)).collect();
+    if parent_slot > 0 {
+        piers.push((parent_slot, Cert::NotarFallback(block)));
+    }
+    if w.random.percent(30) {
+        // A second, nearer parent makes two ready at once.
+        let slot = w.random.range(1, first - 1);
+        piers.push((slot, Cert::Notar(numbers.of_slot(slot)[0])));
+    }
+    if w.random.percent(60) {
+        w.random.shuffle(&mut piers);
+    }
+    if w.random.percent(25) {
+        let at = w.random.index(piers.len());
+        piers.remove(at);
+    }
+    let number = w.random.pick(&numbers.of_slot(first));
+    let parent = if parent_slot == 0 { w.ring.genesis } else { block };
+    let announced = format!("block {first} {number} {parent_slot} {parent}");
+    if w.random.percent(50) {
+        w.say(announced.as_str());
+    }
+    for (slot, cert) in piers {
+        push(w, cert, slot);
+    }
+    w.say(announced);
+    w.say(format!("timeout {first}"));
+}
