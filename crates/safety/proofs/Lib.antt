@@ -8,3 +8,6 @@ pub mod Stores
 pub mod Steps
 pub mod Lives
 pub mod Safety
+pub mod Packets
+pub mod Written
+pub mod Promises

@@ -45,7 +45,7 @@ weight-padded ws zs p =
     (λ n h. ap (part (p n)) (List·getD-append ws zs 0 n h))
 
 -- A weight that reaches its threshold in a fresh node's table does so in the table that it was given.
-as-table : (k : ℕ) (ws : List ℕ) (me g : ℕ) (l : Ledger) (p : Test) → SameTable (fresh ws me g) l
+pub as-table : (k : ℕ) (ws : List ℕ) (me g : ℕ) (l : Ledger) (p : Test) → SameTable (fresh ws me g) l
     → T (reaches k (l .total) (weight (l .stakes) (l .count) p)) → Heavy k ws (length ws) p
 unfolding fresh
 as-table k ws me g l p same t =

@@ -2,3 +2,4 @@ pub mod Slot
 pub mod Ballots
 pub mod Moves
 pub mod Ring
+pub mod Promises

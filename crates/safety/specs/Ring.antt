@@ -76,11 +76,11 @@ module _ (stakes : List ℕ) (genesis : ℕ) (honest : Test) (fed : ℕ → List
     pub started : (n : ℕ) → T (honest n) → startVerdict stakes n genesis ≡ Fine
     pub pools : (n m s : ℕ) (v : Ballot) → T (honest n) → T (honest m) → ¬ (m ≡ n) → T (has (cellAt (life n) s m) v) → T (castBy m s v)
 
-  -- The same with the last part over what is fed: a vote that is fed in an honest node's name is one that it cast.
+  -- The same with the last part over what is fed: a vote that is fed to one honest node in another's name is one that the other cast.
   pub record FedRing : Type 0 where
     pub few : 5 * weight stakes (length stakes) (λ n. not (honest n)) < totalTo stakes (length stakes)
     pub started : (n : ℕ) → T (honest n) → startVerdict stakes n genesis ≡ Fine
-    pub mail : (n m s : ℕ) (v : Ballot) → T (honest n) → T (honest m) → T (broughtBy (fed n) s m v) → T (castBy m s v)
+    pub mail : (n m s : ℕ) (v : Ballot) → T (honest n) → T (honest m) → ¬ (m ≡ n) → T (broughtBy (fed n) s m v) → T (castBy m s v)
 
   -- ---- certificates and packets
 
