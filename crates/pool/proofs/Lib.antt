@@ -1,0 +1,4 @@
+pub mod NameLaws
+pub mod HeldLaws
+pub mod ReadyLaws
+pub mod TableLaws
