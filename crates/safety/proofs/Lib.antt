@@ -11,3 +11,4 @@ pub mod Safety
 pub mod Packets
 pub mod Written
 pub mod Promises
+pub mod Examples

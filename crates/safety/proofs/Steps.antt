@@ -214,6 +214,12 @@ unfolding refuseIf
 passed true r v e = let z : _≡_ {A = ℕ} 0 1 = cc in absurd (omega arith)
 passed false r v e = (tt, e)
 
+-- And so the verdict is fine where the others are.
+pub pass : (b : Bool) (r : Refusal) (v : Verdict) → T (not b) → v ≡ Fine → refuseIf b r v ≡ Fine
+unfolding refuseIf
+pass true r v t e = absurd t
+pass false r v t e = e
+
 free-place : (a b : Bool) → placeVerdict (placeIf a b) ≡ Fine → T b
 unfolding placeVerdict placeIf
 free-place true b e = let z : _≡_ {A = ℕ} 0 1 = cc in absurd (omega arith)

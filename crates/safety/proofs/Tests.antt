@@ -55,3 +55,12 @@ wider false b c t = t
 pub narrower : (b d c : Bool) → (T b → T d) → T (b || c) → T (d || c)
 narrower true d c f t = T-left d c (f tt)
 narrower false d c f t = T-right d c t
+
+-- A test that passes is not refused; two tests that fail fail together.
+pub yes : (a : Bool) → T a → T (not (not a))
+yes true t = tt
+yes false t = t
+
+pub neither : (a b : Bool) → T (not a) → T (not b) → T (not (a || b))
+neither true b t u = t
+neither false b t u = u

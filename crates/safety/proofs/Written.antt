@@ -41,8 +41,8 @@ use Rattle.safety.specs.Moves.{SameTable}
 use Rattle.safety.specs.Slot.{Heavy}
 use Rattle.safety.specs.Ring.{afterAll}
 use Rattle.safety.specs.Promises.{AcceptedAs, WrittenCertificateAccepted, WrittenProofAccepted}
-use Rattle.safety.proofs.Tests.{T-true, true-T, and-T, T-and, or-T, T-left, T-right, by-test, not-not, not-false}
-use Rattle.safety.proofs.Steps.{passed, Ready}
+use Rattle.safety.proofs.Tests.{T-true, true-T, and-T, T-and, or-T, T-left, T-right, by-test, not-not, not-false, yes, neither}
+use Rattle.safety.proofs.Steps.{passed, pass, Ready}
 use Rattle.safety.proofs.Lives.{life-table, Sized, start-sized, fresh-ready}
 use Rattle.safety.proofs.Safety.{as-table}
 
@@ -129,19 +129,6 @@ kind-small certificate.Final = omega arith
 kind-small certificate.Other = omega arith
 
 -- ---- tests that are passed
-
-pass : (b : Bool) (r : Refusal) (v : Verdict) → T (not b) → v ≡ Fine → refuseIf b r v ≡ Fine
-unfolding refuseIf
-pass true r v t e = absurd t
-pass false r v t e = e
-
-yes : (a : Bool) → T a → T (not (not a))
-yes true t = tt
-yes false t = t
-
-neither : (a b : Bool) → T (not a) → T (not b) → T (not (a || b))
-neither true b t u = t
-neither false b t u = u
 
 not-over : (m n : ℕ) → m < n → T (not (leb n m))
 not-over m n h = not-T (leb n m) (λ t. omega (arith, leb→le n m t))
