@@ -1,0 +1,177 @@
+-- What the 17 test's loops and the stakes of a record come to. Assumes nothing.
+use mathlib.Core.Path.{_≡_, refl, sym, ap, _∙_}
+use mathlib.Core.Bool.{Bool, true, false, not, _&&_, _||_}
+use mathlib.Core.List.{List, _++_}
+use mathlib.Core.Logic.{⊎-elim}
+use Prim.Native.Nat.{ℕ, suc, _+_, _-_, _<_, _≤_}
+use native.Mathlib.Omega.{arith}
+use lib.ListN.{length, getD, take, replicate, length-append, length-replicate}
+use lib.Seq.{getD-take, ext-getD, length-take-le}
+use lib.Dec.{eqb, leb, ltb}
+use borrow.Author.Tests.{eq-eqb, ne-eqb, lt-leb, le-leb, ltb-true, ltb-false, eqb-true}
+use Rattle.rulebook.specs.Tools.{allTo, sumTo}
+use Rattle.rulebook.specs.Weights.{mostNodes, mostStake, lastSlot, stakeIn, totalTo, stakesFit}
+use Rattle.rulebook.specs.Ledger.{Ledger}
+use Rattle.rulebook.specs.WellFormed.{Shaped, rowFits, rowBlank, headFits, wellFormed}
+use Rattle.rulebook.proofs.ToolLaws.{given-on, given-off, and-both, both-and, by-test, all-more, all-each, all-same, sum-same}
+use Rattle.stakes.specs.declared.StakeTable.{StakeTable}
+use Rattle.stakes.specs.declared.Made.{Made}
+use Rattle.stakes.specs.Table.{tableOf, madeOf, Fit}
+use Rattle.stakes.proofs.Laws.{made-fits, made-table, made-fit, place-in, place-out, table-total}
+use Rattle.settling.specs.Facts.{HeadFacts, Sound}
+use Rattle.settling.proofs.FactLaws.{formed}
+use Rattle.record.specs.Layout.{recordWords, ledgerOf, Counted}
+use Rattle.record.proofs.Reading.{ledger-shaped}
+use Rattle.soundness.specs.Sound.{soundWords, tableIn, TableOf}
+
+-- ---- a loop that joins tests
+
+pub all-step : (n : ℕ) (f : ℕ → Bool) (ok here : Bool) → ok ≡ allTo n f → here ≡ f n → (ok && here) ≡ allTo (n + 1) f
+all-step n f ok here a b = (λ i. a i && b i) ∙ sym (all-more n f)
+
+pub all-done : (n m : ℕ) (f : ℕ → Bool) (ok : Bool) → ok ≡ allTo n f → n ≡ m → ok ≡ allTo m f
+all-done n m f ok a e = a ∙ ap (λ (k : ℕ). allTo k f) e
+
+-- ---- the stakes in front of the others
+
+module _ (xs : List ℕ) (m : ℕ) (h : m ≤ length xs) where
+  front-long : length (take m xs) ≡ m
+  front-long = length-take-le m xs h
+
+  front-stake : (n : ℕ) → n < m → stakeIn (take m xs) n ≡ stakeIn xs n
+  front-stake n l = getD-take m xs n 0 l
+
+  pub front-total : totalTo (take m xs) (length (take m xs)) ≡ totalTo xs m
+  unfolding totalTo
+  front-total =
+      ap (λ (k : ℕ). sumTo k (λ n. stakeIn (take m xs) n)) front-long
+      ∙ sum-same m (λ n. stakeIn (take m xs) n) (λ n. stakeIn xs n) (λ i l. front-stake i l)
+
+  front-each : allTo (length (take m xs)) (λ n. leb 1 (stakeIn (take m xs) n)) ≡ allTo m (λ n. leb 1 (stakeIn xs n))
+  front-each =
+      ap (λ (k : ℕ). allTo k (λ n. leb 1 (stakeIn (take m xs) n))) front-long
+      ∙ all-same m (λ n. leb 1 (stakeIn (take m xs) n)) (λ n. leb 1 (stakeIn xs n)) (λ i l. ap (leb 1) (front-stake i l))
+
+  pub front-fits : stakesFit (take m xs) (length (take m xs)) ≡ stakesFit xs m
+  unfolding stakesFit
+  front-fits =
+      λ i. (leb 1 (front-long i) && leb (front-long i) mostNodes) && (front-each i && leb (front-total i) mostStake)
+
+table-sum : (ws : List ℕ) → tableOf ws .total .0 ≡ totalTo ws (length ws)
+unfolding tableOf
+table-sum ws = refl
+
+table-count : (ws : List ℕ) → tableOf ws .count ≡ length ws
+unfolding tableOf
+table-count ws = refl
+
+table-long : (ws : List ℕ) → length ws ≤ mostNodes → length (tableOf ws .stakes) ≡ mostNodes
+unfolding tableOf
+table-long ws h = length-append ws (replicate (mostNodes - length ws) 0) ∙ omega (arith, length-replicate {A = ℕ} (mostNodes - length ws) 0)
+
+-- The stakes and the total of a record, by the table that its stakes make.
+pub stakes-judged : (l : Ledger) (made : Made) (sum kept : ℕ) → Shaped l → l .count ≤ mostNodes → made ≡ madeOf (take (l .count) (l .stakes))
+    → sum ≡ made .table .total .0 → kept ≡ l .total
+    → (made .fits && eqb sum kept) ≡ (stakesFit (l .stakes) (l .count) && eqb (totalTo (l .stakes) (l .count)) (l .total))
+stakes-judged l made sum kept w few e s k =
+    let h : l .count ≤ length (l .stakes) = omega (arith, w .stakes) in
+    let f : made .fits ≡ stakesFit (l .stakes) (l .count) =
+    ap (λ (x : Made). x .fits) e ∙ made-fits (take (l .count) (l .stakes)) ∙ front-fits (l .stakes) (l .count) h in
+    by-test (made .fits)
+    (λ t.
+    let u : madeOf (take (l .count) (l .stakes)) .fits ≡ true = ap (λ (x : Made). x .fits) (sym e) ∙ t in
+    let a : sum ≡ totalTo (l .stakes) (l .count) =
+    s ∙ ap (λ (x : Made). x .table .total .0) e ∙ ap (λ (x : StakeTable). x .total .0) (made-table (take (l .count) (l .stakes)) u)
+    ∙ table-sum (take (l .count) (l .stakes)) ∙ front-total (l .stakes) (l .count) h in
+    λ i. f i && eqb (a i) (k i))
+    (λ t. rw (t, sym f ∙ t))
+
+-- More nodes than there are places.
+pub stakes-many : (l : Ledger) (b : Bool) → mostNodes < l .count → (stakesFit (l .stakes) (l .count) && b) ≡ false
+unfolding stakesFit
+stakes-many l b h = rw (lt-leb (l .count) mostNodes h) (go (leb 1 (l .count)))
+  where
+    go : (t : Bool) → (((t && false) && (allTo (l .count) (λ n. leb 1 (stakeIn (l .stakes) n)) && leb (totalTo (l .stakes) (l .count)) mostStake)) && b) ≡ false
+    go true = refl
+    go false = refl
+
+-- ---- the ways through the test
+
+pub short-unsound : (ws : List ℕ) (n : ℕ) → n ≡ recordWords → (length ws ≡ n → ⊥) → false ≡ soundWords ws
+unfolding soundWords
+short-unsound ws n e q = rw (ne-eqb (length ws) recordWords (λ h. q (h ∙ sym e)))
+
+module _ (ws : List ℕ) (n : ℕ) (e : n ≡ recordWords) (long : length ws ≡ n) where
+  pub test-whole : soundWords ws ≡ wellFormed (ledgerOf ws)
+  unfolding soundWords
+  test-whole = rw (eq-eqb (length ws) recordWords (long ∙ e))
+
+  pub head-unsound : headFits (ledgerOf ws) ≡ false → false ≡ soundWords ws
+  unfolding wellFormed
+  head-unsound h = sym (test-whole ∙ given-off (headFits (ledgerOf ws)) false _ h)
+
+  pub blank-unsound : headFits (ledgerOf ws) ≡ true → rowBlank (ledgerOf ws) ≡ false → false ≡ soundWords ws
+  unfolding wellFormed
+  blank-unsound h b = sym (test-whole ∙ given-on (headFits (ledgerOf ws)) false _ h ∙ given-off (rowBlank (ledgerOf ws)) false _ b)
+
+  pub rows-decide : (r : Bool) → headFits (ledgerOf ws) ≡ true → rowBlank (ledgerOf ws) ≡ true → r ≡ allTo lastSlot (λ i. rowFits (ledgerOf ws) (suc i)) → r ≡ soundWords ws
+  unfolding wellFormed
+  rows-decide r h b d = d ∙ sym (test-whole ∙ given-on (headFits (ledgerOf ws)) false _ h ∙ given-on (rowBlank (ledgerOf ws)) false _ b)
+
+-- ---- sound words
+
+pub sound-long : (ws : List ℕ) → soundWords ws ≡ true → length ws ≡ recordWords
+unfolding soundWords
+sound-long ws e = eqb-true (length ws) recordWords (and-both (eqb (length ws) recordWords) (wellFormed (ledgerOf ws)) e .0)
+
+pub sound-formed : (ws : List ℕ) → soundWords ws ≡ true → wellFormed (ledgerOf ws) ≡ true
+unfolding soundWords
+sound-formed ws e = and-both (eqb (length ws) recordWords) (wellFormed (ledgerOf ws)) e .1
+
+-- The ledger of sound words is sound.
+pub sound-ledger : (ws : List ℕ) → soundWords ws ≡ true → Sound (ledgerOf ws)
+sound-ledger ws e = record { shaped = ledger-shaped ws; formed = sound-formed ws e }
+
+-- Count, own number, stakes, total and genesis of sound words.
+pub sound-head : (ws : List ℕ) → soundWords ws ≡ true → HeadFacts (ledgerOf ws)
+sound-head ws e = formed (ledgerOf ws) (sound-formed ws e) .head
+
+pub sound-counted : (ws : List ℕ) → soundWords ws ≡ true → Counted ws
+sound-counted ws e = record { long = sound-long ws e; few = sound-head ws e .few }
+
+-- ---- the table of a ledger
+
+head-fits : (l : Ledger) → HeadFacts l → stakesFit (l .stakes) (l .count) ≡ true
+unfolding stakesFit
+head-fits l d =
+    both-and (leb 1 (l .count) && leb (l .count) mostNodes) (allTo (l .count) (λ n. leb 1 (stakeIn (l .stakes) n)) && leb (totalTo (l .stakes) (l .count)) mostStake)
+    (both-and (leb 1 (l .count)) (leb (l .count) mostNodes) (le-leb 1 (l .count) (d .some)) (le-leb (l .count) mostNodes (d .few)))
+    (both-and (allTo (l .count) (λ n. leb 1 (stakeIn (l .stakes) n))) (leb (totalTo (l .stakes) (l .count)) mostStake)
+    (all-each (l .count) (λ n. leb 1 (stakeIn (l .stakes) n)) (λ n h. le-leb 1 (stakeIn (l .stakes) n) (d .staked n h)))
+    (le-leb (totalTo (l .stakes) (l .count)) mostStake (omega (arith, d .sum, d .small))))
+
+-- What the used stakes of a ledger with a head in range make is its table.
+pub table-made : (l : Ledger) (made : Made) → Shaped l → HeadFacts l → made ≡ madeOf (take (l .count) (l .stakes)) → TableOf l (made .table)
+table-made l made w d e =
+    let h : l .count ≤ length (l .stakes) = omega (arith, w .stakes, d .few) in
+    let n : length (take (l .count) (l .stakes)) ≡ l .count = front-long (l .stakes) (l .count) h in
+    let u : madeOf (take (l .count) (l .stakes)) .fits ≡ true = made-fits (take (l .count) (l .stakes)) ∙ front-fits (l .stakes) (l .count) h ∙ head-fits l d in
+    let t : made .table ≡ tableOf (take (l .count) (l .stakes)) = ap (λ (x : Made). x .table) e ∙ made-table (take (l .count) (l .stakes)) u in
+    let long : length (tableOf (take (l .count) (l .stakes)) .stakes) ≡ mostNodes = table-long (take (l .count) (l .stakes)) (omega (arith, d .few)) in
+    let places : tableOf (take (l .count) (l .stakes)) .stakes ≡ l .stakes =
+    ext-getD 0 (tableOf (take (l .count) (l .stakes)) .stakes) (l .stakes) (long ∙ sym (w .stakes))
+    (λ i k.
+    by-test (ltb i (l .count))
+    (λ q.
+    let b : i < l .count = ltb-true i (l .count) q in
+    place-in (take (l .count) (l .stakes)) i (omega arith) ∙ front-stake (l .stakes) (l .count) h i b)
+    (λ q.
+    let b : l .count ≤ i = ltb-false i (l .count) q in
+    place-out (take (l .count) (l .stakes)) i (omega arith) ∙ sym (d .unused i (omega arith) b))) in
+    let same : tableOf (take (l .count) (l .stakes)) ≡ tableIn l =
+    (λ i. record {
+      stakes = places i;
+      count = (table-count (take (l .count) (l .stakes)) ∙ n) i;
+      total = record { 0 = (table-sum (take (l .count) (l .stakes)) ∙ front-total (l .stakes) (l .count) h ∙ d .sum) i };
+    }) in
+    record { same = t ∙ same; fit = made-fit (take (l .count) (l .stakes)) made e (ap (λ (x : Made). x .fits) e ∙ u) }

@@ -1,0 +1,2 @@
+-- Laws of sound words, for the crates that cite them.
+pub mod Laws

@@ -1,0 +1,220 @@
+// The 17 test, the stake table of a sound record, and start.
+ghost use mathlib.Core.Path.{_≡_};
+ghost use mathlib.Core.Bool.{true, _&&_, _||_};
+ghost use Prim.Native.Nat.{suc};
+ghost use lib.ListN.{length, getD};
+ghost use lib.Dec.{eqb, ltb};
+ghost use Rattle.rulebook.specs.Tools.{given, allTo};
+ghost use Rattle.rulebook.specs.Weights.{mostNodes, lastSlot, windows, stakeIn, stakesFit, totalTo};
+ghost use Rattle.rulebook.specs.Ledger.{none};
+ghost use Rattle.rulebook.specs.Inputs.{badParent};
+ghost use Rattle.rulebook.specs.WellFormed.{flag, inOrder, cellFits, cellBlank, cellsFit, keptFits, rowFits, rowBlank, headFits};
+ghost use Rattle.record.specs.Layout.{recordWords, InSlot, ledgerOf};
+ghost use Rattle.soundness.specs.Sound.{soundWords, TableOf};
+use record::armed_word;
+use record::count;
+use record::final_block;
+use record::genesis;
+use record::kept_block;
+use record::load_cell;
+use record::own;
+use record::record_words;
+use record::stake;
+use record::stakes_of;
+use record::timeout_word;
+use record::total;
+use rulebook::Block;
+use rulebook::Cell;
+use rulebook::Node;
+use rulebook::Slot;
+use stakes::StakeTable;
+use stakes::make_table;
+
+// Two fallback places: the later is filled only after the earlier, and not with the same block.
+fn in_order(x: u64, y: u64) -> bool
+    ensures { λ r. ⌜ r ≡ inOrder x y ⌝ }
+{
+    (y == 0) | ((x != 0) & (x != y))
+}
+
+// Flags, one initial vote, fallback blocks from the front and none twice.
+fn cell_fits(c: Cell) -> bool
+    ensures { λ r. ⌜ r ≡ cellFits c ⌝ }
+{
+    let flags = (c.skip <= 1) & ((c.skipfallback <= 1) & (c.finalvote <= 1));
+    let one = (c.notar == 0) | (c.skip == 0);
+    let second = in_order(c.fallback1, c.fallback2);
+    let third = in_order(c.fallback2, c.fallback3);
+    let apart = (c.fallback3 == 0) | (c.fallback1 != c.fallback3);
+    flags & (one & (second & (third & apart)))
+}
+
+// Nothing in it.
+fn cell_blank(c: Cell) -> bool
+    ensures { λ r. ⌜ r ≡ cellBlank c ⌝ }
+{
+    let initial = (c.notar == 0) & (c.skip == 0);
+    let fallbacks = (c.fallback1 == 0) & ((c.fallback2 == 0) & (c.fallback3 == 0));
+    initial & (fallbacks & ((c.skipfallback == 0) & (c.finalvote == 0)))
+}
+
+// A used cell in range, an unused one blank.
+fn place_fits(c: Cell, used: bool) -> bool
+    ensures { λ r. ⌜ r ≡ given used (cellBlank c) (λ _. cellFits c) ⌝ }
+{
+    if used { cell_fits(c) } else { cell_blank(c) }
+}
+
+// The cells of a row, of which so many are used.
+fn cells_fit(rec: &[u64], s: Slot, used: usize) -> bool
+    requires { ⌜ InSlot (now rec) (s .0) ⌝ }
+    ensures { λ r. ⌜ r ≡ cellsFit (ledgerOf (now (rec .entry))) (s .0) used ⌝ }
+{
+    let mut ok = true;
+    for n in 0..64 {
+        let c = load_cell(rec, s, Node(n));
+        let here = place_fits(c, n < used);
+        ok = ok & here;
+    }
+    ok
+}
+
+// 11: the parent's slot is not below the slot, or it is slot 0 and the parent is not genesis.
+pub fn bad_parent(rec: &[u64], s: Slot, b: Block) -> bool
+    requires { ⌜ length (now rec) ≡ recordWords ⌝ }
+    ensures { λ r. ⌜ r ≡ badParent (ledgerOf (now (rec .entry))) (s .0) b ⌝ }
+{
+    let p = b.parentslot;
+    let first = genesis(rec);
+    (s.0 <= p.0) | ((p.0 == 0) & (b.parent != first))
+}
+
+// A kept block has a parent that 5 and 11 let pass; where none is kept all is 0.
+fn kept_fits(rec: &[u64], s: Slot, b: Block) -> bool
+    requires { ⌜ length (now rec) ≡ recordWords ⌝ }
+    ensures { λ r. ⌜ r ≡ keptFits (ledgerOf (now (rec .entry))) (s .0) b ⌝ }
+{
+    let p = b.parentslot;
+    if b.number != 0 {
+        let bad = bad_parent(rec, s, b);
+        (b.parent != 0) & !bad
+    } else {
+        (p.0 == 0) & (b.parent == 0)
+    }
+}
+
+// The row of one of the slots 1 to 16.
+fn row_fits(rec: &[u64], s: Slot) -> bool
+    requires { ⌜ InSlot (now rec) (s .0) ⌝ }
+    ensures { λ r. ⌜ r ≡ rowFits (ledgerOf (now (rec .entry))) (s .0) ⌝ }
+{
+    let kept = kept_fits(rec, s, kept_block(rec, s));
+    let marked = timeout_word(rec, s) <= 1;
+    let cells = cells_fit(rec, s, count(rec));
+    kept & (marked & cells)
+}
+
+// Row 0 is unused.
+fn row_blank(rec: &[u64]) -> bool
+    requires { ⌜ length (now rec) ≡ recordWords ⌝ }
+    ensures { λ r. ⌜ r ≡ rowBlank (ledgerOf (now (rec .entry))) ⌝ }
+{
+    let b = kept_block(rec, Slot(0));
+    let p = b.parentslot;
+    let kept = (b.number == 0) & ((p.0 == 0) & (b.parent == 0));
+    let marks = (timeout_word(rec, Slot(0)) == 0) & (final_block(rec, Slot(0)) == 0);
+    let cells = cells_fit(rec, Slot(0), 0);
+    kept & (marks & cells)
+}
+
+// The rows of slots 1 to 16.
+fn rows_fit(rec: &[u64]) -> bool
+    requires { ⌜ length (now rec) ≡ recordWords ⌝ }
+    ensures { λ r. ⌜ r ≡ allTo lastSlot (λ i. rowFits (ledgerOf (now (rec .entry))) (suc i)) ⌝ }
+{
+    let mut ok = true;
+    for i in 0..16 {
+        let here = row_fits(rec, Slot(i + 1));
+        ok = ok & here;
+    }
+    ok
+}
+
+// The stakes fit, and their sum is the total.
+fn stakes_fit(rec: &[u64]) -> bool
+    requires { ⌜ length (now rec) ≡ recordWords ⌝ }
+    ensures { λ r. ⌜ r ≡ (stakesFit (ledgerOf (now (rec .entry)) .stakes) (ledgerOf (now (rec .entry)) .count) && eqb (totalTo (ledgerOf (now (rec .entry)) .stakes) (ledgerOf (now (rec .entry)) .count)) (ledgerOf (now (rec .entry)) .total)) ⌝ }
+{
+    if 64 < count(rec) {
+        return false;
+    }
+    let made = make_table(stakes_of(rec));
+    let table = made.table;
+    let sum = table.total;
+    let kept = total(rec);
+    made.fits & (sum.0 == kept.0)
+}
+
+// The marks of the armed windows.
+fn armed_fits(rec: &[u64]) -> bool
+    requires { ⌜ length (now rec) ≡ recordWords ⌝ }
+    ensures { λ r. ⌜ r ≡ allTo windows (λ w. flag (getD (ledgerOf (now (rec .entry)) .armed) w 0)) ⌝ }
+{
+    let mut ok = true;
+    for w in 0..4 {
+        ok = ok & (armed_word(rec, w) <= 1);
+    }
+    ok
+}
+
+// The stakes past the last node are 0.
+fn rest_fits(rec: &[u64]) -> bool
+    requires { ⌜ length (now rec) ≡ recordWords ⌝ }
+    ensures { λ r. ⌜ r ≡ allTo mostNodes (λ n. ltb n (ledgerOf (now (rec .entry)) .count) || none (stakeIn (ledgerOf (now (rec .entry)) .stakes) n)) ⌝ }
+{
+    let m = count(rec);
+    let mut ok = true;
+    for n in 0..64 {
+        let w = stake(rec, Node(n));
+        ok = ok & ((n < m) | (w.0 == 0));
+    }
+    ok
+}
+
+// Count, stakes, total, own number, genesis and armed windows.
+fn head_fits(rec: &[u64]) -> bool
+    requires { ⌜ length (now rec) ≡ recordWords ⌝ }
+    ensures { λ r. ⌜ r ≡ headFits (ledgerOf (now (rec .entry))) ⌝ }
+{
+    let table = stakes_fit(rec);
+    let me = own(rec);
+    let node = (me.0 < count(rec)) & (genesis(rec) != 0);
+    let windows = armed_fits(rec);
+    let rest = rest_fits(rec);
+    table & (node & (windows & rest))
+}
+
+// Not 17: whether the words are a node's record.
+pub fn sound(rec: &[u64]) -> bool
+    ensures { λ r. ⌜ r ≡ soundWords (now (rec .entry)) ⌝ }
+{
+    if rec.len() != record_words() {
+        return false;
+    }
+    if !head_fits(rec) {
+        return false;
+    }
+    if !row_blank(rec) {
+        return false;
+    }
+    rows_fit(rec)
+}
+
+// The stake table of a sound record, read once a call.
+pub fn table(rec: &[u64]) -> StakeTable
+    requires { ⌜ soundWords (now rec) ≡ true ⌝ }
+    ensures { λ r. ⌜ TableOf (ledgerOf (now (rec .entry))) r ⌝ }
+{
+    let made = make_table(stakes_of(rec));
+    made.table
+}
