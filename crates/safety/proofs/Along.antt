@@ -13,7 +13,7 @@ use Rattle.rulebook.specs.Weights.{weight, reaches}
 use Rattle.rulebook.specs.Ledger.{Ledger, none, noInitial, cellAt}
 use Rattle.rulebook.specs.Pool.{hasFallback}
 use Rattle.rulebook.specs.Rules.{State, Record, stateOf}
-use Rattle.safety.specs.Slot.{Ballot, notar, notarFallback, skip, skipFallback, final}
+use Rattle.safety.specs.Slot.{Ballot, notar, notarFallback, skip, skipFallback, final, fallbackFifths, skipFallbackFifths}
 use Rattle.safety.specs.Ballots.{has, withBallot, kindOf, blockOf, recordFor, sameRecord, among, brings}
 use Rattle.safety.specs.Moves.{roomFor, noFallback, noFinal, notFor, Certified, Others, Allowed, anyNotar, anySkip, toFinal, toFallback, toSkipFallback, SameTable, Stored, Move, casts, takes, keeps, Moves, stay, more}
 use Rattle.safety.proofs.Tests.{and-T, T-and, or-T, T-left, T-right, wider, narrower}
@@ -61,10 +61,10 @@ stored-grow l s n v m t st s′ n′ =
 
 -- Guards that were passed stay passed.
 module _ (l m : Ledger) (table : SameTable l m) (grow : Grow l m) where
-  pub others-grow : (s b : ℕ) → Others l s b → Others m s b
-  others-grow s b t =
+  pub others-grow : (k s b : ℕ) → Others k l s b → Others k m s b
+  others-grow k s b t =
       rw (table .total, table .stakes, table .count)
-      (reaches-more 2 (l .total) (weight (l .stakes) (l .count) (λ n. notFor b (cellAt l s n))) (weight (l .stakes) (l .count) (λ n. notFor b (cellAt m s n)))
+      (reaches-more k (l .total) (weight (l .stakes) (l .count) (λ n. notFor b (cellAt l s n))) (weight (l .stakes) (l .count) (λ n. notFor b (cellAt m s n)))
       (weight-mono (l .stakes) (l .count) (λ n. notFor b (cellAt l s n)) (λ n. notFor b (cellAt m s n))
       (λ n. kept-notFor b (cellAt l s n) (cellAt m s n) (grow s n)))
       t)
@@ -83,8 +83,8 @@ pub record SlotOk (me : ℕ) (l : Ledger) (s : ℕ) : Type 0 where
   pub finalNotar : T (has (cellAt l s me) final) → (b : ℕ) × T (has (cellAt l s me) (notar b)) × Certified l s b
   pub finalNoFallback : T (has (cellAt l s me) final) → (c : ℕ) → ¬ T (has (cellAt l s me) (notarFallback c))
   pub finalNoSkipFallback : T (has (cellAt l s me) final) → ¬ T (has (cellAt l s me) skipFallback)
-  pub fallbackFew : (c : ℕ) → T (has (cellAt l s me) (notarFallback c)) → (b : ℕ) → ¬ (c ≡ b) → Others l s b
-  pub skipFallbackFew : T (has (cellAt l s me) skipFallback) → (b : ℕ) → Others l s b
+  pub fallbackFew : (c : ℕ) → T (has (cellAt l s me) (notarFallback c)) → (b : ℕ) → ¬ (c ≡ b) → Others fallbackFifths l s b
+  pub skipFallbackFew : T (has (cellAt l s me) skipFallback) → (b : ℕ) → Others skipFallbackFifths l s b
 
 -- A cell in order without a first fallback block has none.
 no-fallbacks : (c : Cell) → Neat c → T (none (c .fallback1)) → (b : ℕ) → ¬ T (has c (notarFallback b))
@@ -106,10 +106,10 @@ module _ (me : ℕ) (l : Ledger) (s : ℕ) where
   final-guard : Allowed me l s final → FinalGuard
   final-guard (toFinal b h nf c) = record { block = b; own = h; clear = nf; certified = c }
 
-  fallback-guard : (c : ℕ) → Allowed me l s (notarFallback c) → T (noFinal (cellAt l s me)) × ((b : ℕ) → ¬ (c ≡ b) → Others l s b)
+  fallback-guard : (c : ℕ) → Allowed me l s (notarFallback c) → T (noFinal (cellAt l s me)) × ((b : ℕ) → ¬ (c ≡ b) → Others fallbackFifths l s b)
   fallback-guard c (toFallback nf few) = (nf, few)
 
-  late-guard : Allowed me l s skipFallback → T (noFinal (cellAt l s me)) × ((b : ℕ) → Others l s b)
+  late-guard : Allowed me l s skipFallback → T (noFinal (cellAt l s me)) × ((b : ℕ) → Others skipFallbackFifths l s b)
   late-guard (toSkipFallback nf few) = (nf, few)
 
 -- Two kinds of ballot are not one.
@@ -127,8 +127,8 @@ module _ (me : ℕ) (l m : Ledger) (table : SameTable l m) (grow : Grow l m) (s 
         finalNotar = rw e λ t. let f = ok .finalNotar t in (f .0, f .1, certified-grow l m table grow s (f .0) (f .2));
         finalNoFallback = rw e (ok .finalNoFallback);
         finalNoSkipFallback = rw e (ok .finalNoSkipFallback);
-        fallbackFew = rw e λ c t b ne. others-grow l m table grow s b (ok .fallbackFew c t b ne);
-        skipFallbackFew = rw e λ t b. others-grow l m table grow s b (ok .skipFallbackFew t b);
+        fallbackFew = rw e λ c t b ne. others-grow l m table grow fallbackFifths s b (ok .fallbackFew c t b ne);
+        skipFallbackFew = rw e λ t b. others-grow l m table grow skipFallbackFifths s b (ok .skipFallbackFew t b);
       }
 
   -- A ballot in the cell before or the new one: what the new cell has.
@@ -142,11 +142,11 @@ module _ (me : ℕ) (l m : Ledger) (table : SameTable l m) (grow : Grow l m) (s 
     final-stands : T (has (cellAt l s me) final) → (b : ℕ) × T (has (cellAt m s me) (notar b)) × Certified m s b
     final-stands t = let f = ok .finalNotar t in (f .0, still (notar (f .0)) (f .1), certified-grow l m table grow s (f .0) (f .2))
 
-    few-stands : (c : ℕ) → T (has (cellAt l s me) (notarFallback c)) → (b : ℕ) → ¬ (c ≡ b) → Others m s b
-    few-stands c t b ne = others-grow l m table grow s b (ok .fallbackFew c t b ne)
+    few-stands : (c : ℕ) → T (has (cellAt l s me) (notarFallback c)) → (b : ℕ) → ¬ (c ≡ b) → Others fallbackFifths m s b
+    few-stands c t b ne = others-grow l m table grow fallbackFifths s b (ok .fallbackFew c t b ne)
 
-    late-stands : T (has (cellAt l s me) skipFallback) → (b : ℕ) → Others m s b
-    late-stands t b = others-grow l m table grow s b (ok .skipFallbackFew t b)
+    late-stands : T (has (cellAt l s me) skipFallback) → (b : ℕ) → Others skipFallbackFifths m s b
+    late-stands t b = others-grow l m table grow skipFallbackFifths s b (ok .skipFallbackFew t b)
 
     -- The own cell takes a ballot that its guard allows.
     module _ (neat : Neat (cellAt l s me)) (a : Allowed me l s v) where
@@ -180,10 +180,10 @@ module _ (me : ℕ) (l m : Ledger) (table : SameTable l m) (grow : Grow l m) (s 
                 (λ x. T-not (none (cellAt l s me .finalvote)) old (late-guard me l s (to skipFallback x) .0))
                 (ok .finalNoSkipFallback old));
             fallbackFew = λ c t b ne. before (notarFallback c) t
-                (λ x. others-grow l m table grow s b (fallback-guard me l s c (to (notarFallback c) x) .1 b ne))
+                (λ x. others-grow l m table grow fallbackFifths s b (fallback-guard me l s c (to (notarFallback c) x) .1 b ne))
                 (λ u. few-stands c u b ne);
             skipFallbackFew = λ t b. before skipFallback t
-                (λ x. others-grow l m table grow s b (late-guard me l s (to skipFallback x) .1 b))
+                (λ x. others-grow l m table grow skipFallbackFifths s b (late-guard me l s (to skipFallback x) .1 b))
                 (λ u. late-stands u b);
           }
 

@@ -118,7 +118,7 @@ skip-other b x ok t =
 
 -- Rule D's weights: 40 for c, or 60 for c or skip, are 40 that are not for another block.
 pub fallback-others : (l : Ledger) (s c : ℕ) → ((n : ℕ) → Neat (cellAt l s n)) → T (not (none c)) → T (fallbackWeights l s c)
-    → (b : ℕ) → ¬ (c ≡ b) → Others l s b
+    → (b : ℕ) → ¬ (c ≡ b) → Others 2 l s b
 unfolding fallbackWeights weigh counts
 fallback-others l s c neat h t b ne =
     let x = weight (l .stakes) (l .count) (λ n. eqb (cellAt l s n .notar) c) in
@@ -140,7 +140,7 @@ or-rest true false t = tt
 or-rest false b t = absurd t
 
 -- Rule E's weights: for every block, 40 are not for it.
-pub skip-others : (l : Ledger) (s : ℕ) → ((n : ℕ) → Neat (cellAt l s n)) → T (skipWeights l s) → (b : ℕ) → Others l s b
+pub skip-others : (l : Ledger) (s : ℕ) → ((n : ℕ) → Neat (cellAt l s n)) → T (skipWeights l s) → (b : ℕ) → Others 2 l s b
 unfolding skipWeights weigh counts
 skip-others l s neat t b =
     let ws = l .stakes in

@@ -10,7 +10,7 @@ use Rattle.rulebook.specs.declared.Cell.{Cell}
 use Rattle.rulebook.specs.declared.Input.{Input}
 use Rattle.rulebook.specs.declared.Verdict.the-variants.{Fine}
 use Rattle.rulebook.specs.Tools.{allTo}
-use Rattle.rulebook.specs.Weights.{mostNodes, mostStake, stakesFit, stakeIn, totalTo}
+use Rattle.rulebook.specs.Weights.{mostNodes, mostStake, lastSlot, stakesFit, stakeIn, totalTo}
 use Rattle.rulebook.specs.Ledger.{Ledger, Row, none, noRow, noCell, rowAt, cellAt, fresh}
 use Rattle.rulebook.specs.Rules.{Record, stateOf}
 use Rattle.rulebook.specs.Inputs.{startVerdict, feed}
@@ -53,7 +53,7 @@ reverse-among xs r t = aux-among xs [] r (T-left (among xs r) false t)
 
 -- ---- one step
 
-module _ (me : ℕ) (me64 : me < 64) where
+module _ (me : ℕ) (me64 : me < mostNodes) where
   step-went : (l : Ledger) (i : Input) (r : Ready me l) → Went me i l (stateOf (feed l i .ledger) (feed-stepped me me64 l i r .newest))
   step-went l i r =
       moves-went me i l (stateOf l []) (stateOf (feed l i .ledger) (feed-stepped me me64 l i r .newest)) (feed-stepped me me64 l i r .moves)
@@ -148,8 +148,8 @@ getD-all P (suc k) x (suc i) d p q = getD-all P k x i d p q
 pub fresh-cell : (ws : List ℕ) (me g s n : ℕ) → cellAt (fresh ws me g) s n ≡ noCell
 unfolding fresh noRow
 fresh-cell ws me g s n =
-    getD-all (λ (r : Row). getD (r .cells) n noCell ≡ noCell) 17 noRow s noRow
-    (getD-all (λ (c : Cell). c ≡ noCell) 64 noCell n noCell refl refl) (getD-all (λ (c : Cell). c ≡ noCell) 64 noCell n noCell refl refl)
+    getD-all (λ (r : Row). getD (r .cells) n noCell ≡ noCell) (suc lastSlot) noRow s noRow
+    (getD-all (λ (c : Cell). c ≡ noCell) mostNodes noCell n noCell refl refl) (getD-all (λ (c : Cell). c ≡ noCell) mostNodes noCell n noCell refl refl)
 
 pub fresh-has : (ws : List ℕ) (me g s n : ℕ) (v : Ballot) → ¬ T (has (cellAt (fresh ws me g) s n) v)
 fresh-has ws me g s n v t = blank-has v (rw (fresh-cell ws me g s n) at t)
@@ -171,17 +171,17 @@ fresh-inv ws me g =
 pub record Sized (ws : List ℕ) (me : ℕ) : Type 0 where
   pub fits : T (stakesFit ws (length ws))
   pub inTable : me < length ws
-  pub few : length ws ≤ 64
+  pub few : length ws ≤ mostNodes
 
 or-neither : (a b : Bool) → T (not (a || b)) → T (not a) × T (not b)
 or-neither true b t = absurd t
 or-neither false b t = (tt, t)
 
-fits-few : (ws : List ℕ) → T (stakesFit ws (length ws)) → length ws ≤ 64
+fits-few : (ws : List ℕ) → T (stakesFit ws (length ws)) → length ws ≤ mostNodes
 unfolding stakesFit
 fits-few ws t =
-    leb→le (length ws) 64 (and-T (leb 1 (length ws)) (leb (length ws) 64)
-    (and-T (leb 1 (length ws) && leb (length ws) 64) (allTo (length ws) (λ n. leb 1 (stakeIn ws n)) && leb (totalTo ws (length ws)) mostStake) t .0) .1)
+    leb→le (length ws) mostNodes (and-T (leb 1 (length ws)) (leb (length ws) mostNodes)
+    (and-T (leb 1 (length ws) && leb (length ws) mostNodes) (allTo (length ws) (λ n. leb 1 (stakeIn ws n)) && leb (totalTo ws (length ws)) mostStake) t .0) .1)
 
 pub start-sized : (ws : List ℕ) (me g : ℕ) → startVerdict ws me g ≡ Fine → Sized ws me
 unfolding startVerdict
@@ -194,14 +194,14 @@ start-sized ws me g e =
       few = fits-few ws f;
     }
 
-fresh-shaped : (ws : List ℕ) (me g : ℕ) → length ws ≤ 64 → Shaped (fresh ws me g)
+fresh-shaped : (ws : List ℕ) (me g : ℕ) → length ws ≤ mostNodes → Shaped (fresh ws me g)
 unfolding fresh noRow
 fresh-shaped ws me g h =
     record {
       armed = refl;
-      stakes = rw (length-append ws (replicate (64 - length ws) 0), length-replicate {A = ℕ} (64 - length ws) 0) (omega arith);
+      stakes = rw (length-append ws (replicate (mostNodes - length ws) 0), length-replicate {A = ℕ} (mostNodes - length ws) 0) (omega arith);
       rows = refl;
-      cells = λ s k. getD-all (λ (r : Row). length (r .cells) ≡ 64) 17 noRow s noRow (length-replicate 64 noCell) (length-replicate 64 noCell);
+      cells = λ s k. getD-all (λ (r : Row). length (r .cells) ≡ mostNodes) (suc lastSlot) noRow s noRow (length-replicate mostNodes noCell) (length-replicate mostNodes noCell);
     }
 
 pub fresh-ready : (ws : List ℕ) (me g : ℕ) → Sized ws me → Ready me (fresh ws me g)

@@ -7,9 +7,9 @@ use native.Mathlib.Omega.{arith}
 use native.Mathlib.Decide.{ℕ-discrete}
 use lib.Dec.{T, not-T}
 use Rattle.rulebook.specs.Weights.{weight, totalTo, reaches}
-use Rattle.safety.specs.Slot.{Ballot, notar, notarFallback, skip, skipFallback, final, Test, Against, otherNotar, otherFallback, skipped, skippedLate, Heavy, Quorum, Without, Lawful, Final, fast, slow, Rival}
+use Rattle.safety.specs.Slot.{Ballot, notar, notarFallback, skip, skipFallback, final, Test, Against, otherNotar, otherFallback, skipped, skippedLate, Heavy, Quorum, Without, Lawful, Final, fast, slow, Rival, fallbackFifths, skipFallbackFifths}
 use Rattle.safety.proofs.Tests.{and-T}
-use Rattle.safety.proofs.Weighing.{reaches-le, weight-overlap, weight-apart, weight-cover}
+use Rattle.safety.proofs.Weighing.{reaches-le, reaches-less, weight-overlap, weight-apart, weight-cover}
 
 inside : (h p : Bool) → T p → T (h && p || not h)
 inside true true t = tt
@@ -63,12 +63,12 @@ module _ (ws : List ℕ) (k : ℕ) (honest : Test) (cast : ℕ → Ballot → Bo
       clean-notar b n h x nf sf v y skippedLate = sf y
 
       -- With 80 for b no 40 are without it.
-      none-without : (b : ℕ) (q : Quorum ws k honest cast 4 (notar b)) → ¬ Without ws k honest cast 2 (notar b)
-      none-without b q w =
+      none-without : (b : ℕ) (q : Quorum ws k honest cast 4 (notar b)) (f : ℕ) → 2 ≤ f → ¬ Without ws k honest cast f (notar b)
+      none-without b q f le w =
           omega (
             arith,
             heavy-honest 4 (q .set) (q .heavy),
-            heavy-le 2 (w .set) (w .heavy),
+            heavy-le 2 (w .set) (reaches-less 2 f (totalTo ws k) (weight ws k (w .set)) le (w .heavy)),
             weight-apart ws k (λ n. honest n && (q .set) n) (w .set)
                 (λ n x y. let a = and-T (honest n) ((q .set) n) x in w .none n (a .0) y (q .all n (a .0) (a .1))),
           )
@@ -77,11 +77,10 @@ module _ (ws : List ℕ) (k : ℕ) (honest : Test) (cast : ℕ → Ballot → Bo
       pub safe : (b : ℕ) → Final ws k honest cast b → ¬ Rival ws k honest cast b
       safe b (fast q) =
           let p : Test = λ n. honest n && (q .set) n in
-          let lone = none-without b q in
           outweighed b p (λ n x. and-T (honest n) ((q .set) n) x .0)
           (λ n x. let a = and-T (honest n) ((q .set) n) x in
-          clean-notar b n (a .0) (q .all n (a .0) (a .1)) (λ c ne y. lone (lawful n (a .0) .fallbackFew b c ne y))
-          (λ y. lone (lawful n (a .0) .skipFallbackFew b y)))
+          clean-notar b n (a .0) (q .all n (a .0) (a .1)) (λ c ne y. none-without b q fallbackFifths (omega arith) (lawful n (a .0) .fallbackFew b c ne y))
+          (λ y. none-without b q skipFallbackFifths (omega arith) (lawful n (a .0) .skipFallbackFew b y)))
           (omega (arith, heavy-honest 4 (q .set) (q .heavy)))
       safe b (slow q f) =
           let p : Test = λ n. honest n && (f .set) n in

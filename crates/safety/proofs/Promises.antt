@@ -7,6 +7,7 @@ use native.Mathlib.Omega.{arith}
 use lib.Dec.{T}
 use Rattle.rulebook.specs.declared.Input.{Input}
 use Rattle.rulebook.specs.declared.Verdict.the-variants.{Fine}
+use Rattle.rulebook.specs.Weights.{mostNodes}
 use Rattle.rulebook.specs.Ledger.{Ledger, fresh, cellAt}
 use Rattle.rulebook.specs.Inputs.{startVerdict, feed}
 use Rattle.safety.specs.Slot.{Test, Ballot}
@@ -29,7 +30,7 @@ packets-safe stakes genesis honest fed ring = packets.packets-safe stakes genesi
 pub proofs-agree : ProofsAgree
 proofs-agree stakes genesis honest fed ring = packets.proofs-agree stakes genesis honest fed ring
 
-below : (stakes : List ℕ) (n : ℕ) → Sized stakes n → n < 64
+below : (stakes : List ℕ) (n : ℕ) → Sized stakes n → n < mostNodes
 below stakes n z = omega (arith, z .inTable, z .few)
 
 pub mail-is-enough : MailIsEnough

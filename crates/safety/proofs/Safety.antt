@@ -14,7 +14,7 @@ use Rattle.rulebook.specs.declared.CertificateKind.{CertificateKind}
 use Rattle.rulebook.specs.declared.CertificateKind.the-variants as certificate
 use Rattle.rulebook.specs.declared.Verdict.the-variants.{Fine}
 use Rattle.rulebook.specs.Tools.{part, sumTo, someTo}
-use Rattle.rulebook.specs.Weights.{weight, totalTo, reaches, stakeIn}
+use Rattle.rulebook.specs.Weights.{mostNodes, weight, totalTo, reaches, stakeIn}
 use Rattle.rulebook.specs.PaperNumbers.{certificateKind}
 use Rattle.rulebook.specs.declared.Cell.{Cell}
 use Rattle.rulebook.specs.Ledger.{Ledger, none, noInitial, fresh, cellAt}
@@ -24,7 +24,7 @@ use Rattle.rulebook.specs.Checker.{isOtherKind, blockMisfits, withoutB, badSign
 use Rattle.rulebook.proofs.ToolLaws.{sum-same}
 use Rattle.rulebook.proofs.WeightLaws.{reaches-fewer}
 use Rattle.rulebook.proofs.MaskLaws.{zero-bit}
-use Rattle.safety.specs.Slot.{Test, Ballot, notar, notarFallback, skip, skipFallback, final, Against, otherNotar, otherFallback, skipped, skippedLate, Heavy, Quorum, Without, Lawful, Final, fast, slow, Rival}
+use Rattle.safety.specs.Slot.{Test, Ballot, notar, notarFallback, skip, skipFallback, final, Against, otherNotar, otherFallback, skipped, skippedLate, Heavy, Quorum, Without, Lawful, Final, fast, slow, Rival, fallbackFifths, skipFallbackFifths}
 use Rattle.safety.specs.Ballots.{has, recordFor}
 use Rattle.safety.specs.Moves.{notFor, Certified, Others, SameTable}
 use Rattle.safety.specs.Ring.{afterAll, madeIn, broughtBy, life, castBy, Ring, FedRing, ballotA, ballotB, Genuine, Proves, byOne, byTwo, Every, noMore, also, Agrees}
@@ -49,7 +49,7 @@ pub as-table : (k : ℕ) (ws : List ℕ) (me g : ℕ) (l : Ledger) (p : Test) �
     → T (reaches k (l .total) (weight (l .stakes) (l .count) p)) → Heavy k ws (length ws) p
 unfolding fresh
 as-table k ws me g l p same t =
-    rw (same .total, same .stakes, same .count, weight-padded ws (replicate (64 - length ws) 0) p) at t
+    rw (same .total, same .stakes, same .count, weight-padded ws (replicate (mostNodes - length ws) 0) p) at t
 
 -- ---- what the checker's acceptance says
 
@@ -122,7 +122,7 @@ module _ (stakes : List ℕ) (genesis : ℕ) (honest : Test) (fed : ℕ → List
   sized : (n : ℕ) → T (honest n) → Sized stakes n
   sized n h = start-sized stakes n genesis (ring .started n h)
 
-  below : (n : ℕ) → T (honest n) → n < 64
+  below : (n : ℕ) → T (honest n) → n < mostNodes
   below n h = let z = sized n h in omega (arith, z .inTable, z .few)
 
   start-ready : (n : ℕ) → T (honest n) → Ready n (fresh stakes n genesis)
@@ -192,12 +192,12 @@ module _ (stakes : List ℕ) (genesis : ℕ) (honest : Test) (fed : ℕ → List
           fallbackFew = λ b c ne t. record {
             set = λ m. notFor b (cellAt (end n) s m);
             none = λ m k. not-own n m b h k;
-            heavy = as-table 2 stakes n genesis (end n) _ (end-table n h) (ok .fallbackFew c t b ne);
+            heavy = as-table fallbackFifths stakes n genesis (end n) _ (end-table n h) (ok .fallbackFew c t b ne);
           };
           skipFallbackFew = λ b t. record {
             set = λ m. notFor b (cellAt (end n) s m);
             none = λ m k. not-own n m b h k;
-            heavy = as-table 2 stakes n genesis (end n) _ (end-table n h) (ok .skipFallbackFew t b);
+            heavy = as-table skipFallbackFifths stakes n genesis (end n) _ (end-table n h) (ok .skipFallbackFew t b);
           };
         }
 
@@ -221,12 +221,18 @@ module _ (stakes : List ℕ) (genesis : ℕ) (honest : Test) (fed : ℕ → List
   by-a : (k : CertificateKind) (s b : ℕ) (c : Checked k s b) (n : ℕ) → T (honest n) → T (bit (c .cert .maska) n) → T (own s n (ballotA k b))
   by-a k s b c n h t =
       own-stored n s (ballotA k b) h
-      (rw (c .kind, c .slot, c .block) at (c .genuine .signedA n h t))
+      (subst (λ (x : ℕ). T (castBy stakes genesis honest fed n s (ballotA k x))) (c .block)
+      (subst (λ (x : CertificateKind). T (castBy stakes genesis honest fed n s (ballotA x (c .cert .block)))) (c .kind)
+      (subst (λ (x : ℕ). T (castBy stakes genesis honest fed n x (ballotA (certificateKind (c .cert .kind)) (c .cert .block)))) (c .slot)
+      (c .genuine .signedA n h t))))
 
   by-b : (k : CertificateKind) (s b : ℕ) (c : Checked k s b) (n : ℕ) → T (honest n) → T (not (withoutB k)) → T (bit (c .cert .maskb) n) → T (own s n (ballotB k b))
   by-b k s b c n h z t =
       own-stored n s (ballotB k b) h
-      (rw (c .kind, c .slot, c .block) at (c .genuine .signedB n h (rw (c .kind) z) t))
+      (subst (λ (x : ℕ). T (castBy stakes genesis honest fed n s (ballotB k x))) (c .block)
+      (subst (λ (x : CertificateKind). T (castBy stakes genesis honest fed n s (ballotB x (c .cert .block)))) (c .kind)
+      (subst (λ (x : ℕ). T (castBy stakes genesis honest fed n x (ballotB (certificateKind (c .cert .kind)) (c .cert .block)))) (c .slot)
+      (c .genuine .signedB n h (rw (c .kind) z) t))))
 
   -- Its signers, where only mask A counts.
   quorum : (k : CertificateKind) (s b : ℕ) → T (withoutB k) → Checked k s b → Quorum stakes (length stakes) honest (own s) (fifthsOf k) (ballotA k b)

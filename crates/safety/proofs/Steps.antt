@@ -25,13 +25,14 @@ use Rattle.rulebook.specs.Ledger.{Ledger, Row, none, noInitial, ownCell, rowAt,
 use Rattle.rulebook.specs.Pool.{hasFallback, counts, weigh, weighs, signersOf, fifthsOf, held, names}
 use Rattle.rulebook.specs.Votes.{placeIf, placeOf, storeVote}
 use Rattle.rulebook.specs.Rules.{Record, State, stateOf, recordOf, report, cast, castSkip, castSkips, windowOpen, ruleA, ruleB, mayFinal, ruleC, fallbackWeights, mayFallback, fallsBack, fallbackBlock, castFallback, ruleD, skipWeights, maySkipFallback, castSkipFallback, ruleE, ruleF}
-use Rattle.rulebook.specs.Run.{ruleAt, quiet, firstRule, firstSlot, scan, runFor, run}
+use Rattle.rulebook.specs.Run.{mostRecords, ruleAt, quiet, firstRule, firstSlot, scan, runFor, run}
 use Rattle.rulebook.specs.Inputs.{refuseIf, isOther, misfits, placeVerdict, voteVerdict, blockVerdict, timeoutVerdict, verdict, timeOut, intake, fedWith, refusedWith, fedOn, feed}
 use Rattle.rulebook.specs.WellFormed.{Shaped}
-use Rattle.safety.specs.Slot.{Ballot, notar, notarFallback, skip, skipFallback, final}
+use Rattle.safety.specs.Slot.{Ballot, notar, notarFallback, skip, skipFallback, final, fallbackFifths, skipFallbackFifths}
 use Rattle.safety.specs.Ballots.{has, kindOf, blockOf, recordFor, sameRecord, among, brings}
 use Rattle.safety.specs.Moves.{roomFor, Others, Certified, Allowed, anyNotar, anySkip, toFinal, toFallback, toSkipFallback, SameTable, Stored, Move, casts, takes, keeps, Moves, stay, more, Stepped}
 use Rattle.safety.proofs.Tests.{and-T, T-and, or-T, T-left, T-right, by-test, not-not, false-not}
+use Rattle.safety.proofs.Weighing.{reaches-less}
 use Rattle.safety.proofs.Cells.{is-notar}
 use Rattle.safety.proofs.Along.{Inv, same-refl, table-same, moves-went, move-inv, moves-grow, others-grow}
 use Rattle.safety.proofs.Guards.{given-by, given-T, lowest-passes, fallback-others, skip-others, held-certified}
@@ -63,7 +64,7 @@ report-idle k s b l h s′ v =
     skipped-by (sameRecord (recordOf k s b) (recordFor s′ v)) (among l (recordFor s′ v))
     (λ t. no-vote k v h (and-T (eqb k (voteNumber (kindOf v))) (eqb s s′ && eqb b (blockOf v)) t .0))
 
-module _ (me : ℕ) (i : Input) (me64 : me < 64) where
+module _ (me : ℕ) (i : Input) (me64 : me < mostNodes) where
   module _ (o₀ : State) where
     -- One more move.
     go-on : (o p : State) → Move me i o p → Shaped (p .ledger) → p .ledger .own ≡ o .ledger .own → Going me i o₀ o → Going me i o₀ p
@@ -71,7 +72,7 @@ module _ (me : ℕ) (i : Input) (me64 : me < 64) where
         record { moves = more (g .moves) m; shaped = sh; own = e ∙ g .own; inv = move-inv me i o p m (g .inv) }
 
     -- An own vote with its place empty and its guard passed.
-    cast-going : (o : State) (s : ℕ) (v : Ballot) → s < 17 → T (roomFor (cellAt (o .ledger) s me) v) → Allowed me (o .ledger) s v
+    cast-going : (o : State) (s : ℕ) (v : Ballot) → s < suc lastSlot → T (roomFor (cellAt (o .ledger) s me) v) → Allowed me (o .ledger) s v
         → Going me i o₀ o → Going me i o₀ (cast o s (kindOf v) (blockOf v))
     unfolding cast
     cast-going o s v h t a g =
@@ -89,24 +90,24 @@ module _ (me : ℕ) (i : Input) (me64 : me < 64) where
     mine : (o : State) (s : ℕ) → Going me i o₀ o → ownCell (o .ledger) s ≡ cellAt (o .ledger) s me
     mine o s g = ap (λ (k : ℕ). cellAt (o .ledger) s k) (g .own)
 
-    skip-going : (o : State) (s : ℕ) → s < 17 → Going me i o₀ o → Going me i o₀ (castSkip o s)
+    skip-going : (o : State) (s : ℕ) → s < suc lastSlot → Going me i o₀ o → Going me i o₀ (castSkip o s)
     unfolding castSkip
     skip-going o s h g =
         given-by (Going me i o₀) _ _ _ g (λ t. cast-going o s skip h (rw (mine o s g) at t) anySkip g)
 
-    skips-going : (o : State) (s : ℕ) → s < 17 → Going me i o₀ o → Going me i o₀ (castSkips o s)
+    skips-going : (o : State) (s : ℕ) → s < suc lastSlot → Going me i o₀ o → Going me i o₀ (castSkips o s)
     unfolding castSkips firstOf windowOf
     skips-going o s h g =
         skip-going _ _ (omega arith) (skip-going _ _ (omega arith) (skip-going _ _ (omega arith) (skip-going o _ (omega arith) g)))
 
-    ruleA-going : (o : State) (s : ℕ) → s < 17 → Going me i o₀ o → Going me i o₀ (ruleA o s)
+    ruleA-going : (o : State) (s : ℕ) → s < suc lastSlot → Going me i o₀ o → Going me i o₀ (ruleA o s)
     unfolding ruleA
     ruleA-going o s h g =
         given-by (Going me i o₀) _ _ _ g λ t. given-by (Going me i o₀) _ _ _ g λ u.
         keep-going o (putArmed (o .ledger) s) _ (record { stakes = refl; count = refl; total = refl; own = refl })
         (armed-shaped (o .ledger) s (g .shaped)) (λ s′ n. refl) (report-idle 7 s 0 (o .records) tt) g
 
-    ruleB-going : (o : State) (s : ℕ) → s < 17 → Going me i o₀ o → Going me i o₀ (ruleB o s)
+    ruleB-going : (o : State) (s : ℕ) → s < suc lastSlot → Going me i o₀ o → Going me i o₀ (ruleB o s)
     unfolding ruleB
     ruleB-going o s h g =
         let b = rowAt (o .ledger) s .kept .number in
@@ -114,7 +115,7 @@ module _ (me : ℕ) (i : Input) (me64 : me < 64) where
         let x = and-T (noInitial (ownCell (o .ledger) s)) (not (none b)) t in
         cast-going o s (notar b) h (T-and (not (none b)) (noInitial (cellAt (o .ledger) s me)) (x .1) (rw (mine o s g) at (x .0))) anyNotar g
 
-    ruleC-going : (o : State) (s : ℕ) → s < 17 → Going me i o₀ o → Going me i o₀ (ruleC o s)
+    ruleC-going : (o : State) (s : ℕ) → s < suc lastSlot → Going me i o₀ o → Going me i o₀ (ruleC o s)
     unfolding ruleC mayFinal held weighs weigh counts signersOf fifthsOf
     ruleC-going o s h g =
         let c = ownCell (o .ledger) s in
@@ -124,7 +125,7 @@ module _ (me : ℕ) (i : Input) (me64 : me < 64) where
         cast-going o s final h tt
         (toFinal (c .notar) (rw (← mine o s g) (is-notar c (c .notar) (y .0) (eqb-refl (c .notar)))) (rw (mine o s g) at (x .1)) (held-certified (o .ledger) s (c .notar) (y .0) u)) g
 
-    ruleF-going : (o : State) (s : ℕ) → s < 17 → Going me i o₀ o → Going me i o₀ (ruleF o s)
+    ruleF-going : (o : State) (s : ℕ) → s < suc lastSlot → Going me i o₀ o → Going me i o₀ (ruleF o s)
     unfolding ruleF
     ruleF-going o s h g =
         given-by (Going me i o₀) _ _ _ g λ t. given-by (Going me i o₀) _ _ _ g λ u.
@@ -133,17 +134,17 @@ module _ (me : ℕ) (i : Input) (me64 : me < 64) where
 
   module _ (o₀ : State) where
     -- The window's skips let the pool grow, so weights that were reached stay reached.
-    others-after : (o : State) (s b : ℕ) → s < 17 → Going me i o₀ o → Others (o .ledger) s b → Others (castSkips o s .ledger) s b
-    others-after o s b h g t =
+    others-after : (k : ℕ) → k ≤ 2 → (o : State) (s b : ℕ) → s < suc lastSlot → Going me i o₀ o → Others 2 (o .ledger) s b → Others k (castSkips o s .ledger) s b
+    others-after k le o s b h g t =
         let from : Going me i o o = record { moves = stay; shaped = g .shaped; own = g .own; inv = g .inv } in
         let grown = moves-grow me i o (castSkips o s) (skips-going o o s h from .moves) in
-        others-grow (o .ledger) (castSkips o s .ledger) (grown .0) (grown .1) s b t
+        reaches-less k 2 (castSkips o s .ledger .total) _ le (others-grow (o .ledger) (castSkips o s .ledger) (grown .0) (grown .1) 2 s b t)
 
     falls-weights : (l : Ledger) (s b : ℕ) → T (fallsBack l s b) → T (fallbackWeights l s b)
     unfolding fallsBack
     falls-weights l s b t = given-T _ _ t .1
 
-    fallback-going : (o : State) (s b : ℕ) → s < 17 → T (not (none b)) → T (fallbackWeights (o .ledger) s b) → Going me i o₀ o → Going me i o₀ (castFallback o s b)
+    fallback-going : (o : State) (s b : ℕ) → s < suc lastSlot → T (not (none b)) → T (fallbackWeights (o .ledger) s b) → Going me i o₀ o → Going me i o₀ (castFallback o s b)
     unfolding castFallback mayFallback
     fallback-going o s b h z t g =
         let p = castSkips o s in
@@ -154,16 +155,16 @@ module _ (me : ℕ) (i : Input) (me64 : me < 64) where
         let y = and-T (not (hasFallback b c)) (none (c .fallback3)) (x .1) in
         cast-going o₀ p s (notarFallback b) h
         (T-and (not (none b)) (none (cellAt (p .ledger) s me .fallback3)) z (rw (mine o₀ p s gp) at (y .1)))
-        (toFallback (rw (mine o₀ p s gp) at (x .0)) (λ d ne. others-after o s d h g (fallback-others (o .ledger) s b (g .inv .neat s) z t d ne))) gp
+        (toFallback (rw (mine o₀ p s gp) at (x .0)) (λ d ne. others-after fallbackFifths (omega arith) o s d h g (fallback-others (o .ledger) s b (g .inv .neat s) z t d ne))) gp
 
-    ruleD-going : (o : State) (s : ℕ) → s < 17 → Going me i o₀ o → Going me i o₀ (ruleD o s)
+    ruleD-going : (o : State) (s : ℕ) → s < suc lastSlot → Going me i o₀ o → Going me i o₀ (ruleD o s)
     unfolding ruleD fallbackBlock
     ruleD-going o s h g =
         given-by (Going me i o₀) _ _ _ g λ t. given-by (Going me i o₀) _ _ _ g λ u.
         fallback-going o s (fallbackBlock (o .ledger) s) h u
         (falls-weights (o .ledger) s (fallbackBlock (o .ledger) s) (lowest-passes (fallsBack (o .ledger) s) (names (o .ledger) s) u)) g
 
-    ruleE-going : (o : State) (s : ℕ) → s < 17 → Going me i o₀ o → Going me i o₀ (ruleE o s)
+    ruleE-going : (o : State) (s : ℕ) → s < suc lastSlot → Going me i o₀ o → Going me i o₀ (ruleE o s)
     unfolding ruleE castSkipFallback maySkipFallback
     ruleE-going o s h g =
         let p = castSkips o s in
@@ -172,9 +173,9 @@ module _ (me : ℕ) (i : Input) (me64 : me < 64) where
         given-by (Going me i o₀) _ _ _ g λ t. given-by (Going me i o₀) _ _ _ g λ u. given-by (Going me i o₀) _ _ _ gp λ w.
         cast-going o₀ p s skipFallback h tt
         (toSkipFallback (rw (mine o₀ p s gp) at (and-T (none (c .finalvote)) (none (c .skipfallback)) w .0))
-        (λ d. others-after o s d h g (skip-others (o .ledger) s (g .inv .neat s) u d))) gp
+        (λ d. others-after skipFallbackFifths (omega arith) o s d h g (skip-others (o .ledger) s (g .inv .neat s) u d))) gp
 
-    rule-going : (r : ℕ) (o : State) (s : ℕ) → s < 17 → Going me i o₀ o → Going me i o₀ (ruleAt r o s)
+    rule-going : (r : ℕ) (o : State) (s : ℕ) → s < suc lastSlot → Going me i o₀ o → Going me i o₀ (ruleAt r o s)
     unfolding ruleAt
     rule-going zero o s h g = ruleA-going o₀ o s h g
     rule-going (suc zero) o s h g = ruleB-going o₀ o s h g
@@ -184,13 +185,13 @@ module _ (me : ℕ) (i : Input) (me64 : me < 64) where
     rule-going (suc (suc (suc (suc (suc zero))))) o s h g = ruleF-going o₀ o s h g
     rule-going (suc (suc (suc (suc (suc (suc r)))))) o s h g = g
 
-    rules-going : (n r : ℕ) (o : State) (s : ℕ) → s < 17 → Going me i o₀ o → Going me i o₀ (firstRule n r o s)
+    rules-going : (n r : ℕ) (o : State) (s : ℕ) → s < suc lastSlot → Going me i o₀ o → Going me i o₀ (firstRule n r o s)
     unfolding firstRule
     rules-going zero r o s h g = g
     rules-going (suc n) r o s h g =
         let k = rule-going r o s h g in given-by (Going me i o₀) _ _ _ k λ t. rules-going n (r + 1) _ s h k
 
-    slots-going : (n s : ℕ) (o : State) → s + n ≤ 17 → Going me i o₀ o → Going me i o₀ (firstSlot n s o)
+    slots-going : (n s : ℕ) (o : State) → s + n ≤ suc lastSlot → Going me i o₀ o → Going me i o₀ (firstSlot n s o)
     unfolding firstSlot
     slots-going zero s o h g = g
     slots-going (suc n) s o h g =
@@ -200,11 +201,11 @@ module _ (me : ℕ) (i : Input) (me64 : me < 64) where
     unfolding runFor scan
     turns-going zero o g = g
     turns-going (suc n) o g =
-        let k = slots-going 16 1 o (omega arith) g in given-by (Going me i o₀) _ _ _ k λ t. turns-going n _ k
+        let k = slots-going lastSlot 1 o (omega arith) g in given-by (Going me i o₀) _ _ _ k λ t. turns-going n _ k
 
     run-going : (o : State) → Going me i o₀ o → Going me i o₀ (run o)
     unfolding run
-    run-going o g = turns-going 117 o g
+    run-going o g = turns-going (suc mostRecords) o g
 
 -- ---- inputs
 
@@ -226,16 +227,16 @@ free-place true b e = let z : _≡_ {A = ℕ} 0 1 = cc in absurd (omega arith)
 free-place false true e = tt
 free-place false false e = let z : _≡_ {A = ℕ} 0 1 = cc in absurd (omega arith)
 
-slot-in : (s : ℕ) → T (slotOk s) → s < 17
+slot-in : (s : ℕ) → T (slotOk s) → s < suc lastSlot
 unfolding slotOk
-slot-in s t = let h = and-T (leb 1 s) (leb s 16) t in omega (arith, leb→le s 16 (h .1))
+slot-in s t = let h = and-T (leb 1 s) (leb s lastSlot) t in omega (arith, leb→le s lastSlot (h .1))
 
-module _ (me : ℕ) (me64 : me < 64) (l : Ledger) (few : l .count ≤ 64) where
+module _ (me : ℕ) (me64 : me < mostNodes) (l : Ledger) (few : l .count ≤ mostNodes) where
   abbrev from : State
   from = stateOf l []
 
   -- A vote that the tests let pass.
-  module _ (w : Vote) (g : Going me (input.Vote w) from from) (h : w .slot .0 < 17) (k : w .node .0 < 64) (ne : ¬ (w .node .0 ≡ me)) where
+  module _ (w : Vote) (g : Going me (input.Vote w) from from) (h : w .slot .0 < suc lastSlot) (k : w .node .0 < mostNodes) (ne : ¬ (w .node .0 ≡ me)) where
     abbrev cell : Cell
     cell = cellAt l (w .slot .0) (w .node .0)
 
@@ -275,22 +276,22 @@ module _ (me : ℕ) (me64 : me < 64) (l : Ledger) (few : l .count ≤ 64) where
       (λ x. T-not (eqb (w .node .0) (l .own)) (d .0) (rw (x, g .own) (eqb-refl me)))
       (w .kind) refl (a .0) (f .0) (f .1)
 
-  row-going : (i : Input) (s : ℕ) (r : Row) → s < 17 → r .cells ≡ rowAt l s .cells → Going me i from from → Going me i from (stateOf (putRow l s r) [])
+  row-going : (i : Input) (s : ℕ) (r : Row) → s < suc lastSlot → r .cells ≡ rowAt l s .cells → Going me i from from → Going me i from (stateOf (putRow l s r) [])
   row-going i s r h e g =
       keep-going me i me64 from from (putRow l s r) [] (record { stakes = refl; count = refl; total = refl; own = refl })
       (row-shaped l s r h (ap length e ∙ g .shaped .cells s h) (g .shaped)) (row-cells l s r h (g .shaped) e) (λ s′ v. refl) g
 
-  timeout-going : (i : Input) (s : ℕ) → s < 17 → Going me i from from → Going me i from (timeOut l s)
+  timeout-going : (i : Input) (s : ℕ) → s < suc lastSlot → Going me i from from → Going me i from (timeOut l s)
   unfolding timeOut
   timeout-going i s h g =
       let k = row-going i s _ h refl g in
       given-by (Going me i from) _ _ _ k λ t. skips-going me i me64 from _ s h k
 
-  block-in : (s : ℕ) (b : Block) → blockVerdict l s b ≡ Fine → s < 17
+  block-in : (s : ℕ) (b : Block) → blockVerdict l s b ≡ Fine → s < suc lastSlot
   unfolding blockVerdict
   block-in s b e = slot-in s (not-not (slotOk s) (passed _ _ _ e .0))
 
-  timeout-in : (s : ℕ) → timeoutVerdict l s ≡ Fine → s < 17
+  timeout-in : (s : ℕ) → timeoutVerdict l s ≡ Fine → s < suc lastSlot
   unfolding timeoutVerdict
   timeout-in s e = slot-in s (not-not (slotOk s) (passed _ _ _ e .0))
 
@@ -305,11 +306,11 @@ module _ (me : ℕ) (me64 : me < 64) (l : Ledger) (few : l .count ≤ 64) where
 pub record Ready (me : ℕ) (l : Ledger) : Type 0 where
   pub shaped : Shaped l
   pub own : l .own ≡ me
-  pub count : l .count ≤ 64
+  pub count : l .count ≤ mostNodes
   pub inv : Inv me l
 
 -- THE RULES MEET THE INTERFACE.
-module _ (me : ℕ) (me64 : me < 64) (l : Ledger) (i : Input) (r : Ready me l) where
+module _ (me : ℕ) (me64 : me < mostNodes) (l : Ledger) (i : Input) (r : Ready me l) where
   start-going : Going me i (stateOf l []) (stateOf l [])
   start-going = record { moves = stay; shaped = r .shaped; own = r .own; inv = r .inv }
 

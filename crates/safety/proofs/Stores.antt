@@ -25,11 +25,11 @@ row-cases l s r s′ h f g =
       | no ne ↦ f ne (getD-set-other (l .rows) s s′ r noRow ne)
     ]
 
-in-rows : (l : Ledger) (s : ℕ) → Shaped l → s < 17 → s < length (l .rows)
+in-rows : (l : Ledger) (s : ℕ) → Shaped l → s < suc lastSlot → s < length (l .rows)
 in-rows l s sh h = rw (sh .rows) h
 
 -- Another row with cells for all nodes.
-pub row-shaped : (l : Ledger) (s : ℕ) (r : Row) → s < 17 → length (r .cells) ≡ mostNodes → Shaped l → Shaped (putRow l s r)
+pub row-shaped : (l : Ledger) (s : ℕ) (r : Row) → s < suc lastSlot → length (r .cells) ≡ mostNodes → Shaped l → Shaped (putRow l s r)
 row-shaped l s r h e sh =
     record {
       armed = sh .armed;
@@ -39,7 +39,7 @@ row-shaped l s r h e sh =
     }
 
 -- Another row with the same cells changes no cell.
-pub row-cells : (l : Ledger) (s : ℕ) (r : Row) → s < 17 → Shaped l → r .cells ≡ rowAt l s .cells → (s′ n : ℕ) → cellAt (putRow l s r) s′ n ≡ cellAt l s′ n
+pub row-cells : (l : Ledger) (s : ℕ) (r : Row) → s < suc lastSlot → Shaped l → r .cells ≡ rowAt l s .cells → (s′ n : ℕ) → cellAt (putRow l s r) s′ n ≡ cellAt l s′ n
 row-cells l s r h sh e s′ n =
     row-cases l s r s′ (in-rows l s sh h)
     (λ ne q. ap (λ (x : Row). getD (x .cells) n noCell) q)
@@ -49,7 +49,7 @@ pub armed-shaped : (l : Ledger) (s : ℕ) → Shaped l → Shaped (putArmed l s)
 armed-shaped l s sh = record { armed = rw length-set (sh .armed); stakes = sh .stakes; rows = sh .rows; cells = sh .cells }
 
 -- A vote in a slot and of a node that have their places.
-module _ (l : Ledger) (s n : ℕ) (v : Ballot) (h : s < 17) (k : n < 64) (sh : Shaped l) where
+module _ (l : Ledger) (s n : ℕ) (v : Ballot) (h : s < suc lastSlot) (k : n < mostNodes) (sh : Shaped l) where
   abbrev after-store : Ledger
   after-store = storeVote l s n (kindOf v) (blockOf v)
 

@@ -22,6 +22,10 @@ le-reaches k t w h = true-T (reaches k t w) (laws.fact-reaches k t w h)
 pub reaches-more : (k t v w : ℕ) → v ≤ w → T (reaches k t v) → T (reaches k t w)
 reaches-more k t v w h r = true-T (reaches k t w) (laws.reaches-more k t v w h (T-true (reaches k t v) r))
 
+-- What reaches more fifths reaches fewer.
+pub reaches-less : (j k t w : ℕ) → j ≤ k → T (reaches k t w) → T (reaches j t w)
+reaches-less j k t w h r = true-T (reaches j t w) (laws.reaches-fewer j k t w h (T-true (reaches k t w) r))
+
 module _ (ws : List ℕ) (k : ℕ) where
   -- A test that names more weighs no less.
   pub weight-mono : (p q : Test) → ((n : ℕ) → T (p n) → T (q n)) → weight ws k p ≤ weight ws k q

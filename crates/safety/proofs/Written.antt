@@ -24,7 +24,7 @@ use Rattle.rulebook.specs.declared.Verdict.{Verdict}
 use Rattle.rulebook.specs.declared.Verdict.the-variants.{Fine, Refused}
 use Rattle.rulebook.specs.declared.WriteAnswer.the-variants as write
 use Rattle.rulebook.specs.Tools.{given, choose, part, sumTo, someTo}
-use Rattle.rulebook.specs.Weights.{weight, totalTo, reaches, slotOk, stakesFit}
+use Rattle.rulebook.specs.Weights.{mostNodes, lastSlot, weight, totalTo, reaches, slotOk, stakesFit}
 use Rattle.rulebook.specs.PaperNumbers.{certificateKind, certificateNumber}
 use Rattle.rulebook.specs.Ledger.{Ledger, none, fresh, cellAt}
 use Rattle.rulebook.specs.Pool.{hasFallback, counts, weigh, weighs, signersOf, fifthsOf, held}
@@ -189,7 +189,7 @@ module _ (stakes : List ℕ) (me genesis : ℕ) (start : startVerdict stakes me 
   size : Sized stakes me
   size = start-sized stakes me genesis start
 
-  small : me < 64
+  small : me < mostNodes
   small = omega (arith, size .inTable, size .few)
 
   table : SameTable (fresh stakes me genesis) now
@@ -252,7 +252,7 @@ module _ (stakes : List ℕ) (me genesis : ℕ) (start : startVerdict stakes me 
     unfolding certificateFor slotOk
     fits h so =
         let p : 2 ^ length stakes ≤ 2 ^ 64 = pow-mono (size .few) in
-        let q = leb→le s 16 (and-T (leb 1 s) (leb s 16) so .1) in
+        let q = leb→le s lastSlot (and-T (leb 1 s) (leb s lastSlot) so .1) in
         let k5 = kind-small k in
         let big : 16 < 2 ^ 64 = lit< tt in
         record {

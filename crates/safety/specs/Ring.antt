@@ -69,16 +69,20 @@ module _ (stakes : List ℕ) (genesis : ℕ) (honest : Test) (fed : ℕ → List
   abbrev pub castBy : ℕ → ℕ → Ballot → Bool
   castBy n s v = madeIn (fresh stakes n genesis) (fed n) (recordFor s v)
 
+  -- All stake but the honest nodes' is strictly under one fifth.
+  abbrev pub FewOthers : Type 0
+  FewOthers = 5 * weight stakes (length stakes) (λ n. not (honest n)) < totalTo stakes (length stakes)
+
   -- THE PREMISE. All other stake is strictly under one fifth; each honest node's start was accepted; and an honest node's pool counts
   -- another honest node's vote only if that node cast it for that slot in its own life. What was fed may be anything, well-formed or not.
   pub record Ring : Type 0 where
-    pub few : 5 * weight stakes (length stakes) (λ n. not (honest n)) < totalTo stakes (length stakes)
+    pub few : FewOthers
     pub started : (n : ℕ) → T (honest n) → startVerdict stakes n genesis ≡ Fine
     pub pools : (n m s : ℕ) (v : Ballot) → T (honest n) → T (honest m) → ¬ (m ≡ n) → T (has (cellAt (life n) s m) v) → T (castBy m s v)
 
   -- The same with the last part over what is fed: a vote that is fed to one honest node in another's name is one that the other cast.
   pub record FedRing : Type 0 where
-    pub few : 5 * weight stakes (length stakes) (λ n. not (honest n)) < totalTo stakes (length stakes)
+    pub few : FewOthers
     pub started : (n : ℕ) → T (honest n) → startVerdict stakes n genesis ≡ Fine
     pub mail : (n m s : ℕ) (v : Ballot) → T (honest n) → T (honest m) → ¬ (m ≡ n) → T (broughtBy (fed n) s m v) → T (castBy m s v)
 
