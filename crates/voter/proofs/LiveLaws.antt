@@ -1,0 +1,89 @@
+-- A call goes on: what is paid from the potential keeps the outbox's room, and parts of a call follow each other. Assumes nothing.
+use mathlib.Core.Path.{_≡_, refl, sym, ap, _∙_}
+use mathlib.Core.List.{List, [], _∷_}
+use Prim.Native.Nat.{ℕ, suc, _+_, _*_, _≤_, _<_}
+use native.Mathlib.Omega.{arith}
+use lib.ListN.{length}
+use Rattle.rulebook.specs.Weights.{mostNodes, lastSlot}
+use Rattle.rulebook.specs.Ledger.{Ledger}
+use Rattle.rulebook.specs.Rules.{Record, State}
+use Rattle.rulebook.specs.Run.{made}
+use Rattle.record.specs.Layout.{recordWords, ledgerOf}
+use Rattle.record.proofs.Reading.{ledger-shaped}
+use Rattle.settling.specs.Spare.{spare}
+use Rattle.settling.specs.Steps.{Placed, SameNode, Came}
+use Rattle.settling.proofs.Spending.{same-node}
+use Rattle.voter.specs.Outbox.{recordsIn, stateIn, Moved}
+use Rattle.voter.specs.Voting.{Castable, Live, LiveAt, Onward}
+use Rattle.voter.proofs.OutboxLaws.{made-in, moved-none, moved-is, moved-then}
+
+-- One node's ledgers, one after the other.
+pub node-then : {l m n : Ledger} → SameNode l m → SameNode m n → SameNode l n
+node-then a b =
+    record {
+      own = b .own ∙ a .own;
+      count = b .count ∙ a .count;
+      total = b .total ∙ a .total;
+      genesis = b .genesis ∙ a .genesis;
+      stakes = b .stakes ∙ a .stakes;
+    }
+
+-- The ledger has a place for everything.
+pub live-placed : {ws out : List ℕ} {at : ℕ} → Live ws out at → Placed (ledgerOf ws)
+live-placed {ws = ws} v = record { shaped = ledger-shaped ws; mine = v .own }
+
+pub live-castable : {ws out : List ℕ} {at s : ℕ} → LiveAt ws out at s → Castable ws out at s
+live-castable v =
+    record {
+      long = v .live .long;
+      slot = omega (arith, v .high);
+      own = v .live .own;
+      room = omega (arith, v .live .budget, v .live .room);
+    }
+
+module _ {ws out : List ℕ} {at : ℕ} (v : Live ws out at) where
+  -- A move to a state that came of the one before.
+  pub onward : {ws' left : List ℕ} {now : ℕ} {q : State} → length ws' ≡ length ws → length left ≡ length out
+      → Moved ws out at ws' left now q → Came (stateIn ws out at) q → Onward ws out at ws' left now q
+  onward {ws' = ws'} {left = left} {now = now} e f m c =
+      let mine : ledgerOf ws' .own ≡ ledgerOf ws .own = ap (λ (x : State). x .ledger .own) (m .is) ∙ c .same .own in
+      record {
+        moved = m;
+        live =
+            record {
+              long = e ∙ v .long;
+              room = omega (arith, f, v .room);
+              own = omega (arith, mine, v .own);
+              budget =
+                  omega (
+                    arith,
+                    v .budget,
+                    c .spent,
+                    made-in left now,
+                    made-in out at,
+                    ap (λ (x : State). length (x .records)) (m .is),
+                    ap (λ (x : State). spare (x .ledger)) (m .is),
+                  );
+            };
+        same =
+            record {
+              own = mine;
+              count = ap (λ (x : State). x .ledger .count) (m .is) ∙ c .same .count;
+              total = ap (λ (x : State). x .ledger .total) (m .is) ∙ c .same .total;
+              genesis = ap (λ (x : State). x .ledger .genesis) (m .is) ∙ c .same .genesis;
+              stakes = ap (λ (x : State). x .ledger .stakes) (m .is) ∙ c .same .stakes;
+            };
+      }
+
+  -- Nothing was done, and the definition does nothing.
+  pub onward-none : {q : State} → stateIn ws out at ≡ q → Onward ws out at ws out at q
+  onward-none {q = q} e = record { moved = moved-none ws out at q e; live = v; same = same-node (ledgerOf ws) }
+
+-- The same state under another name.
+pub onward-is : {ws out ws' left : List ℕ} {at now : ℕ} {p q : State} → Onward ws out at ws' left now p → p ≡ q → Onward ws out at ws' left now q
+onward-is a e = record { moved = moved-is (a .moved) e; live = a .live; same = a .same }
+
+-- One part after another.
+pub onward-then : {ws out ws' out' ws'' out'' : List ℕ} {at at' at'' : ℕ} {p : State} (f : State → State) → Onward ws out at ws' out' at' p
+    → Onward ws' out' at' ws'' out'' at'' (f (stateIn ws' out' at')) → Onward ws out at ws'' out'' at'' (f p)
+onward-then f a b = record { moved = moved-then f (a .moved) (b .moved); live = b .live; same = node-then (a .same) (b .same) }

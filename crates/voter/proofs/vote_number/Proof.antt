@@ -1,0 +1,70 @@
+use Rattle.rulebook.specs.PaperNumbers.{voteNumber}
+use mathlib.Core.Path.{_≡_, refl, _∙_, ap, sym}
+use mathlib.Core.Bool.{Bool, true, false}
+use mathlib.Core.Logic.{⊎-elim}
+use Prim.Native.Nat.{ℕ, _+_, _-_, _*_, _^_, _≤_, _<_}
+use native.Mathlib.Omega.{arith}
+use borrow.Author.Needs.{needs}
+use Rattle.voter.proofs.vote_number.Statement.{statement}
+use Rattle.voter.proofs.vote_number.Tie as tie
+use Rattle.voter.proofs.vote_number.Reads as reads
+use Rattle.voter.proofs.vote_number.Lts as lts
+
+enum-told : tie.Need-enum-told
+enum-told c = search needs
+
+enum-told-2 : tie.Need-enum-told-2
+enum-told-2 c = search needs
+
+enum-told-3 : tie.Need-enum-told-3
+enum-told-3 c = search needs
+
+enum-told-4 : tie.Need-enum-told-4
+enum-told-4 c = search needs
+
+enum-told-5 : tie.Need-enum-told-5
+enum-told-5 c = search needs
+
+enum-told-6 : tie.Need-enum-told-6
+enum-told-6 c = search needs
+
+returns : tie.Need-returns
+unfolding voteNumber
+returns c = search needs
+
+returns-2 : tie.Need-returns-2
+unfolding voteNumber
+returns-2 c = search needs
+
+returns-3 : tie.Need-returns-3
+unfolding voteNumber
+returns-3 c = search needs
+
+returns-4 : tie.Need-returns-4
+unfolding voteNumber
+returns-4 c = search needs
+
+returns-5 : tie.Need-returns-5
+unfolding voteNumber
+returns-5 c = search needs
+
+returns-6 : tie.Need-returns-6
+unfolding voteNumber
+returns-6 c = search needs
+
+pub vote-number-spec : {M : Type 1} → statement M
+vote-number-spec =
+    tie.close
+    (tie.spec
+    enum-told
+    enum-told-2
+    enum-told-3
+    enum-told-4
+    enum-told-5
+    enum-told-6
+    returns
+    returns-2
+    returns-3
+    returns-4
+    returns-5
+    returns-6)

@@ -1,0 +1,39 @@
+-- What casting asks of the lent memory, and what it leaves.
+use mathlib.Core.Path.{_≡_}
+use mathlib.Core.List.{List}
+use Prim.Native.Nat.{ℕ, suc, _+_, _*_, _≤_, _<_}
+use lib.ListN.{length}
+use Rattle.rulebook.specs.Weights.{mostNodes, lastSlot}
+use Rattle.rulebook.specs.Rules.{State}
+use Rattle.rulebook.specs.Run.{mostRecords}
+use Rattle.rulebook.specs.WellFormed.{outboxWords}
+use Rattle.record.specs.Layout.{recordWords, ledgerOf}
+use Rattle.settling.specs.Spare.{spare}
+use Rattle.settling.specs.Steps.{SameNode}
+use Rattle.voter.specs.Outbox.{Moved}
+
+-- An own vote can be cast in slot s: it has a cell, and its record has room.
+pub record Castable (ws out : List ℕ) (at s : ℕ) : Type 0 where
+  pub long : length ws ≡ recordWords
+  pub slot : s < suc lastSlot
+  pub own : ledgerOf ws .own < mostNodes
+  pub room : 3 * at + 2 < length out
+
+-- A call is under way: the words hold a ledger, and the outbox has room for all that can still be told.
+pub record Live (ws out : List ℕ) (at : ℕ) : Type 0 where
+  pub long : length ws ≡ recordWords
+  pub room : outboxWords ≤ length out
+  pub own : ledgerOf ws .own < mostNodes
+  pub budget : at + spare (ledgerOf ws) ≤ mostRecords
+
+-- Likewise, at one of the slots 1 to 16.
+pub record LiveAt (ws out : List ℕ) (at s : ℕ) : Type 0 where
+  pub live : Live ws out at
+  pub low : 1 ≤ s
+  pub high : s ≤ lastSlot
+
+-- What a part of a call leaves: the state q, and a call of the same node that can go on.
+pub record Onward (ws out : List ℕ) (at : ℕ) (ws' left : List ℕ) (made : ℕ) (q : State) : Type 0 where
+  pub moved : Moved ws out at ws' left made q
+  pub live : Live ws' left made
+  pub same : SameNode (ledgerOf ws) (ledgerOf ws')
