@@ -57,7 +57,7 @@ module _ (xs : List ℕ) (m : ℕ) (h : m ≤ length xs) where
   front-fits =
       λ i. (leb 1 (front-long i) && leb (front-long i) mostNodes) && (front-each i && leb (front-total i) mostStake)
 
-table-sum : (ws : List ℕ) → tableOf ws .total .0 ≡ totalTo ws (length ws)
+pub table-sum : (ws : List ℕ) → tableOf ws .total .0 ≡ totalTo ws (length ws)
 unfolding tableOf
 table-sum ws = refl
 

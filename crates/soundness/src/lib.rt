@@ -6,12 +6,14 @@ ghost use lib.ListN.{length, getD};
 ghost use lib.Dec.{eqb, ltb};
 ghost use Rattle.rulebook.specs.Tools.{given, allTo};
 ghost use Rattle.rulebook.specs.Weights.{mostNodes, lastSlot, windows, stakeIn, stakesFit, totalTo};
-ghost use Rattle.rulebook.specs.Ledger.{none};
+ghost use Rattle.rulebook.specs.Ledger.{none, fresh};
 ghost use Rattle.rulebook.specs.Inputs.{badParent};
 ghost use Rattle.rulebook.specs.WellFormed.{flag, inOrder, cellFits, cellBlank, cellsFit, keptFits, rowFits, rowBlank, headFits};
 ghost use Rattle.record.specs.Layout.{recordWords, InSlot, ledgerOf};
 ghost use Rattle.soundness.specs.Sound.{soundWords, TableOf};
+ghost use Rattle.soundness.specs.Starting.{SetUp, StartOf};
 use record::armed_word;
+use record::clear;
 use record::count;
 use record::final_block;
 use record::genesis;
@@ -19,6 +21,8 @@ use record::kept_block;
 use record::load_cell;
 use record::own;
 use record::record_words;
+use record::set_head;
+use record::set_stake;
 use record::stake;
 use record::stakes_of;
 use record::timeout_word;
@@ -26,7 +30,10 @@ use record::total;
 use rulebook::Block;
 use rulebook::Cell;
 use rulebook::Node;
+use rulebook::Refusal;
 use rulebook::Slot;
+use rulebook::StartAnswer;
+use rulebook::Weight;
 use stakes::StakeTable;
 use stakes::make_table;
 
@@ -217,4 +224,33 @@ pub fn table(rec: &[u64]) -> StakeTable
 {
     let made = make_table(stakes_of(rec));
     made.table
+}
+
+// A fresh node's words, whatever stood there.
+fn set_up(rec: &mut [u64], stakes: &[u64], total: Weight, own: Node, genesis: u64)
+    requires { ⌜ SetUp (now rec) (now stakes) (total .0) ⌝ }
+    ensures { λ _. ⌜ ledgerOf (now (rec .exit)) ≡ fresh (now (stakes .entry)) (own .0) genesis ⌝ }
+{
+    clear(rec);
+    set_head(rec, stakes.len(), total, own, genesis);
+    for n in 0..stakes.len() {
+        set_stake(rec, Node(n), Weight(stakes[n]));
+    }
+}
+
+// Makes lent words the record of a fresh node: 17 for the length, then 1; a refusal leaves the words.
+pub fn start(rec: &mut [u64], stakes: &[u64], own: Node, genesis: u64) -> StartAnswer
+    ensures { λ r. ⌜ StartOf (now (rec .entry)) (now (stakes .entry)) (own .0) genesis r (now (rec .exit)) ⌝ }
+{
+    if rec.len() != record_words() {
+        return StartAnswer::Refused(Refusal::BadRecord);
+    }
+    let made = make_table(stakes);
+    if !made.fits | ((stakes.len() <= own.0) | (genesis == 0)) {
+        return StartAnswer::Refused(Refusal::BadSizes);
+    }
+    let table = made.table;
+    let total = table.total;
+    set_up(rec, stakes, total, own, genesis);
+    StartAnswer::Started
 }
