@@ -1,0 +1,23 @@
+-- What the tests of rules C to F ask of a caller.
+use mathlib.Core.Path.{_≡_}
+use mathlib.Core.List.{List}
+use Prim.Native.Nat.{ℕ, suc, _≤_, _<_}
+use lib.ListN.{length}
+use Rattle.rulebook.specs.Weights.{mostNodes, lastSlot}
+use Rattle.stakes.specs.declared.StakeTable.{StakeTable}
+use Rattle.record.specs.Layout.{recordWords, ledgerOf}
+use Rattle.pool.specs.Weighing.{Tabled}
+
+-- The words are as many as they should be, the slot is one of 1 to 16, and the own number has a cell.
+pub record Windowed (ws : List ℕ) (s : ℕ) : Type 0 where
+  pub long : length ws ≡ recordWords
+  pub later : 1 ≤ s
+  pub slot : s < suc lastSlot
+  pub own : ledgerOf ws .own < mostNodes
+
+-- Likewise, and the table is the record's.
+pub record Judging (ws : List ℕ) (t : StakeTable) (s : ℕ) : Type 0 where
+  pub long : length ws ≡ recordWords
+  pub later : 1 ≤ s
+  pub slot : s < suc lastSlot
+  pub table : Tabled (ledgerOf ws) t

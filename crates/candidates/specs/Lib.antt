@@ -1,0 +1,2 @@
+-- What the tests of rules C to F ask of a caller.
+pub mod Judging

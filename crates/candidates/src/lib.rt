@@ -1,0 +1,204 @@
+// The tests of rules C to F: what they ask of the own votes and of the weights, and the block that D and F act on. Nothing
+// is weighed where the cheap tests settle it.
+ghost use mathlib.Core.Path.{_≡_};
+ghost use Prim.Native.Nat.{max};
+ghost use Rattle.rulebook.specs.declared.Who.the-variants as who;
+ghost use Rattle.rulebook.specs.Tools.{lower, lowest, largest};
+ghost use Rattle.rulebook.specs.Pool.{weigh, names};
+ghost use Rattle.rulebook.specs.Rules.{windowOpen, mayFinal, fallbackWeights, mayFallback, fallsBack, fallbackBlock, skipWeights, maySkipFallback, isFinal};
+ghost use Rattle.record.specs.Layout.{ledgerOf};
+ghost use Rattle.pool.specs.Weighing.{Weighing};
+ghost use Rattle.candidates.specs.Judging.{Windowed, Judging};
+use pool::held;
+use pool::weigh;
+use record::has_fallback;
+use record::load_cell;
+use record::own_cell;
+use rulebook::Cell;
+use rulebook::CertificateKind;
+use rulebook::Node;
+use rulebook::Slot;
+use rulebook::Threshold;
+use rulebook::Weight;
+use rulebook::Who;
+use stakes::StakeTable;
+
+// C: an own notar vote, no own fallback of either kind, no own final.
+pub fn may_final(c: Cell) -> bool
+    ensures { λ r. ⌜ r ≡ mayFinal c ⌝ }
+{
+    ((c.notar != 0) & (c.finalvote == 0)) & ((c.fallback1 == 0) & (c.skipfallback == 0))
+}
+
+// D: no own final, notar-fallback b not cast, and not three others.
+pub fn may_fallback(c: Cell, b: u64) -> bool
+    ensures { λ r. ⌜ r ≡ mayFallback c b ⌝ }
+{
+    let cast = has_fallback(b, c);
+    (c.finalvote == 0) & (!cast & (c.fallback3 == 0))
+}
+
+// E: no own final, skip-fallback not cast.
+pub fn may_skip_fallback(c: Cell) -> bool
+    ensures { λ r. ⌜ r ≡ maySkipFallback c ⌝ }
+{
+    (c.finalvote == 0) & (c.skipfallback == 0)
+}
+
+// Whether some slot of the window of s is without an own initial vote.
+pub fn window_open(rec: &[u64], s: Slot) -> bool
+    requires { ⌜ Windowed (now rec) (s .0) ⌝ }
+    ensures { λ r. ⌜ r ≡ windowOpen (ledgerOf (now (rec .entry))) (s .0) ⌝ }
+{
+    let first = (s.0 - 1) / 4 * 4 + 1;
+    for i in 0..4 {
+        let c = own_cell(rec, Slot(first + i));
+        if (c.notar == 0) & (c.skip == 0) {
+            return true;
+        }
+    }
+    false
+}
+
+// D's weights: notar(b) reaches 40, or notar(b) reaches 20 and skip + notar(b) reaches 60.
+pub fn fallback_weights(rec: &[u64], t: StakeTable, s: Slot, b: u64) -> bool
+    requires { ⌜ Weighing (now rec) t (s .0) ⌝ }
+    ensures { λ r. ⌜ r ≡ fallbackWeights (ledgerOf (now (rec .entry))) (s .0) b ⌝ }
+{
+    let notar = weigh(rec, t, s, Who::Notar(b));
+    if Threshold::FORTY.reached(notar, t.total) {
+        return true;
+    }
+    if !Threshold::TWENTY.reached(notar, t.total) {
+        return false;
+    }
+    let skip = weigh(rec, t, s, Who::Skip);
+    Threshold::SIXTY.reached(Weight(skip.0 + notar.0), t.total)
+}
+
+// Whether D applies to b: the own vote is not notar b, something would be cast, and the weights.
+fn falls_back(rec: &[u64], t: StakeTable, s: Slot, b: u64) -> bool
+    requires { ⌜ Judging (now rec) t (s .0) ⌝ }
+    ensures { λ r. ⌜ r ≡ fallsBack (ledgerOf (now (rec .entry))) (s .0) b ⌝ }
+{
+    let c = own_cell(rec, s);
+    if c.notar == b {
+        return false;
+    }
+    let casts = window_open(rec, s) | may_fallback(c, b);
+    if !casts {
+        return false;
+    }
+    fallback_weights(rec, t, s, b)
+}
+
+// The lower of b, where it passes, and m; 0 stands for none.
+fn lower(passes: bool, b: u64, m: u64) -> u64
+    ensures { λ r. ⌜ r ≡ lower passes b m ⌝ }
+{
+    if !passes {
+        return m;
+    }
+    if (m != 0) & (m < b) {
+        return m;
+    }
+    b
+}
+
+// D's block: the lowest that D applies to, 0 where there is none. Only a block with a notar vote can be it, and one that
+// every node voted for is weighed once.
+pub fn fallback_block(rec: &[u64], t: StakeTable, s: Slot) -> u64
+    requires { ⌜ Judging (now rec) t (s .0) ⌝ }
+    ensures { λ r. ⌜ r ≡ fallbackBlock (ledgerOf (now (rec .entry))) (s .0) ⌝ }
+{
+    let count = t.count;
+    let mut best: u64 = 0;
+    let mut tried: u64 = 0;
+    for n in 0..count {
+        let c = load_cell(rec, s, Node(n));
+        let b = c.notar;
+        if (b != 0) & (b != tried) {
+            best = lower(falls_back(rec, t, s, b), b, best);
+        }
+        tried = b;
+    }
+    best
+}
+
+// F's test: kind 1 held for b, or kinds 2 for b and 5.
+pub fn is_final(rec: &[u64], t: StakeTable, s: Slot, b: u64) -> bool
+    requires { ⌜ Weighing (now rec) t (s .0) ⌝ }
+    ensures { λ r. ⌜ r ≡ isFinal (ledgerOf (now (rec .entry))) (s .0) b ⌝ }
+{
+    let notar = weigh(rec, t, s, Who::Notar(b));
+    if Threshold::EIGHTY.reached(notar, t.total) {
+        return true;
+    }
+    if !Threshold::SIXTY.reached(notar, t.total) {
+        return false;
+    }
+    held(rec, t, CertificateKind::Final, s, 0)
+}
+
+// F's block: the lowest that is final in slot s, 0 where there is none; likewise.
+pub fn final_candidate(rec: &[u64], t: StakeTable, s: Slot) -> u64
+    requires { ⌜ Weighing (now rec) t (s .0) ⌝ }
+    ensures { λ r. ⌜ r ≡ lowest (isFinal (ledgerOf (now (rec .entry))) (s .0)) (names (ledgerOf (now (rec .entry))) (s .0)) ⌝ }
+{
+    let count = t.count;
+    let mut best: u64 = 0;
+    let mut tried: u64 = 0;
+    for n in 0..count {
+        let c = load_cell(rec, s, Node(n));
+        let b = c.notar;
+        if (b != 0) & (b != tried) {
+            best = lower(is_final(rec, t, s, b), b, best);
+        }
+        tried = b;
+    }
+    best
+}
+
+// The larger of two weights.
+fn larger(v: Weight, w: Weight) -> Weight
+    ensures { λ r. ⌜ r .0 ≡ max (v .0) (w .0) ⌝ }
+{
+    if v.0 <= w.0 {
+        return w;
+    }
+    v
+}
+
+// The largest notar(b) of slot s, 0 where there is none; likewise.
+pub fn largest_notar(rec: &[u64], t: StakeTable, s: Slot) -> Weight
+    requires { ⌜ Weighing (now rec) t (s .0) ⌝ }
+    ensures { λ r. ⌜ r .0 ≡ largest (λ b. weigh (ledgerOf (now (rec .entry))) (s .0) (who.Notar b)) (names (ledgerOf (now (rec .entry))) (s .0)) ⌝ }
+{
+    let count = t.count;
+    let mut most = Weight(0);
+    let mut tried: u64 = 0;
+    for n in 0..count {
+        let c = load_cell(rec, s, Node(n));
+        let b = c.notar;
+        if (b != 0) & (b != tried) {
+            most = larger(weigh(rec, t, s, Who::Notar(b)), most);
+        }
+        tried = b;
+    }
+    most
+}
+
+// E's weights: skip + all notar - largest notar(b) reaches 40. The largest is looked for only where the sum reaches 40.
+pub fn skip_weights(rec: &[u64], t: StakeTable, s: Slot) -> bool
+    requires { ⌜ Weighing (now rec) t (s .0) ⌝ }
+    ensures { λ r. ⌜ r ≡ skipWeights (ledgerOf (now (rec .entry))) (s .0) ⌝ }
+{
+    let skip = weigh(rec, t, s, Who::Skip);
+    let notar = weigh(rec, t, s, Who::AnyNotar);
+    let sum = skip.0 + notar.0;
+    if !Threshold::FORTY.reached(Weight(sum), t.total) {
+        return false;
+    }
+    let most = largest_notar(rec, t, s);
+    Threshold::FORTY.reached(Weight(sum - most.0), t.total)
+}
