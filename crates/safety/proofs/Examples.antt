@@ -33,18 +33,10 @@ use Rattle.safety.specs.Ring.{afterAll, madeIn, broughtBy, life, castBy,
 use Rattle.safety.specs.Examples.{toldIn, mailTest, genuineTest, six, honestSix, fedSix, toldSix, proofOfZero, proofOfTwo, LiarRing, five, honestFive, fedFive, toldFive, proofOfSeven, proofOfEight, AtOneFifth}
 use Rattle.safety.proofs.Tests.{T-true, true-T, and-T, T-and, or-T, T-left, T-right, by-test, yes, neither}
 use Rattle.safety.proofs.Steps.{pass}
+use Rattle.safety.proofs.Packets.{one-genuine, two-genuine}
 use Rattle.safety.proofs.Promises.{mail-is-enough}
 
 -- ---- what the tests say
-
-whole-cert : (c d : Certificate) (n m : ℕ) → found.Whole c n ≡ found.Whole d m → c ≡ d
-whole-cert c d n m e = cc
-
-whole-next : (c d : Certificate) (n m : ℕ) → found.Whole c n ≡ found.Whole d m → n ≡ m
-whole-next c d n m e = cc
-
-never : (x : Found) (c : Certificate) (n : ℕ) → x ≡ found.Early → x ≡ found.Whole c n → ⊥
-never x c n e f = let z : _≡_ {A = ℕ} 0 1 = cc in omega arith
 
 -- A record that is the same as another is among what the other is among.
 among-moved : (xs : List Record) (a b : Record) → a .kind ≡ b .kind → a .slot ≡ b .slot → a .block ≡ b .block → T (among xs a) → T (among xs b)
@@ -136,24 +128,6 @@ module _ (ws : List ℕ) (g bound : ℕ) (honest : Test) (fed : ℕ → List Inp
             (λ z. absurd (T-not (bit (c .maskb) n) z u)) (known n (c .slot) (ballotB k (c .block)) h);
       }
 
-  -- A packet of one certificate, and one of two.
-  packet-one : (packet : List ℕ) (c : Certificate) (n : ℕ) → certificateAt packet 0 ≡ found.Whole c n → certificateAt packet n ≡ found.Early → T (genuineTest told honest bound c)
-      → GenuinePacket ws g honest fed packet
-  packet-one packet c n e f t =
-      record {
-        first = λ d m r. subst (Genuine ws g honest fed) (whole-cert c d n m (sym e ∙ r)) (genuine-ok c t);
-        second = λ d x m k r q. absurd (never (certificateAt packet n) x k f (subst (λ (j : ℕ). certificateAt packet j ≡ found.Whole x k) (sym (whole-next c d n m (sym e ∙ r))) q));
-      }
-
-  packet-two : (packet : List ℕ) (c d : Certificate) (n m : ℕ) → certificateAt packet 0 ≡ found.Whole c n → certificateAt packet n ≡ found.Whole d m
-      → T (genuineTest told honest bound c) → T (genuineTest told honest bound d) → GenuinePacket ws g honest fed packet
-  packet-two packet c d n m e f t u =
-      record {
-        first = λ x j r. subst (Genuine ws g honest fed) (whole-cert c x n j (sym e ∙ r)) (genuine-ok c t);
-        second = λ x y j k r q. subst (Genuine ws g honest fed)
-            (whole-cert d y m k (sym f ∙ subst (λ (i : ℕ). certificateAt packet i ≡ found.Whole y k) (sym (whole-next c x n j (sym e ∙ r))) q)) (genuine-ok d u);
-      }
-
 -- ---- six nodes and a liar
 
 six0 : toldIn (fresh six 0 1) (fedSix 0) ≡ toldSix 0
@@ -213,11 +187,14 @@ crt k b m = record { kind = k; slot = 1; block = b; maska = m; maskb = 0 }
 
 six-genuine0 : GenuinePacket six 1 honestSix fedSix proofOfZero
 unfolding rules genuineTest
-six-genuine0 = packet-one six 1 5 honestSix fedSix toldSix six-within six-lives proofOfZero (crt 1 7 47) 5 refl refl tt
+six-genuine0 =
+    one-genuine six 1 honestSix fedSix proofOfZero (crt 1 7 47) refl (genuine-ok six 1 5 honestSix fedSix toldSix six-within six-lives (crt 1 7 47) tt)
 
 six-genuine2 : GenuinePacket six 1 honestSix fedSix proofOfTwo
 unfolding rules genuineTest
-six-genuine2 = packet-two six 1 5 honestSix fedSix toldSix six-within six-lives proofOfTwo (crt 2 7 15) (crt 5 0 15) 5 10 refl refl tt tt
+six-genuine2 =
+    two-genuine six 1 honestSix fedSix proofOfTwo (crt 2 7 15) (crt 5 0 15) 5 10 refl refl (genuine-ok six 1 5 honestSix fedSix toldSix six-within six-lives (crt 2 7 15) tt)
+    (genuine-ok six 1 5 honestSix fedSix toldSix six-within six-lives (crt 5 0 15) tt)
 
 six-seven : T (has (cellAt (life six 1 honestSix fedSix 0) 1 5) (notar 7))
 unfolding rules afterAll
@@ -288,11 +265,15 @@ five-fits = tt
 
 five-seven : GenuinePacket five 1 honestFive fedFive proofOfSeven
 unfolding rules genuineTest
-five-seven = packet-two five 1 4 honestFive fedFive toldFive five-within five-lives proofOfSeven (crt 2 7 19) (crt 5 0 15) 5 10 refl refl tt tt
+five-seven =
+    two-genuine five 1 honestFive fedFive proofOfSeven (crt 2 7 19) (crt 5 0 15) 5 10 refl refl (genuine-ok five 1 4 honestFive fedFive toldFive five-within five-lives (crt 2 7 19) tt)
+    (genuine-ok five 1 4 honestFive fedFive toldFive five-within five-lives (crt 5 0 15) tt)
 
 five-eight : GenuinePacket five 1 honestFive fedFive proofOfEight
 unfolding rules genuineTest
-five-eight = packet-two five 1 4 honestFive fedFive toldFive five-within five-lives proofOfEight (crt 2 8 28) (crt 5 0 15) 5 10 refl refl tt tt
+five-eight =
+    two-genuine five 1 honestFive fedFive proofOfEight (crt 2 8 28) (crt 5 0 15) 5 10 refl refl (genuine-ok five 1 4 honestFive fedFive toldFive five-within five-lives (crt 2 8 28) tt)
+    (genuine-ok five 1 4 honestFive fedFive toldFive five-within five-lives (crt 5 0 15) tt)
 
 pub at-one-fifth : AtOneFifth
 unfolding rules

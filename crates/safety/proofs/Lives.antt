@@ -19,7 +19,7 @@ use Rattle.safety.specs.Slot.{Ballot, notar, notarFallback, skip, skipFa
 use Rattle.safety.specs.Ballots.{has, recordFor, sameRecord, among, brings}
 use Rattle.safety.specs.Moves.{SameTable, Stepped}
 use Rattle.safety.specs.Ring.{afterAll, madeIn, broughtBy}
-use Rattle.safety.proofs.Tests.{and-T, or-T, T-left, T-right, not-not, by-test, T-true}
+use Rattle.safety.proofs.Tests.{and-T, or-T, T-left, T-right, not-not, by-test, T-true, or-neither}
 use Rattle.safety.proofs.Cells.{Neat, kept-same, kept-has, blank-neat, blank-has}
 use Rattle.safety.proofs.Along.{Grow, grow-trans, table-same, table-trans, SlotOk, Inv, Went, went-start, moves-went}
 use Rattle.safety.proofs.Steps.{passed, Ready, feed-stepped, feed-shaped}
@@ -137,6 +137,12 @@ module _ (me : ℕ) (me64 : me < mostNodes) where
       (λ u. T-left (a || b) c (T-right a b u))
       (λ u. or-T a c (step-went l i r .brought s n v ne u) (λ x. T-left (a || b) c (T-left a b x)) (T-right (a || b) c))
 
+-- A life goes on from any of its moments.
+pub life-on : (l : Ledger) (before later : List Input) → afterAll l (before ++ later) ≡ afterAll (afterAll l before) later
+unfolding afterAll
+life-on l [] later = refl
+life-on l (i ∷ is) later = life-on (feed l i .ledger) is later
+
 -- ---- a fresh start
 
 getD-all : {A : Type 0} (P : A → Type 0) (k : ℕ) (x : A) (i : ℕ) (d : A) → P x → P d → P (getD (replicate k x) i d)
@@ -172,10 +178,6 @@ pub record Sized (ws : List ℕ) (me : ℕ) : Type 0 where
   pub fits : T (stakesFit ws (length ws))
   pub inTable : me < length ws
   pub few : length ws ≤ mostNodes
-
-or-neither : (a b : Bool) → T (not (a || b)) → T (not a) × T (not b)
-or-neither true b t = absurd t
-or-neither false b t = (tt, t)
 
 fits-few : (ws : List ℕ) → T (stakesFit ws (length ws)) → length ws ≤ mostNodes
 unfolding stakesFit

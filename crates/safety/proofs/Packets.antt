@@ -2,10 +2,10 @@
 use mathlib.Core.Path.{_≡_, refl, sym, ap, _∙_, subst}
 use mathlib.Core.Bool.{Bool, true, false, not, _&&_, _||_}
 use mathlib.Core.List.{List, [], _∷_}
-use Prim.Native.Nat.{ℕ, _<_}
+use Prim.Native.Nat.{ℕ, _≤_, _<_}
 use native.Mathlib.Omega.{arith}
 use lib.Dec.{T, eqb, ltb, eqb→eq}
-use lib.ListN.{length}
+use lib.ListN.{length, drop, drop-of-length-le}
 use Rattle.rulebook.specs.declared.Input.{Input}
 use Rattle.rulebook.specs.declared.Slot.{Slot}
 use Rattle.rulebook.specs.declared.Certificate.{Certificate}
@@ -22,7 +22,7 @@ use Rattle.rulebook.specs.declared.Verdict.the-variants.{Fine, Refused}
 use Rattle.rulebook.specs.Tools.{given, choose}
 use Rattle.rulebook.specs.Weights.{stakesFit}
 use Rattle.rulebook.specs.PaperNumbers.{certificateKind}
-use Rattle.rulebook.specs.Packets.{certificateAt}
+use Rattle.rulebook.specs.Packets.{numberFrom, placed, numberAt, andThen, certificateAt}
 use Rattle.rulebook.specs.Checker.{judge, acceptedOf, One, good, bad, judged, oneOf, oneAt, ended, singleOf, checkCertificate, secondOf, firstIn, proofOf, checkProof}
 use Rattle.safety.specs.Slot.{Test}
 use Rattle.safety.specs.Ring.{Ring, Genuine, GenuinePacket, Proves, byOne, byTwo, Every, noMore, also, Agrees}
@@ -125,6 +125,42 @@ proof-one stakes packet a (bad r) o e = let z : _≡_ {A = ℕ} 0 1 = cc in absu
 pub proof-read : (stakes packet : List ℕ) (a : Accepted) → checkProof stakes packet ≡ check.Accepted a → ProofRead stakes packet a
 unfolding checkProof
 proof-read stakes packet a e = proof-one stakes packet a (oneAt stakes packet 0) refl (given-accepted _ _ _ a e .1)
+
+-- ---- nothing is read past a packet's end
+
+pub past-end : (bytes : List ℕ) (n : ℕ) → length bytes ≤ n → certificateAt bytes n ≡ found.Early
+unfolding certificateAt numberAt numberFrom placed andThen
+past-end bytes n h = rw (drop-of-length-le bytes h)
+
+whole-cert : (c d : Certificate) (n m : ℕ) → found.Whole c n ≡ found.Whole d m → c ≡ d
+whole-cert c d n m e = cc
+
+whole-next : (c d : Certificate) (n m : ℕ) → found.Whole c n ≡ found.Whole d m → n ≡ m
+whole-next c d n m e = cc
+
+never : (x : Found) (c : Certificate) (n : ℕ) → x ≡ found.Early → x ≡ found.Whole c n → ⊥
+never x c n e f = let z : _≡_ {A = ℕ} 0 1 = cc in omega arith
+
+module _ (stakes : List ℕ) (genesis : ℕ) (honest : Test) (fed : ℕ → List Input) where
+  -- A packet of one genuine certificate, and one of two.
+  pub one-genuine : (packet : List ℕ) (c : Certificate) → certificateAt packet 0 ≡ found.Whole c (length packet) → Genuine stakes genesis honest fed c
+      → GenuinePacket stakes genesis honest fed packet
+  one-genuine packet c e g =
+      record {
+        first = λ d m r. subst (Genuine stakes genesis honest fed) (whole-cert c d (length packet) m (sym e ∙ r)) g;
+        second = λ d x m k r q.
+            let p : length packet ≡ m = whole-next c d (length packet) m (sym e ∙ r) in
+            absurd (never (certificateAt packet m) x k (past-end packet m (omega (arith, p))) q);
+      }
+
+  pub two-genuine : (packet : List ℕ) (c d : Certificate) (n m : ℕ) → certificateAt packet 0 ≡ found.Whole c n → certificateAt packet n ≡ found.Whole d m
+      → Genuine stakes genesis honest fed c → Genuine stakes genesis honest fed d → GenuinePacket stakes genesis honest fed packet
+  two-genuine packet c d n m e f g g′ =
+      record {
+        first = λ x j r. subst (Genuine stakes genesis honest fed) (whole-cert c x n j (sym e ∙ r)) g;
+        second = λ x y j k r q. subst (Genuine stakes genesis honest fed)
+            (whole-cert d y m k (sym f ∙ subst (λ (i : ℕ). certificateAt packet i ≡ found.Whole y k) (sym (whole-next c x n j (sym e ∙ r))) q)) g′;
+      }
 
 -- ---- the promise over bytes
 

@@ -28,7 +28,7 @@ use Rattle.safety.specs.Slot.{Test, Ballot, notar, notarFallback, skip, 
 use Rattle.safety.specs.Ballots.{has, recordFor}
 use Rattle.safety.specs.Moves.{notFor, Certified, Others, SameTable}
 use Rattle.safety.specs.Ring.{afterAll, madeIn, broughtBy, life, castBy, Ring, FedRing, ballotA, ballotB, Genuine, Proves, byOne, byTwo, Every, noMore, also, Agrees}
-use Rattle.safety.proofs.Tests.{T-true, true-T, and-T, T-and, or-T, by-test, not-not, not-false}
+use Rattle.safety.proofs.Tests.{T-true, true-T, and-T, T-and, or-T, by-test, not-not, not-false, or-neither}
 use Rattle.safety.proofs.Weighing.{reaches-le, le-reaches}
 use Rattle.safety.proofs.OneSlot.{safe}
 use Rattle.safety.proofs.Cells.{initial-cases, is-notar, notar-some, notar-is, one-block, not-both}
@@ -62,10 +62,6 @@ pub record Judged (stakes : List ℕ) (k : CertificateKind) (c : Certificate) : 
 and-neither : (a b : Bool) → T (not (a && not b)) → T a → T b
 and-neither true b t u = not-not b t
 and-neither false b t u = absurd u
-
-or-neither : (a b : Bool) → T (not (a || b)) → T (not a) × T (not b)
-or-neither true b t = absurd t
-or-neither false b t = (tt, t)
 
 pub judge-says : (stakes : List ℕ) (c : Certificate) → judge stakes c ≡ Fine → Judged stakes (certificateKind (c .kind)) c
 unfolding judge judgeKind badSigners signedWeight
@@ -119,13 +115,13 @@ module _ (stakes : List ℕ) (genesis : ℕ) (honest : Test) (fed : ℕ → List
   abbrev end : ℕ → Ledger
   end n = life stakes genesis honest fed n
 
-  sized : (n : ℕ) → T (honest n) → Sized stakes n
+  pub sized : (n : ℕ) → T (honest n) → Sized stakes n
   sized n h = start-sized stakes n genesis (ring .started n h)
 
-  below : (n : ℕ) → T (honest n) → n < mostNodes
+  pub below : (n : ℕ) → T (honest n) → n < mostNodes
   below n h = let z = sized n h in omega (arith, z .inTable, z .few)
 
-  start-ready : (n : ℕ) → T (honest n) → Ready n (fresh stakes n genesis)
+  pub start-ready : (n : ℕ) → T (honest n) → Ready n (fresh stakes n genesis)
   start-ready n h = fresh-ready stakes n genesis (sized n h)
 
   end-ready : (n : ℕ) → T (honest n) → Ready n (end n)
@@ -144,6 +140,14 @@ module _ (stakes : List ℕ) (genesis : ℕ) (honest : Test) (fed : ℕ → List
       (life-told n (below n h) (fresh stakes n genesis) (fed n) (start-ready n h) s v t)
       (λ u. u) (λ u. absurd (fresh-has stakes n genesis s n v u))
 
+  -- What an honest pool counts of an honest node, its own votes included, that node cast.
+  pub counted : (n m s : ℕ) (v : Ballot) → T (honest n) → T (honest m) → T (has (cellAt (end n) s m) v) → T (castBy stakes genesis honest fed m s v)
+  counted n m s v h k t =
+      elim (ℕ-discrete m n) [
+        | yes e ↦ own-told m s v k (rw (← e) at t)
+        | no ne ↦ ring .pools n m s v h k ne t
+      ]
+
   -- ---- one slot
 
   module _ (s : ℕ) where
@@ -151,14 +155,9 @@ module _ (stakes : List ℕ) (genesis : ℕ) (honest : Test) (fed : ℕ → List
     abbrev own : ℕ → Ballot → Bool
     own n v = has (cellAt (end n) s n) v
 
-    -- What an honest pool counts of an honest node, that node cast.
+    -- So it stands in that node's own cell.
     pooled : (n m : ℕ) (v : Ballot) → T (honest n) → T (honest m) → T (has (cellAt (end n) s m) v) → T (own m v)
-    pooled n m v h k t =
-        own-stored m s v k
-        (elim (ℕ-discrete m n) [
-          | yes e ↦ own-told m s v k (rw (← e) at t)
-          | no ne ↦ ring .pools n m s v h k ne t
-        ])
+    pooled n m v h k t = own-stored m s v k (counted n m s v h k t)
 
     -- A node whose initial vote, in an honest pool, is not for b did not cast notar b.
     not-own : (n m b : ℕ) → T (honest n) → T (honest m) → T (notFor b (cellAt (end n) s m)) → ¬ T (own m (notar b))

@@ -64,3 +64,8 @@ yes false t = t
 pub neither : (a b : Bool) → T (not a) → T (not b) → T (not (a || b))
 neither true b t u = t
 neither false b t u = u
+
+-- Neither of two tests passes.
+pub or-neither : (a b : Bool) → T (not (a || b)) → T (not a) × T (not b)
+or-neither true b t = absurd t
+or-neither false b t = (tt, t)

@@ -172,11 +172,11 @@ module _ (stakes packet : List ℕ) where
       ∙ ended-ok c end n)
 
 -- A certificate at the front of a packet, and one alone.
-read-first : (c : Certificate) (rest : List ℕ) → Fits64 c → certificateAt (certificateBytes c ++ rest) 0 ≡ found.Whole c (length (certificateBytes c))
+pub read-first : (c : Certificate) (rest : List ℕ) → Fits64 c → certificateAt (certificateBytes c ++ rest) 0 ≡ found.Whole c (length (certificateBytes c))
 read-first c rest f =
     certificate-in (certificateBytes c ++ rest) [] c rest 0 refl refl f ∙ ap (found.Whole c) (zero-add (length (certificateBytes c)))
 
-read-alone : (c : Certificate) → Fits64 c → certificateAt (certificateBytes c) 0 ≡ found.Whole c (length (certificateBytes c))
+pub read-alone : (c : Certificate) → Fits64 c → certificateAt (certificateBytes c) 0 ≡ found.Whole c (length (certificateBytes c))
 read-alone c f =
     subst (λ (x : List ℕ). certificateAt x 0 ≡ found.Whole c (length (certificateBytes c))) (append-nil (certificateBytes c)) (read-first c [] f)
 
@@ -195,7 +195,7 @@ module _ (stakes : List ℕ) (me genesis : ℕ) (start : startVerdict stakes me 
   table : SameTable (fresh stakes me genesis) now
   table = life-table me small (fresh stakes me genesis) lived (fresh-ready stakes me genesis size)
 
-  count-is : now .count ≡ length stakes
+  pub count-is : now .count ≡ length stakes
   unfolding fresh
   count-is = table .count
 
@@ -248,7 +248,7 @@ module _ (stakes : List ℕ) (me genesis : ℕ) (start : startVerdict stakes me 
         subst (λ (x : CertificateKind). judgeKind stakes x written ≡ Fine) (sym (kind-back k z))
         (pass _ _ _ z (pass _ _ _ (yes (slotOk s) so) (pass _ _ _ m (pass _ _ _ signers-good (pass _ _ _ (yes (reaches (fifthsOf k) (totalTo stakes (length stakes)) (signedWeight stakes written)) (weight-good z h)) refl)))))
 
-    fits : b < 2 ^ 64 → T (slotOk s) → Fits64 written
+    pub fits : b < 2 ^ 64 → T (slotOk s) → Fits64 written
     unfolding certificateFor slotOk
     fits h so =
         let p : 2 ^ length stakes ≤ 2 ^ 64 = pow-mono (size .few) in
@@ -263,7 +263,7 @@ module _ (stakes : List ℕ) (me genesis : ℕ) (start : startVerdict stakes me 
           maskb = omega (arith, mask-b-lt, p);
         }
 
-    kind-at : T (not (isOtherKind k)) → certificateKind (written .kind) ≡ k
+    pub kind-at : T (not (isOtherKind k)) → certificateKind (written .kind) ≡ k
     unfolding certificateFor
     kind-at z = kind-back k z
 
@@ -275,12 +275,12 @@ module _ (stakes : List ℕ) (me genesis : ℕ) (start : startVerdict stakes me 
   -- ---- the two writers
 
   -- A writer that wrote found nothing to refuse.
-  wrote-fine : (v : Verdict) (bytes : List ℕ) (n : ℕ) → wroteOn v bytes .answer ≡ write.Written n → v ≡ Fine
+  pub wrote-fine : (v : Verdict) (bytes : List ℕ) (n : ℕ) → wroteOn v bytes .answer ≡ write.Written n → v ≡ Fine
   unfolding wroteOn
   wrote-fine Fine bytes n e = refl
   wrote-fine (Refused r) bytes n e = let z : _≡_ {A = ℕ} 0 1 = cc in absurd (omega arith)
 
-  wrote-bytes : (v : Verdict) (bytes : List ℕ) → v ≡ Fine → wroteOn v bytes .bytes ≡ bytes
+  pub wrote-bytes : (v : Verdict) (bytes : List ℕ) → v ≡ Fine → wroteOn v bytes .bytes ≡ bytes
   unfolding wroteOn
   wrote-bytes v bytes e = rw e refl
 

@@ -1,7 +1,7 @@
 -- Demand 3: the promises, each as a statement that proofs/ proves under the same name in small letters.
 use mathlib.Core.Path.{_≡_}
 use mathlib.Core.Bool.{Bool, not}
-use mathlib.Core.List.{List}
+use mathlib.Core.List.{List, _++_}
 use Prim.Native.Nat.{ℕ, _<_, _^_}
 use lib.Dec.{T}
 use Rattle.rulebook.specs.declared.Input.{Input}
@@ -80,3 +80,31 @@ abbrev pub RulesMeetInterface : Type 0
 RulesMeetInterface =
     (stakes : List ℕ) (me genesis : ℕ) → startVerdict stakes me genesis ≡ Fine → (lived : List Input) (i : Input)
     → Stepped me i (afterAll (fresh stakes me genesis) lived) (feed (afterAll (fresh stakes me genesis) lived) i)
+
+-- What an honest node's writers give at any moment of its life is genuine, so that the promises above hold of it with no premise on packets.
+abbrev pub WrittenCertificateGenuine : Type 0
+WrittenCertificateGenuine =
+    (stakes : List ℕ) (genesis : ℕ) (honest : Test) (fed : ℕ → List Input) → Ring stakes genesis honest fed
+    → (n : ℕ) → T (honest n) → (before later : List Input) → fed n ≡ before ++ later
+    → (room : ℕ) (k : CertificateKind) (s b size : ℕ) → b < 2 ^ 64
+    → writeCertificate (afterAll (fresh stakes n genesis) before) room k s b .answer ≡ write.Written size
+    → GenuinePacket stakes genesis honest fed (writeCertificate (afterAll (fresh stakes n genesis) before) room k s b .bytes)
+
+abbrev pub WrittenProofGenuine : Type 0
+WrittenProofGenuine =
+    (stakes : List ℕ) (genesis : ℕ) (honest : Test) (fed : ℕ → List Input) → Ring stakes genesis honest fed
+    → (n : ℕ) → T (honest n) → (before later : List Input) → fed n ≡ before ++ later
+    → (room s b size : ℕ) → b < 2 ^ 64
+    → writeProof (afterAll (fresh stakes n genesis) before) room s b .answer ≡ write.Written size
+    → GenuinePacket stakes genesis honest fed (writeProof (afterAll (fresh stakes n genesis) before) room s b .bytes)
+
+-- Two honest nodes, each at any moment of its life, never write proofs for different blocks of one slot.
+abbrev pub HonestProofsAgree : Type 0
+HonestProofsAgree =
+    (stakes : List ℕ) (genesis : ℕ) (honest : Test) (fed : ℕ → List Input) → Ring stakes genesis honest fed
+    → (n m : ℕ) → T (honest n) → T (honest m) → (before later : List Input) → fed n ≡ before ++ later
+    → (before′ later′ : List Input) → fed m ≡ before′ ++ later′
+    → (room room′ s b d size size′ : ℕ) → b < 2 ^ 64 → d < 2 ^ 64
+    → writeProof (afterAll (fresh stakes n genesis) before) room s b .answer ≡ write.Written size
+    → writeProof (afterAll (fresh stakes m genesis) before′) room′ s d .answer ≡ write.Written size′
+    → b ≡ d
