@@ -1,0 +1,254 @@
+-- Laws of the checker's steps: kinds, the stakes of a table, and what is told of a certificate against the rule book. Assumes
+-- nothing.
+use mathlib.Core.Path.{_≡_, refl, sym, ap, ap₂, _∙_, subst}
+use mathlib.Core.Bool.{Bool, true, false, not, _&&_, _||_}
+use mathlib.Core.List.{List, _++_}
+use Prim.Native.Nat.{ℕ, _+_, _-_, _^_, _≤_, _<_}
+use native.Mathlib.Omega.{arith}
+use lib.ListN.{length, take, getD, replicate, length-append, length-take}
+use lib.Seq.{getD-take, take-append-seam, length-take-le}
+use lib.Dec.{eqb, leb, ltb}
+use borrow.Author.Tests.{ne-eqb, eqb-true, eq-eqb}
+use Rattle.rulebook.specs.declared.Accepted.{Accepted}
+use Rattle.rulebook.specs.declared.Certificate.{Certificate}
+use Rattle.rulebook.specs.declared.CertificateKind.{CertificateKind}
+use Rattle.rulebook.specs.declared.CertificateKind.the-variants as certificate
+use Rattle.rulebook.specs.declared.CheckAnswer.{CheckAnswer}
+use Rattle.rulebook.specs.declared.CheckAnswer.the-variants as check
+use Rattle.rulebook.specs.declared.Refusal.the-variants as refusal
+use Rattle.rulebook.specs.Tools.{given, choose, someTo, part, sumTo}
+use Rattle.rulebook.specs.Weights.{mostNodes, slotOk, stakeIn, weight, totalTo, reaches, stakesFit}
+use Rattle.rulebook.specs.PaperNumbers.{certificateKind}
+use Rattle.rulebook.specs.Pool.{fifthsOf}
+use Rattle.rulebook.specs.Inputs.{refuseIf}
+use Rattle.rulebook.specs.Packets.{bit, countOf}
+use Rattle.rulebook.specs.Checker.{One, good, bad, isOtherKind, blockMisfits, badSigners, withoutB, signed, signedWeight, acceptedOf, judged, oneAt, ended, singleOf, secondOf, firstIn, proofOf, judgeKind, judge, checkCertificate, checkProof}
+use Rattle.rulebook.proofs.ToolLaws.{sum-same, given-on}
+use Rattle.rulebook.proofs.MaskLaws.{overlap-past}
+use Rattle.stakes.specs.declared.StakeTable.{StakeTable}
+use Rattle.stakes.specs.declared.Made.{Made}
+use Rattle.stakes.specs.declared.Weighed.{Weighed}
+use Rattle.stakes.specs.Table.{Fit, tableOf, madeOf, weighed}
+use Rattle.stakes.proofs.Laws.{table-fit, made-fits, made-table}
+use Rattle.checker.specs.declared.Checked.{Checked}
+use Rattle.checker.specs.declared.Checked.the-variants as checked
+use Rattle.checker.specs.Told.{Sound, Heard, stakesOf, told, weighedIn, finished, alone, isFinalKind, followed, continued, proven}
+
+-- ---- kinds
+
+-- Any other number.
+pub kind-other : (n : ℕ) → (n ≡ 1 → ⊥) → (n ≡ 2 → ⊥) → (n ≡ 3 → ⊥) → (n ≡ 4 → ⊥) → (n ≡ 5 → ⊥) → certificateKind n ≡ certificate.Other
+unfolding certificateKind choose
+kind-other n a b c d e = simp (ne-eqb n 1 a, ne-eqb n 2 b, ne-eqb n 3 c, ne-eqb n 4 d, ne-eqb n 5 e)
+
+-- Kind 5 is the number 5.
+pub kind-final : (n : ℕ) → isFinalKind (certificateKind n) ≡ eqb n 5
+unfolding certificateKind choose isFinalKind
+kind-final n = one (eqb n 1) refl
+  where
+    last : (e : Bool) → isFinalKind (choose e certificate.Final certificate.Other) ≡ e
+    last true = refl
+    last false = refl
+
+    apart : (k : ℕ) → eqb n k ≡ true → (k ≡ 5 → ⊥) → false ≡ eqb n 5
+    apart k q f = sym (ne-eqb n 5 (λ z. f (sym (eqb-true n k q) ∙ z)))
+
+    four : (d : Bool) → eqb n 4 ≡ d → isFinalKind (choose d certificate.Skip (choose (eqb n 5) certificate.Final certificate.Other)) ≡ eqb n 5
+    four true q = apart 4 q (λ z. omega arith)
+    four false q = last (eqb n 5)
+
+    three : (d : Bool) → eqb n 3 ≡ d
+        → isFinalKind (choose d certificate.NotarFallback (choose (eqb n 4) certificate.Skip (choose (eqb n 5) certificate.Final certificate.Other))) ≡ eqb n 5
+    three true q = apart 3 q (λ z. omega arith)
+    three false q = four (eqb n 4) refl
+
+    two : (d : Bool) → eqb n 2 ≡ d
+        → isFinalKind (choose d certificate.Notar (choose (eqb n 3) certificate.NotarFallback (choose (eqb n 4) certificate.Skip (choose (eqb n 5) certificate.Final certificate.Other)))) ≡ eqb n 5
+    two true q = apart 2 q (λ z. omega arith)
+    two false q = three (eqb n 3) refl
+
+    one : (d : Bool) → eqb n 1 ≡ d
+        → isFinalKind (choose d certificate.FastFinal (choose (eqb n 2) certificate.Notar (choose (eqb n 3) certificate.NotarFallback (choose (eqb n 4) certificate.Skip (choose (eqb n 5) certificate.Final certificate.Other))))) ≡ eqb n 5
+    one true q = apart 1 q (λ z. omega arith)
+    one false q = two (eqb n 2) refl
+
+-- No kind needs more than five fifths.
+pub fifths-le : (k : CertificateKind) → fifthsOf k ≤ 5
+unfolding fifthsOf
+fifths-le certificate.FastFinal = omega arith
+fifths-le certificate.Notar = omega arith
+fifths-le certificate.NotarFallback = omega arith
+fifths-le certificate.Skip = omega arith
+fifths-le certificate.Final = omega arith
+fifths-le certificate.Other = omega arith
+
+-- ---- the stakes of a table
+
+pub stakes-length : (t : StakeTable) → Sound t → length (stakesOf t) ≡ t .count
+unfolding stakesOf
+stakes-length t s = length-take-le (t .count) (t .stakes) (s .places)
+
+stake-same : (t : StakeTable) (n : ℕ) → n < t .count → stakeIn (stakesOf t) n ≡ stakeIn (t .stakes) n
+unfolding stakesOf
+stake-same t n h = getD-take (t .count) (t .stakes) n 0 h
+
+stakes-weight : (t : StakeTable) → Sound t → (p : ℕ → Bool) → weight (t .stakes) (t .count) p ≡ weight (stakesOf t) (length (stakesOf t)) p
+unfolding weight
+stakes-weight t s p =
+    rw (stakes-length t s)
+    (sum-same (t .count) (λ n. part (p n) (stakeIn (t .stakes) n)) (λ n. part (p n) (stakeIn (stakesOf t) n)) (λ i l. ap (part (p i)) (sym (stake-same t i l))))
+
+pub stakes-total : (t : StakeTable) → Sound t → t .total .0 ≡ totalTo (stakesOf t) (length (stakesOf t))
+unfolding totalTo
+stakes-total t s =
+    sym (s .fit .sum)
+    ∙ rw (stakes-length t s)
+    (sum-same (t .count) (λ n. stakeIn (t .stakes) n) (λ n. stakeIn (stakesOf t) n) (λ i l. sym (stake-same t i l)))
+
+-- What is weighed on the table is what the stakes weigh.
+pub stakes-weighed : (t : StakeTable) → Sound t → (c : Certificate) (w : Weighed)
+    → w ≡ weighed (t .stakes) (t .count) (λ n. bit (c .maska) n || bit (c .maskb) n)
+    → w ≡ record { signers = countOf (signed c) (length (stakesOf t)); weight = record { 0 = signedWeight (stakesOf t) c } }
+unfolding weighed signed signedWeight
+stakes-weighed t s c w e =
+    let who : ℕ → Bool = λ n. bit (c .maska) n || bit (c .maskb) n in
+    e
+    ∙ ap₂ (λ (x y : ℕ). record { signers = countOf who x; weight = record { 0 = y } }) (sym (stakes-length t s)) (stakes-weight t s who)
+
+-- The signers are as bad against the table's count.
+pub signers-same : (t : StakeTable) → Sound t → (k : CertificateKind) (c : Certificate) → badSigners (length (stakesOf t)) k c ≡ badSigners (t .count) k c
+signers-same t s k c = ap (λ (n : ℕ). badSigners n k c) (stakes-length t s)
+
+-- A table that was made has the lent stakes, and is sound.
+pub made-sound : (ws : List ℕ) (m : Made) → m ≡ madeOf ws → m .fits ≡ true → Sound (m .table)
+unfolding tableOf
+made-sound ws m q e =
+    let k : madeOf ws .fits ≡ true = ap (λ (x : Made). x .fits) (sym q) ∙ e in
+    let f : stakesFit ws (length ws) ≡ true = sym (made-fits ws) ∙ k in
+    let l : m .table ≡ tableOf ws = ap (λ (x : Made). x .table) q ∙ made-table ws k in
+    subst Sound (sym l) (record { fit = table-fit ws f; places = simp length-append (omega arith) })
+
+pub made-stakes : (ws : List ℕ) (m : Made) → m ≡ madeOf ws → m .fits ≡ true → stakesOf (m .table) ≡ ws
+unfolding stakesOf tableOf
+made-stakes ws m q e =
+    let k : madeOf ws .fits ≡ true = ap (λ (x : Made). x .fits) (sym q) ∙ e in
+    let l : m .table ≡ tableOf ws = ap (λ (x : Made). x .table) q ∙ made-table ws k in
+    ap stakesOf l ∙ take-append-seam ws (replicate (mostNodes - length ws) 0)
+
+pub made-test : (ws : List ℕ) (m : Made) → m ≡ madeOf ws → stakesFit ws (length ws) ≡ m .fits
+made-test ws m q = sym (made-fits ws) ∙ ap (λ (x : Made). x .fits) (sym q)
+
+-- ---- what is told, against the rule book
+
+-- 15, and what is told else.
+pub too-light : (ws : List ℕ) (k : CertificateKind) (c : Certificate) (next : ℕ)
+    → reaches (fifthsOf k) (totalTo ws (length ws)) (signedWeight ws c) ≡ false → weighedIn ws k c next ≡ checked.Bad refusal.TooLight
+unfolding weighedIn refuseIf judged told
+too-light ws k c next e = rw e
+
+pub heavy-enough : (ws : List ℕ) (k : CertificateKind) (c : Certificate) (next : ℕ)
+    → reaches (fifthsOf k) (totalTo ws (length ws)) (signedWeight ws c) ≡ true → weighedIn ws k c next ≡ checked.Good (acceptedOf ws c) next
+unfolding weighedIn refuseIf judged told
+heavy-enough ws k c next e = rw e
+
+-- What was weighed on the table reaches what the kind needs exactly where the stakes do.
+pub reach-same : (t : StakeTable) → Sound t → (k : CertificateKind) (c : Certificate) (w : Weighed)
+    → w ≡ weighed (t .stakes) (t .count) (λ n. bit (c .maska) n || bit (c .maskb) n) → (n : ℕ) → n ≡ fifthsOf k → (r : Bool)
+    → r ≡ reaches n (t .total .0) (w .weight .0)
+    → reaches (fifthsOf k) (totalTo (stakesOf t) (length (stakesOf t))) (signedWeight (stakesOf t) c) ≡ r
+reach-same t s k c w q n e r h =
+    let v : w .weight .0 ≡ signedWeight (stakesOf t) c = ap (λ (x : Weighed). x .weight .0) (stakes-weighed t s c w q) in
+    sym
+    (h ∙ ap (λ (x : ℕ). reaches x (t .total .0) (w .weight .0)) e
+    ∙ ap₂ (λ (x y : ℕ). reaches (fifthsOf k) x y) (stakes-total t s) v)
+
+-- What is told of a certificate that was weighed.
+pub weighed-told : (t : StakeTable) → (k : CertificateKind) (c : Certificate) → Heard t k c → (w : Weighed)
+    → w ≡ weighed (t .stakes) (t .count) (λ n. bit (c .maska) n || bit (c .maskb) n) → (next : ℕ)
+    → reaches (fifthsOf k) (totalTo (stakesOf t) (length (stakesOf t))) (signedWeight (stakesOf t) c) ≡ true
+    → checked.Good (record { kind = k; slot = record { 0 = c .slot }; block = c .block; signers = w .signers; weight = w .weight }) next ≡ weighedIn (stakesOf t) k c next
+unfolding acceptedOf
+weighed-told t k c h w q next r =
+    ap₂ (λ (x : CertificateKind) (y : Weighed).
+    checked.Good (record { kind = x; slot = record { 0 = c .slot }; block = c .block; signers = y .signers; weight = y .weight }) next)
+    (h .kind) (stakes-weighed t (h .sound) c w q)
+    ∙ sym (heavy-enough (stakesOf t) k c next r)
+
+-- A packet that is to be one certificate.
+pub alone-is : (ws packet : List ℕ) (o : One) → singleOf ws packet o ≡ alone (length packet) (told ws o)
+unfolding singleOf ended alone told finished
+alone-is ws packet (good c next) = refl
+alone-is ws packet (bad r) = refl
+
+-- The second certificate of a proof.
+second-is : (ws packet : List ℕ) (c : Certificate) (o : One) → secondOf ws packet c o ≡ followed (acceptedOf ws c) (length packet) (told ws o)
+unfolding secondOf ended followed told finished acceptedOf
+second-is ws packet c (good d next) = rw (kind-final (d .kind))
+second-is ws packet c (bad r) = refl
+
+first-is : (ws packet : List ℕ) (k : CertificateKind) (c : Certificate) (next : ℕ) → firstIn ws packet k c next ≡ continued ws packet k (acceptedOf ws c) next
+unfolding firstIn continued ended finished
+first-is ws packet certificate.FastFinal c next = refl
+first-is ws packet certificate.Notar c next = second-is ws packet c (oneAt ws packet next)
+first-is ws packet certificate.NotarFallback c next = refl
+first-is ws packet certificate.Skip c next = refl
+first-is ws packet certificate.Final c next = refl
+first-is ws packet certificate.Other c next = refl
+
+-- A packet that is to be a proof.
+pub proven-is : (ws packet : List ℕ) (o : One) → proofOf ws packet o ≡ proven ws packet (told ws o)
+unfolding proofOf proven told acceptedOf
+proven-is ws packet (good c next) = first-is ws packet (certificateKind (c .kind)) c next
+proven-is ws packet (bad r) = refl
+
+-- The kind is found once.
+judge-is : (ws : List ℕ) (k : CertificateKind) (c : Certificate) (next : ℕ) → k ≡ certificateKind (c .kind)
+    → told ws (judged (judge ws c) c next) ≡ told ws (judged (judgeKind ws k c) c next)
+unfolding judge
+judge-is ws k c next e = ap (λ (x : CertificateKind). told ws (judged (judgeKind ws x c) c next)) (sym e)
+
+-- The tests of a certificate in their order: each refuses where those before it do not.
+module _ (ws : List ℕ) (k : CertificateKind) (c : Certificate) (next : ℕ) (e : k ≡ certificateKind (c .kind)) where
+  pub refuse-kind : isOtherKind k ≡ true → checked.Bad refusal.BadKind ≡ told ws (judged (judge ws c) c next)
+  unfolding judgeKind refuseIf judged told
+  refuse-kind a = sym (judge-is ws k c next e ∙ simp a)
+
+  module _ (a : isOtherKind k ≡ false) where
+    pub refuse-slot : not (slotOk (c .slot)) ≡ true → checked.Bad refusal.BadSlot ≡ told ws (judged (judge ws c) c next)
+    unfolding judgeKind refuseIf judged told
+    refuse-slot b = sym (judge-is ws k c next e ∙ simp (a, b))
+
+    module _ (b : not (slotOk (c .slot)) ≡ false) where
+      pub refuse-block : blockMisfits k (c .block) ≡ true → checked.Bad refusal.BadBlock ≡ told ws (judged (judge ws c) c next)
+      unfolding judgeKind refuseIf judged told
+      refuse-block d = sym (judge-is ws k c next e ∙ simp (a, b, d))
+
+      module _ (d : blockMisfits k (c .block) ≡ false) where
+        pub refuse-signers : badSigners (length ws) k c ≡ true → checked.Bad refusal.BadSigners ≡ told ws (judged (judge ws c) c next)
+        unfolding judgeKind refuseIf judged told
+        refuse-signers f = sym (judge-is ws k c next e ∙ simp (a, b, d, f))
+
+        pub pass-all : badSigners (length ws) k c ≡ false → weighedIn ws k c next ≡ told ws (judged (judge ws c) c next)
+        unfolding judgeKind refuseIf weighedIn
+        pass-all f = sym (judge-is ws k c next e ∙ simp (a, b, d, f))
+
+-- ---- the whole answer, from what is told of the first certificate
+
+module _ (ws packet : List ℕ) (m : Made) (q : m ≡ madeOf ws) (f : m .fits ≡ true) (o : Checked)
+    (e : o ≡ told (stakesOf (m .table)) (oneAt (stakesOf (m .table)) packet 0)) where
+  first-told : told ws (oneAt ws packet 0) ≡ o
+  first-told = sym (e ∙ ap (λ (x : List ℕ). told x (oneAt x packet 0)) (made-stakes ws m q f))
+
+  pub single-answer : checkCertificate ws packet ≡ alone (length packet) o
+  unfolding checkCertificate
+  single-answer =
+      given-on (stakesFit ws (length ws)) (check.Refused refusal.BadSizes) (λ _. singleOf ws packet (oneAt ws packet 0)) (made-test ws m q ∙ f)
+      ∙ alone-is ws packet (oneAt ws packet 0)
+      ∙ ap (alone (length packet)) first-told
+
+  pub proof-answer : checkProof ws packet ≡ proven (stakesOf (m .table)) packet o
+  unfolding checkProof
+  proof-answer =
+      given-on (stakesFit ws (length ws)) (check.Refused refusal.BadSizes) (λ _. proofOf ws packet (oneAt ws packet 0)) (made-test ws m q ∙ f)
+      ∙ proven-is ws packet (oneAt ws packet 0)
+      ∙ ap₂ (λ (x : List ℕ) (y : Checked). proven x packet y) (sym (made-stakes ws m q f)) first-told

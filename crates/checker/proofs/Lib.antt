@@ -1,0 +1,2 @@
+-- Laws that the proofs of the checker cite.
+pub mod Laws

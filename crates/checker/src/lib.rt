@@ -1,0 +1,262 @@
+// The checker of certificates and finality proofs, on lent stakes and a lent packet.
+use rulebook::Accepted;
+use rulebook::Certificate;
+use rulebook::CertificateKind;
+use rulebook::CheckAnswer;
+use rulebook::Found;
+use rulebook::Refusal;
+use rulebook::Slot;
+use rulebook::Threshold;
+use stakes::StakeTable;
+ghost use mathlib.Core.Path.{_≡_};
+ghost use Prim.Native.Nat.{_≤_};
+ghost use Rattle.rulebook.specs.Weights.{slotOk, mostNodes};
+ghost use Rattle.rulebook.specs.PaperNumbers.{certificateKind};
+ghost use Rattle.rulebook.specs.Pool.{fifthsOf};
+ghost use Rattle.rulebook.specs.Checker.{isOtherKind, blockMisfits, withoutB, badSigners, judged, judge as Checker·judge, oneAt, checkCertificate, checkProof};
+ghost use Rattle.checker.specs.Told.{Sound, Heard, stakesOf, told, finished, isFinalKind, followed, continued, weighedIn};
+
+// One certificate of a packet: what is told of it with the place after it, or its refusal.
+pub enum Checked {
+    Good(Accepted, usize),
+    Bad(Refusal),
+}
+
+// The kind that a number stands for.
+fn kind_of(n: u64) -> CertificateKind
+    ensures { λ r. ⌜ r ≡ certificateKind n ⌝ }
+{
+    match n {
+        1 => CertificateKind::FastFinal,
+        2 => CertificateKind::Notar,
+        3 => CertificateKind::NotarFallback,
+        4 => CertificateKind::Skip,
+        5 => CertificateKind::Final,
+        _ => CertificateKind::Other,
+    }
+}
+
+// 4.
+fn is_other(k: CertificateKind) -> bool
+    ensures { λ r. ⌜ r ≡ isOtherKind k ⌝ }
+{
+    match k {
+        CertificateKind::FastFinal => false,
+        CertificateKind::Notar => false,
+        CertificateKind::NotarFallback => false,
+        CertificateKind::Skip => false,
+        CertificateKind::Final => false,
+        CertificateKind::Other => true,
+    }
+}
+
+// 3, from the other side.
+fn slot_ok(slot: u64) -> bool
+    ensures { λ r. ⌜ r ≡ slotOk slot ⌝ }
+{
+    (1 <= slot) & (slot <= 16)
+}
+
+// 5.
+fn block_misfits(k: CertificateKind, block: u64) -> bool
+    ensures { λ r. ⌜ r ≡ blockMisfits k block ⌝ }
+{
+    match k {
+        CertificateKind::FastFinal => block == 0,
+        CertificateKind::Notar => block == 0,
+        CertificateKind::NotarFallback => block == 0,
+        CertificateKind::Skip => block != 0,
+        CertificateKind::Final => block != 0,
+        CertificateKind::Other => false,
+    }
+}
+
+// Mask B must be 0.
+fn without_b(k: CertificateKind) -> bool
+    ensures { λ r. ⌜ r ≡ withoutB k ⌝ }
+{
+    match k {
+        CertificateKind::FastFinal => true,
+        CertificateKind::Notar => true,
+        CertificateKind::NotarFallback => false,
+        CertificateKind::Skip => false,
+        CertificateKind::Final => true,
+        CertificateKind::Other => true,
+    }
+}
+
+// 14: a signer beyond the table, in both masks, or mask B used where 0 is due.
+fn bad_signers(count: usize, k: CertificateKind, c: Certificate) -> bool
+    requires { ⌜ count ≤ mostNodes ⌝ }
+    ensures { λ r. ⌜ r ≡ badSigners count k c ⌝ }
+{
+    let past_a = stakes::beyond(c.maska, count);
+    let past_b = stakes::beyond(c.maskb, count);
+    let both = stakes::overlap(c.maska, c.maskb);
+    let no_b = without_b(k);
+    (past_a | past_b) | (both | (no_b & (c.maskb != 0)))
+}
+
+// How many fifths of the stake the kind needs.
+fn threshold_of(k: CertificateKind) -> Threshold
+    ensures { λ r. ⌜ r .0 ≡ fifthsOf k ⌝ }
+{
+    match k {
+        CertificateKind::FastFinal => Threshold::EIGHTY,
+        CertificateKind::Notar => Threshold::SIXTY,
+        CertificateKind::NotarFallback => Threshold::SIXTY,
+        CertificateKind::Skip => Threshold::SIXTY,
+        CertificateKind::Final => Threshold::SIXTY,
+        CertificateKind::Other => Threshold(5),
+    }
+}
+
+// 15, or what is told of the certificate: the signers are weighed once.
+fn weigh_in(t: StakeTable, k: CertificateKind, c: Certificate, next: usize) -> Checked
+    requires { ⌜ Heard t k c ⌝ }
+    ensures { λ r. ⌜ r ≡ weighedIn (stakesOf t) k c next ⌝ }
+{
+    let total = t.total;
+    let w = stakes::weigh(t, c.maska, c.maskb);
+    let weight = w.weight;
+    let needed = threshold_of(k);
+    if !needed.reached(weight, total) {
+        return Checked::Bad(Refusal::TooLight);
+    }
+    let slot = Slot(c.slot as usize);
+    Checked::Good(
+        Accepted {
+            kind: k,
+            slot,
+            block: c.block,
+            signers: w.signers,
+            weight,
+        },
+        next,
+    )
+}
+
+// 4, 3, 5, 14, 15, in this order, once the five numbers are read.
+fn judge(t: StakeTable, c: Certificate, next: usize) -> Checked
+    requires { ⌜ Sound t ⌝ }
+    ensures { λ r. ⌜ r ≡ told (stakesOf t) (judged (Checker·judge (stakesOf t) c) c next) ⌝ }
+{
+    let k = kind_of(c.kind);
+    if is_other(k) {
+        return Checked::Bad(Refusal::BadKind);
+    }
+    if !slot_ok(c.slot) {
+        return Checked::Bad(Refusal::BadSlot);
+    }
+    if block_misfits(k, c.block) {
+        return Checked::Bad(Refusal::BadBlock);
+    }
+    if bad_signers(t.count, k, c) {
+        return Checked::Bad(Refusal::BadSigners);
+    }
+    weigh_in(t, k, c, next)
+}
+
+// The certificate at a place of the packet, read and judged.
+fn one_at(t: StakeTable, packet: &[u8], at: usize) -> Checked
+    requires { ⌜ Sound t ⌝ }
+    ensures { λ r. ⌜ r ≡ told (stakesOf t) (oneAt (stakesOf t) (now (packet .entry)) at) ⌝ }
+{
+    let found = numbers::read_certificate(packet, at);
+    match found {
+        Found::Early => Checked::Bad(Refusal::BadLength),
+        Found::Malformed => Checked::Bad(Refusal::BadNumber),
+        Found::Whole(c, next) => judge(t, c, next),
+    }
+}
+
+// Leftover bytes last.
+fn finish(a: Accepted, next: usize, length: usize) -> CheckAnswer
+    ensures { λ r. ⌜ r ≡ finished a next length ⌝ }
+{
+    if next < length {
+        CheckAnswer::Refused(Refusal::BadLength)
+    } else {
+        CheckAnswer::Accepted(a)
+    }
+}
+
+// The kind that a second certificate must have.
+fn is_final(k: CertificateKind) -> bool
+    ensures { λ r. ⌜ r ≡ isFinalKind k ⌝ }
+{
+    match k {
+        CertificateKind::FastFinal => false,
+        CertificateKind::Notar => false,
+        CertificateKind::NotarFallback => false,
+        CertificateKind::Skip => false,
+        CertificateKind::Final => true,
+        CertificateKind::Other => false,
+    }
+}
+
+// What the second certificate makes of a proof whose first is told as a: 16 unless it is kind 5 of that slot.
+fn second(a: Accepted, other: Checked, length: usize) -> CheckAnswer
+    ensures { λ r. ⌜ r ≡ followed a length other ⌝ }
+{
+    match other {
+        Checked::Bad(r) => CheckAnswer::Refused(r),
+        Checked::Good(f, next) => {
+            let kind = f.kind;
+            let of_that_slot = f.slot.0 == a.slot.0;
+            if is_final(kind) & of_that_slot {
+                finish(a, next, length)
+            } else {
+                CheckAnswer::Refused(Refusal::NotAProof)
+            }
+        }
+    }
+}
+
+// What follows the first certificate of a proof, told as a: 16 unless its kind is 1 or 2.
+fn after_first(t: StakeTable, packet: &[u8], a: Accepted, next: usize) -> CheckAnswer
+    requires { ⌜ Sound t ⌝ }
+    ensures { λ r. ⌜ r ≡ continued (stakesOf t) (now (packet .entry)) (a .kind) a next ⌝ }
+{
+    let k = a.kind;
+    match k {
+        CertificateKind::FastFinal => finish(a, next, packet.len()),
+        CertificateKind::Notar => second(a, one_at(t, packet, next), packet.len()),
+        CertificateKind::NotarFallback => CheckAnswer::Refused(Refusal::NotAProof),
+        CertificateKind::Skip => CheckAnswer::Refused(Refusal::NotAProof),
+        CertificateKind::Final => CheckAnswer::Refused(Refusal::NotAProof),
+        CertificateKind::Other => CheckAnswer::Refused(Refusal::NotAProof),
+    }
+}
+
+// Checks a packet that is to be one certificate.
+pub fn check_certificate(stakes: &[u64], packet: &[u8]) -> CheckAnswer
+    ensures { λ r. ⌜ r ≡ checkCertificate (now (stakes .entry)) (now (packet .entry)) ⌝ }
+{
+    let made = stakes::make_table(stakes);
+    if !made.fits {
+        return CheckAnswer::Refused(Refusal::BadSizes);
+    }
+    let t = made.table;
+    let one = one_at(t, packet, 0);
+    match one {
+        Checked::Bad(r) => CheckAnswer::Refused(r),
+        Checked::Good(a, next) => finish(a, next, packet.len()),
+    }
+}
+
+// Checks a packet that is to be a finality proof: kind 1, or kind 2 and then kind 5 of the same slot.
+pub fn check_proof(stakes: &[u64], packet: &[u8]) -> CheckAnswer
+    ensures { λ r. ⌜ r ≡ checkProof (now (stakes .entry)) (now (packet .entry)) ⌝ }
+{
+    let made = stakes::make_table(stakes);
+    if !made.fits {
+        return CheckAnswer::Refused(Refusal::BadSizes);
+    }
+    let t = made.table;
+    let first = one_at(t, packet, 0);
+    match first {
+        Checked::Bad(r) => CheckAnswer::Refused(r),
+        Checked::Good(a, next) => after_first(t, packet, a, next),
+    }
+}
