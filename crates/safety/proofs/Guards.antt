@@ -1,20 +1,20 @@
 -- What the weights of rules D and E say of the initial votes that are not for a block.
-use mathlib.Core.Path.{_≡_, refl, sym, ap, _∙_, subst}
+use mathlib.Core.Path.{_≡_, sym, ap, _∙_}
 use mathlib.Core.Bool.{Bool, true, false, not, _&&_, _||_, cond}
 use mathlib.Core.List.{List, [], _∷_}
-use Prim.Native.Nat.{ℕ, zero, suc, _+_, _*_, _-_, _≤_, _<_, min, max}
+use Prim.Native.Nat.{ℕ, zero, suc, _+_, _-_, _≤_, _<_, min}
 use native.Mathlib.Omega.{arith}
 use native.Mathlib.Decide.{ℕ-discrete}
-use lib.Dec.{T, eqb, leb, eqb→eq, eqb-refl, leb→le, nleb→lt, T-not, not-T}
+use lib.Dec.{T, eqb, leb, eqb→eq, leb→le, nleb→lt, T-not, not-T}
 use Rattle.rulebook.specs.declared.Cell.{Cell}
 use Rattle.rulebook.specs.declared.Who.the-variants as who
 use Rattle.rulebook.specs.Tools.{given, anyOf, lower, lowest, largest}
 use Rattle.rulebook.specs.Weights.{weight, reaches}
 use Rattle.rulebook.specs.Ledger.{Ledger, none, noInitial, cellAt}
-use Rattle.rulebook.specs.Pool.{counts, weigh, weighs, named, namesTo, names}
+use Rattle.rulebook.specs.Pool.{counts, weigh, named, namesTo, names}
 use Rattle.rulebook.specs.Rules.{fallbackWeights, skipWeights}
 use Rattle.rulebook.proofs.ToolLaws.{given-keeps}
-use Rattle.safety.specs.Slot.{Ballot, notar, notarFallback, skip, skipFallback, final}
+use Rattle.safety.specs.Slot.{notar, skip}
 use Rattle.safety.specs.Ballots.{has}
 use Rattle.safety.specs.Moves.{notFor, Others, Certified}
 use Rattle.safety.proofs.Tests.{true-T, and-T, T-and, or-T, T-left, T-right, by-test}

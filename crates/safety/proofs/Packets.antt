@@ -1,11 +1,11 @@
 -- Demand 3 over the packets' bytes: what the checker's answers say of the certificates that it read.
 use mathlib.Core.Path.{_≡_, refl, sym, ap, _∙_, subst}
-use mathlib.Core.Bool.{Bool, true, false, not, _&&_, _||_}
+use mathlib.Core.Bool.{Bool, true, false}
 use mathlib.Core.List.{List, [], _∷_}
-use Prim.Native.Nat.{ℕ, _≤_, _<_}
+use Prim.Native.Nat.{ℕ, _≤_}
 use native.Mathlib.Omega.{arith}
-use lib.Dec.{T, eqb, ltb, eqb→eq}
-use lib.ListN.{length, drop, drop-of-length-le}
+use lib.Dec.{T, eqb, eqb→eq}
+use lib.ListN.{length, drop-of-length-le}
 use Rattle.rulebook.specs.declared.Input.{Input}
 use Rattle.rulebook.specs.declared.Slot.{Slot}
 use Rattle.rulebook.specs.declared.Certificate.{Certificate}
@@ -16,11 +16,9 @@ use Rattle.rulebook.specs.declared.CheckAnswer.{CheckAnswer}
 use Rattle.rulebook.specs.declared.CheckAnswer.the-variants as check
 use Rattle.rulebook.specs.declared.Found.{Found}
 use Rattle.rulebook.specs.declared.Found.the-variants as found
-use Rattle.rulebook.specs.declared.Refusal.the-variants as refusal
 use Rattle.rulebook.specs.declared.Verdict.{Verdict}
 use Rattle.rulebook.specs.declared.Verdict.the-variants.{Fine, Refused}
 use Rattle.rulebook.specs.Tools.{given, choose}
-use Rattle.rulebook.specs.Weights.{stakesFit}
 use Rattle.rulebook.specs.PaperNumbers.{certificateKind}
 use Rattle.rulebook.specs.Packets.{numberFrom, placed, numberAt, andThen, certificateAt}
 use Rattle.rulebook.specs.Checker.{judge, acceptedOf, One, good, bad, judged, oneOf, oneAt, ended, singleOf, checkCertificate, secondOf, firstIn, proofOf, checkProof}

@@ -1,22 +1,14 @@
 -- The promises of demand 3, proved.
-use mathlib.Core.Path.{_≡_, refl, sym, _∙_}
-use mathlib.Core.Bool.{Bool}
 use mathlib.Core.List.{List}
 use Prim.Native.Nat.{ℕ, _<_}
 use native.Mathlib.Omega.{arith}
-use lib.Dec.{T}
-use Rattle.rulebook.specs.declared.Input.{Input}
-use Rattle.rulebook.specs.declared.Verdict.the-variants.{Fine}
 use Rattle.rulebook.specs.Weights.{mostNodes}
-use Rattle.rulebook.specs.Ledger.{Ledger, fresh, cellAt}
-use Rattle.rulebook.specs.Inputs.{startVerdict, feed}
-use Rattle.safety.specs.Slot.{Test, Ballot}
+use Rattle.rulebook.specs.Ledger.{fresh, cellAt}
 use Rattle.safety.specs.Ballots.{has}
-use Rattle.safety.specs.Moves.{Stepped}
-use Rattle.safety.specs.Ring.{afterAll, broughtBy, life, castBy, Ring, FedRing}
+use Rattle.safety.specs.Ring.{afterAll, broughtBy}
 use Rattle.safety.specs.Promises.{CertificatesSafe, PacketsSafe, ProofsAgree, MailIsEnough, RulesMeetInterface}
 use Rattle.safety.proofs.Tests.{or-T}
-use Rattle.safety.proofs.Steps.{Ready, feed-stepped}
+use Rattle.safety.proofs.Steps.{feed-stepped}
 use Rattle.safety.proofs.Lives.{life-ready, life-brought, fresh-has, Sized, start-sized, fresh-ready}
 use Rattle.safety.proofs.Safety as certificates
 use Rattle.safety.proofs.Packets as packets

@@ -1,11 +1,11 @@
 -- The written rules meet the interface: every rule, every input and every step is a chain of moves.
 use mathlib.Core.Path.{_≡_, refl, sym, ap, _∙_, subst}
 use mathlib.Core.Bool.{Bool, true, false, not, _&&_, _||_}
-use mathlib.Core.List.{List, [], _∷_, reverse}
-use Prim.Native.Nat.{ℕ, zero, suc, _+_, _*_, _-_, _/_, _≤_, _<_}
+use mathlib.Core.List.{List, [], _∷_}
+use Prim.Native.Nat.{ℕ, zero, suc, _+_, _≤_, _<_}
 use native.Mathlib.Omega.{arith}
 use lib.ListN.{length}
-use lib.Dec.{T, eqb, leb, ltb, eqb→eq, eqb-refl, leb→le, nleb→lt, T-not, not-T}
+use lib.Dec.{T, eqb, leb, ltb, eqb→eq, eqb-refl, leb→le, nleb→lt, T-not}
 use Rattle.rulebook.specs.declared.Cell.{Cell}
 use Rattle.rulebook.specs.declared.Block.{Block}
 use Rattle.rulebook.specs.declared.Vote.{Vote}
@@ -13,28 +13,25 @@ use Rattle.rulebook.specs.declared.VoteKind.{VoteKind}
 use Rattle.rulebook.specs.declared.VoteKind.the-variants as vote
 use Rattle.rulebook.specs.declared.Input.{Input}
 use Rattle.rulebook.specs.declared.Input.the-variants as input
-use Rattle.rulebook.specs.declared.Place.{Place}
-use Rattle.rulebook.specs.declared.Place.the-variants.{Free, Same, Taken}
 use Rattle.rulebook.specs.declared.Refusal.{Refusal}
 use Rattle.rulebook.specs.declared.Verdict.{Verdict}
 use Rattle.rulebook.specs.declared.Verdict.the-variants.{Fine, Refused}
-use Rattle.rulebook.specs.declared.CertificateKind.the-variants as certificate
 use Rattle.rulebook.specs.PaperNumbers.{voteNumber}
-use Rattle.rulebook.specs.Weights.{slotOk, firstOf, windowOf, mostNodes, reaches, lastSlot}
-use Rattle.rulebook.specs.Ledger.{Ledger, Row, none, noInitial, ownCell, rowAt, cellAt, putRow, putArmed, putFinal, putKept, putTimedOut}
+use Rattle.rulebook.specs.Weights.{slotOk, firstOf, windowOf, mostNodes, lastSlot}
+use Rattle.rulebook.specs.Ledger.{Ledger, Row, none, noInitial, ownCell, rowAt, cellAt, putRow, putArmed}
 use Rattle.rulebook.specs.Pool.{hasFallback, counts, weigh, weighs, signersOf, fifthsOf, held, names}
 use Rattle.rulebook.specs.Votes.{placeIf, placeOf, storeVote}
-use Rattle.rulebook.specs.Rules.{Record, State, stateOf, recordOf, report, cast, castSkip, castSkips, windowOpen, ruleA, ruleB, mayFinal, ruleC, fallbackWeights, mayFallback, fallsBack, fallbackBlock, castFallback, ruleD, skipWeights, maySkipFallback, castSkipFallback, ruleE, ruleF}
-use Rattle.rulebook.specs.Run.{mostRecords, ruleAt, quiet, firstRule, firstSlot, scan, runFor, run}
+use Rattle.rulebook.specs.Rules.{Record, State, stateOf, recordOf, report, cast, castSkip, castSkips, ruleA, ruleB, mayFinal, ruleC, fallbackWeights, mayFallback, fallsBack, fallbackBlock, castFallback, ruleD, maySkipFallback, castSkipFallback, ruleE, ruleF}
+use Rattle.rulebook.specs.Run.{mostRecords, ruleAt, firstRule, firstSlot, scan, runFor, run}
 use Rattle.rulebook.specs.Inputs.{refuseIf, isOther, misfits, placeVerdict, voteVerdict, blockVerdict, timeoutVerdict, verdict, timeOut, intake, fedWith, refusedWith, fedOn, feed}
 use Rattle.rulebook.specs.WellFormed.{Shaped}
 use Rattle.safety.specs.Slot.{Ballot, notar, notarFallback, skip, skipFallback, final, fallbackFifths, skipFallbackFifths}
-use Rattle.safety.specs.Ballots.{has, kindOf, blockOf, recordFor, sameRecord, among, brings}
-use Rattle.safety.specs.Moves.{roomFor, Others, Certified, Allowed, anyNotar, anySkip, toFinal, toFallback, toSkipFallback, SameTable, Stored, Move, casts, takes, keeps, Moves, stay, more, Stepped}
-use Rattle.safety.proofs.Tests.{and-T, T-and, or-T, T-left, T-right, by-test, not-not, false-not}
+use Rattle.safety.specs.Ballots.{kindOf, blockOf, recordFor, sameRecord, among, brings}
+use Rattle.safety.specs.Moves.{roomFor, Others, Allowed, anyNotar, anySkip, toFinal, toFallback, toSkipFallback, SameTable, Move, casts, takes, keeps, Moves, stay, more, Stepped}
+use Rattle.safety.proofs.Tests.{and-T, T-and, not-not}
 use Rattle.safety.proofs.Weighing.{reaches-less}
 use Rattle.safety.proofs.Cells.{is-notar}
-use Rattle.safety.proofs.Along.{Inv, same-refl, table-same, moves-went, move-inv, moves-grow, others-grow}
+use Rattle.safety.proofs.Along.{Inv, same-refl, move-inv, moves-grow, others-grow}
 use Rattle.safety.proofs.Guards.{given-by, given-T, lowest-passes, fallback-others, skip-others, held-certified}
 use Rattle.safety.proofs.Stores.{row-shaped, row-cells, armed-shaped, store-shaped, store-stored}
 

@@ -1,11 +1,9 @@
 -- Demand 3: the promises, each as a statement that proofs/ proves under the same name in small letters.
 use mathlib.Core.Path.{_≡_}
-use mathlib.Core.Bool.{Bool, not}
 use mathlib.Core.List.{List, _++_}
 use Prim.Native.Nat.{ℕ, _<_, _^_}
 use lib.Dec.{T}
 use Rattle.rulebook.specs.declared.Input.{Input}
-use Rattle.rulebook.specs.declared.Slot.{Slot}
 use Rattle.rulebook.specs.declared.Certificate.{Certificate}
 use Rattle.rulebook.specs.declared.CertificateKind.{CertificateKind}
 use Rattle.rulebook.specs.declared.Accepted.{Accepted}
@@ -14,7 +12,7 @@ use Rattle.rulebook.specs.declared.CheckAnswer.the-variants as check
 use Rattle.rulebook.specs.declared.Verdict.the-variants.{Fine}
 use Rattle.rulebook.specs.declared.WriteAnswer.the-variants as write
 use Rattle.rulebook.specs.PaperNumbers.{certificateKind}
-use Rattle.rulebook.specs.Ledger.{Ledger, fresh}
+use Rattle.rulebook.specs.Ledger.{fresh}
 use Rattle.rulebook.specs.Inputs.{startVerdict, feed}
 use Rattle.rulebook.specs.Checker.{judge, checkCertificate, checkProof}
 use Rattle.rulebook.specs.Writers.{writeCertificate, writeProof}
