@@ -1,0 +1,71 @@
+-- Each kind asks for its vote in the cell.
+use Prim.Native.Nat.{_-_}
+use Rattle.rulebook.specs.Writers.{inA}
+use borrow.Author.Needs.{needs}
+use Rattle.writers.proofs.in_a.Statement.{statement}
+use Rattle.writers.proofs.in_a.Tie as tie
+
+enum-told : tie.Need-enum-told
+enum-told c = search needs
+
+enum-told-2 : tie.Need-enum-told-2
+enum-told-2 c = search needs
+
+enum-told-3 : tie.Need-enum-told-3
+enum-told-3 c = search needs
+
+enum-told-4 : tie.Need-enum-told-4
+enum-told-4 c = search needs
+
+enum-told-5 : tie.Need-enum-told-5
+enum-told-5 c = search needs
+
+enum-told-6 : tie.Need-enum-told-6
+enum-told-6 c = search needs
+
+returns : tie.Need-returns
+unfolding inA
+returns c =
+    simp (c .before .enum-told .given .1)
+
+returns-2 : tie.Need-returns-2
+unfolding inA
+returns-2 c =
+    simp (c .before .enum-told2 .given .1)
+
+returns-3 : tie.Need-returns-3
+unfolding inA
+returns-3 c =
+    simp (c .before .enum-told3 .given .1)
+
+returns-4 : tie.Need-returns-4
+unfolding inA
+returns-4 c =
+    simp (c .before .enum-told4 .given .1)
+
+returns-5 : tie.Need-returns-5
+unfolding inA
+returns-5 c =
+    simp (c .before .enum-told5 .given .1)
+
+returns-6 : tie.Need-returns-6
+unfolding inA
+returns-6 c =
+    simp (c .enum-told6 .given .1)
+
+pub in-a-spec : {M : Type 1} → statement M
+in-a-spec =
+    tie.close
+    (tie.spec
+    enum-told
+    enum-told-2
+    enum-told-3
+    enum-told-4
+    enum-told-5
+    enum-told-6
+    returns
+    returns-2
+    returns-3
+    returns-4
+    returns-5
+    returns-6)
