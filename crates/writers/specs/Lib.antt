@@ -1,2 +1,3 @@
 -- What the contracts of the writers cite beside the rule book.
 pub mod Masks
+pub mod Writing

@@ -1,4 +1,5 @@
 // The certificate writer and the proof writer: the stored signers as masks, and their packets in lent bytes.
+use pool::held;
 use record::count;
 use record::has_fallback;
 use record::load_cell;
@@ -6,15 +7,30 @@ use rulebook::Cell;
 use rulebook::Certificate;
 use rulebook::CertificateKind;
 use rulebook::Node;
+use rulebook::Refusal;
 use rulebook::Slot;
+use rulebook::Verdict;
+use rulebook::WriteAnswer;
+use soundness::sound;
+use soundness::table;
+use stakes::StakeTable;
 use stakes::with_bit;
 ghost use mathlib.Core.Path.{_≡_};
+ghost use mathlib.Core.Bool.{true};
+ghost use lib.ListN.{length};
 ghost use Rattle.rulebook.specs.Ledger.{cellAt};
+ghost use Rattle.rulebook.specs.Weights.{slotOk};
 ghost use Rattle.rulebook.specs.Packets.{maskOf};
 ghost use Rattle.rulebook.specs.PaperNumbers.{certificateNumber};
-ghost use Rattle.rulebook.specs.Writers.{inA, inB, certificateFor};
+ghost use Rattle.rulebook.specs.Rules.{isFinal};
+ghost use Rattle.rulebook.specs.Checker.{isOtherKind, blockMisfits};
+ghost use Rattle.rulebook.specs.Writers.{inA, inB, certificateFor, certificateVerdict, proofVerdict, proofBytes};
 ghost use Rattle.record.specs.Layout.{ledgerOf};
+ghost use Rattle.soundness.specs.Sound.{soundWords};
+ghost use Rattle.numbers.specs.Written.{Written};
+ghost use Rattle.pool.specs.Weighing.{Weighing};
 ghost use Rattle.writers.specs.Masks.{inMask, Signing, Naming};
+ghost use Rattle.writers.specs.Writing.{certificateOn, proofOn, Writes, Laying};
 
 // The two masks of a certificate.
 pub enum Mask {
@@ -101,5 +117,149 @@ pub fn certificate_for(rec: &[u64], kind: CertificateKind, s: Slot, b: u64) -> C
         block: b,
         maska: signers_in(rec, nodes, Mask::A, kind, s, b),
         maskb: signers_in(rec, nodes, Mask::B, kind, s, b),
+    }
+}
+
+// 4.
+fn is_other(kind: CertificateKind) -> bool
+    ensures { λ r. ⌜ r ≡ isOtherKind kind ⌝ }
+{
+    match kind {
+        CertificateKind::FastFinal => false,
+        CertificateKind::Notar => false,
+        CertificateKind::NotarFallback => false,
+        CertificateKind::Skip => false,
+        CertificateKind::Final => false,
+        CertificateKind::Other => true,
+    }
+}
+
+// 3, from the other side.
+fn slot_ok(s: Slot) -> bool
+    ensures { λ r. ⌜ r ≡ slotOk (s .0) ⌝ }
+{
+    (1 <= s.0) & (s.0 <= 16)
+}
+
+// 5.
+fn block_misfits(kind: CertificateKind, b: u64) -> bool
+    ensures { λ r. ⌜ r ≡ blockMisfits kind b ⌝ }
+{
+    match kind {
+        CertificateKind::FastFinal => b == 0,
+        CertificateKind::Notar => b == 0,
+        CertificateKind::NotarFallback => b == 0,
+        CertificateKind::Skip => b != 0,
+        CertificateKind::Final => b != 0,
+        CertificateKind::Other => false,
+    }
+}
+
+// 9, 4, 3, 5, 18, in this order, for a certificate.
+fn judge_certificate(rec: &[u64], room: usize, kind: CertificateKind, s: Slot, b: u64) -> Verdict
+    requires { ⌜ soundWords (now rec) ≡ true ⌝ }
+    ensures { λ r. ⌜ r ≡ certificateVerdict (ledgerOf (now (rec .entry))) room kind (s .0) b ⌝ }
+{
+    if room < 32 {
+        return Verdict::Refused(Refusal::NoRoom);
+    }
+    if is_other(kind) {
+        return Verdict::Refused(Refusal::BadKind);
+    }
+    if !slot_ok(s) {
+        return Verdict::Refused(Refusal::BadSlot);
+    }
+    if block_misfits(kind, b) {
+        return Verdict::Refused(Refusal::BadBlock);
+    }
+    let t = table(rec);
+    if !held(rec, t, kind, s, b) {
+        return Verdict::Refused(Refusal::NotHeld);
+    }
+    Verdict::Fine
+}
+
+// Whether a block has a finality proof: kind 1, or kinds 2 and 5.
+fn proof_held(rec: &[u64], t: StakeTable, s: Slot, b: u64) -> bool
+    requires { ⌜ Weighing (now rec) t (s .0) ⌝ }
+    ensures { λ r. ⌜ r ≡ isFinal (ledgerOf (now (rec .entry))) (s .0) b ⌝ }
+{
+    let fast = held(rec, t, CertificateKind::FastFinal, s, b);
+    let notar = held(rec, t, CertificateKind::Notar, s, b);
+    let last = held(rec, t, CertificateKind::Final, s, 0);
+    fast | (notar & last)
+}
+
+// 9, 3, 5, 18, in this order, for a proof.
+fn judge_proof(rec: &[u64], room: usize, s: Slot, b: u64) -> Verdict
+    requires { ⌜ soundWords (now rec) ≡ true ⌝ }
+    ensures { λ r. ⌜ r ≡ proofVerdict (ledgerOf (now (rec .entry))) room (s .0) b ⌝ }
+{
+    if room < 64 {
+        return Verdict::Refused(Refusal::NoRoom);
+    }
+    if !slot_ok(s) {
+        return Verdict::Refused(Refusal::BadSlot);
+    }
+    if b == 0 {
+        return Verdict::Refused(Refusal::BadBlock);
+    }
+    let t = table(rec);
+    if !proof_held(rec, t, s, b) {
+        return Verdict::Refused(Refusal::NotHeld);
+    }
+    Verdict::Fine
+}
+
+// Writes a proof from the buffer's front: kind 1 where it is held, else kind 2 and then kind 5.
+fn lay_proof(rec: &[u64], buffer: &mut [u8], s: Slot, b: u64) -> usize
+    requires { ⌜ Laying (now rec) (now buffer) (s .0) ⌝ }
+    ensures { λ r. ⌜ Written (now (buffer .entry)) 0 (proofBytes (ledgerOf (now (rec .entry))) (s .0) b) (now (buffer .exit)) r ⌝ }
+{
+    let t = table(rec);
+    if held(rec, t, CertificateKind::FastFinal, s, b) {
+        let fast = certificate_for(rec, CertificateKind::FastFinal, s, b);
+        return numbers::write_certificate(buffer, 0, fast);
+    }
+    let notar = certificate_for(rec, CertificateKind::Notar, s, b);
+    let last = certificate_for(rec, CertificateKind::Final, s, 0);
+    let next = numbers::write_certificate(buffer, 0, notar);
+    numbers::write_certificate(buffer, next, last)
+}
+
+// Writes the certificate of a kind for a slot and a block, where it is held.
+pub fn write_certificate(
+    rec: &[u64],
+    buffer: &mut [u8],
+    kind: CertificateKind,
+    slot: Slot,
+    block: u64,
+) -> WriteAnswer
+    ensures { λ r. ⌜ Writes (certificateOn (now (rec .entry)) (length (now (buffer .entry))) kind (slot .0) block) (now (buffer .entry)) r (now (buffer .exit)) ⌝ }
+{
+    if !sound(rec) {
+        return WriteAnswer::Refused(Refusal::BadRecord);
+    }
+    let v = judge_certificate(rec, buffer.len(), kind, slot, block);
+    match v {
+        Verdict::Refused(r) => WriteAnswer::Refused(r),
+        Verdict::Fine => {
+            let c = certificate_for(rec, kind, slot, block);
+            WriteAnswer::Written(numbers::write_certificate(buffer, 0, c))
+        }
+    }
+}
+
+// Writes the finality proof of a block in a slot, where it is held.
+pub fn write_proof(rec: &[u64], buffer: &mut [u8], slot: Slot, block: u64) -> WriteAnswer
+    ensures { λ r. ⌜ Writes (proofOn (now (rec .entry)) (length (now (buffer .entry))) (slot .0) block) (now (buffer .entry)) r (now (buffer .exit)) ⌝ }
+{
+    if !sound(rec) {
+        return WriteAnswer::Refused(Refusal::BadRecord);
+    }
+    let v = judge_proof(rec, buffer.len(), slot, block);
+    match v {
+        Verdict::Refused(r) => WriteAnswer::Refused(r),
+        Verdict::Fine => WriteAnswer::Written(lay_proof(rec, buffer, slot, block)),
     }
 }

@@ -1,0 +1,130 @@
+-- Each way out of the two chains of refusals, and what nothing refused means. Assumes nothing.
+use mathlib.Core.Path.{_≡_, refl, sym, ap, _∙_}
+use mathlib.Core.Bool.{Bool, true, false, not}
+use Prim.Native.Nat.{ℕ, suc, _≤_, _<_}
+use native.Mathlib.Omega.{arith}
+use lib.Dec.{leb, ltb, eqb}
+use borrow.Author.Tests.{lt-ltb, le-ltb, leb-true, ltb-false, eq-eqb, ne-eqb, not-true, not-false}
+use Rattle.rulebook.specs.declared.CertificateKind.{CertificateKind}
+use Rattle.rulebook.specs.declared.Refusal.{Refusal}
+use Rattle.rulebook.specs.declared.Refusal.the-variants as refusal
+use Rattle.rulebook.specs.declared.Verdict.{Verdict}
+use Rattle.rulebook.specs.declared.Verdict.the-variants.{Fine, Refused}
+use Rattle.rulebook.specs.Weights.{lastSlot, slotOk}
+use Rattle.rulebook.specs.Ledger.{Ledger, none}
+use Rattle.rulebook.specs.Pool.{held}
+use Rattle.rulebook.specs.Rules.{isFinal}
+use Rattle.rulebook.specs.Inputs.{refuseIf}
+use Rattle.rulebook.specs.Checker.{isOtherKind, blockMisfits}
+use Rattle.rulebook.specs.Writers.{certificateVerdict, proofVerdict}
+use Rattle.rulebook.proofs.ToolLaws.{and-both}
+
+-- ---- the chains, exit by exit
+
+module _ (l : Ledger) (room : ℕ) (k : CertificateKind) (s b : ℕ) where
+  pub certificate-room : room < 32 → Refused refusal.NoRoom ≡ certificateVerdict l room k s b
+  unfolding certificateVerdict refuseIf
+  certificate-room h = simp (lt-ltb room 32 h)
+
+  pub certificate-kind : 32 ≤ room → isOtherKind k ≡ true → Refused refusal.BadKind ≡ certificateVerdict l room k s b
+  unfolding certificateVerdict refuseIf
+  certificate-kind h e = simp (le-ltb room 32 h, e)
+
+  pub certificate-slot : 32 ≤ room → isOtherKind k ≡ false → slotOk s ≡ false → Refused refusal.BadSlot ≡ certificateVerdict l room k s b
+  unfolding certificateVerdict refuseIf
+  certificate-slot h e f = simp (le-ltb room 32 h, e, f)
+
+  pub certificate-block : 32 ≤ room → isOtherKind k ≡ false → slotOk s ≡ true → blockMisfits k b ≡ true
+      → Refused refusal.BadBlock ≡ certificateVerdict l room k s b
+  unfolding certificateVerdict refuseIf
+  certificate-block h e f g = simp (le-ltb room 32 h, e, f, g)
+
+  pub certificate-held : 32 ≤ room → isOtherKind k ≡ false → slotOk s ≡ true → blockMisfits k b ≡ false → held l k s b ≡ false
+      → Refused refusal.NotHeld ≡ certificateVerdict l room k s b
+  unfolding certificateVerdict refuseIf
+  certificate-held h e f g i = simp (le-ltb room 32 h, e, f, g, i)
+
+  pub certificate-passed : 32 ≤ room → isOtherKind k ≡ false → slotOk s ≡ true → blockMisfits k b ≡ false → held l k s b ≡ true
+      → Fine ≡ certificateVerdict l room k s b
+  unfolding certificateVerdict refuseIf
+  certificate-passed h e f g i = simp (le-ltb room 32 h, e, f, g, i)
+
+module _ (l : Ledger) (room s b : ℕ) where
+  pub proof-room : room < 64 → Refused refusal.NoRoom ≡ proofVerdict l room s b
+  unfolding proofVerdict refuseIf
+  proof-room h = simp (lt-ltb room 64 h)
+
+  pub proof-slot : 64 ≤ room → slotOk s ≡ false → Refused refusal.BadSlot ≡ proofVerdict l room s b
+  unfolding proofVerdict refuseIf
+  proof-slot h e = simp (le-ltb room 64 h, e)
+
+  pub proof-block : 64 ≤ room → slotOk s ≡ true → b ≡ 0 → Refused refusal.BadBlock ≡ proofVerdict l room s b
+  unfolding proofVerdict refuseIf
+  proof-block h e f = simp (le-ltb room 64 h, e, eq-eqb b 0 f)
+
+  pub proof-final : 64 ≤ room → slotOk s ≡ true → (b ≡ 0 → ⊥) → isFinal l s b ≡ false → Refused refusal.NotHeld ≡ proofVerdict l room s b
+  unfolding proofVerdict refuseIf
+  proof-final h e f g = simp (le-ltb room 64 h, e, ne-eqb b 0 f, g)
+
+  pub proof-passed : 64 ≤ room → slotOk s ≡ true → (b ≡ 0 → ⊥) → isFinal l s b ≡ true → Fine ≡ proofVerdict l room s b
+  unfolding proofVerdict refuseIf
+  proof-passed h e f g = simp (le-ltb room 64 h, e, ne-eqb b 0 f, g)
+
+-- ---- nothing refused
+
+-- A refusal that was not given.
+pub not-refused : (t : Bool) (r : Refusal) (v : Verdict) → refuseIf t r v ≡ Fine → (t ≡ false) × (v ≡ Fine)
+unfolding refuseIf
+not-refused true r v e = let z : _≡_ {A = ℕ} 0 1 = cc in absurd (omega arith)
+not-refused false r v e = (refl, e)
+
+-- What a certificate that is written has passed.
+pub record CertificateFine (l : Ledger) (free : ℕ) (k : CertificateKind) (s b : ℕ) : Type 0 where
+  pub room : 32 ≤ free
+  pub kind : isOtherKind k ≡ false
+  pub slot : slotOk s ≡ true
+  pub block : blockMisfits k b ≡ false
+  pub there : held l k s b ≡ true
+
+pub certificate-fine : (l : Ledger) (room : ℕ) (k : CertificateKind) (s b : ℕ) → certificateVerdict l room k s b ≡ Fine
+    → CertificateFine l room k s b
+unfolding certificateVerdict
+certificate-fine l room k s b e =
+    let p = not-refused _ _ _ e in
+    let q = not-refused _ _ _ (p .1) in
+    let r = not-refused _ _ _ (q .1) in
+    let t = not-refused _ _ _ (r .1) in
+    let u = not-refused _ _ _ (t .1) in
+    record {
+      room = ltb-false room 32 (p .0);
+      kind = q .0;
+      slot = not-false (slotOk s) (r .0);
+      block = t .0;
+      there = not-false (held l k s b) (u .0);
+    }
+
+-- What a proof that is written has passed.
+pub record ProofFine (l : Ledger) (free s b : ℕ) : Type 0 where
+  pub room : 64 ≤ free
+  pub slot : slotOk s ≡ true
+  pub block : none b ≡ false
+  pub final : isFinal l s b ≡ true
+
+pub proof-fine : (l : Ledger) (room s b : ℕ) → proofVerdict l room s b ≡ Fine → ProofFine l room s b
+unfolding proofVerdict
+proof-fine l room s b e =
+    let p = not-refused _ _ _ e in
+    let q = not-refused _ _ _ (p .1) in
+    let r = not-refused _ _ _ (q .1) in
+    let t = not-refused _ _ _ (r .1) in
+    record {
+      room = ltb-false room 64 (p .0);
+      slot = not-false (slotOk s) (q .0);
+      block = r .0;
+      final = not-false (isFinal l s b) (t .0);
+    }
+
+-- One of the slots 1 to 16.
+pub slot-row : (s : ℕ) → slotOk s ≡ true → s < suc lastSlot
+unfolding slotOk
+slot-row s e = omega (arith, leb-true s 16 (and-both (leb 1 s) (leb s 16) e .1))

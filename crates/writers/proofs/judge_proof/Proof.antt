@@ -1,0 +1,54 @@
+-- The refusals in their order, each by the tests before it.
+use mathlib.Core.Path.{sym, _∙_}
+use native.Mathlib.Omega.{arith}
+use borrow.Author.Tests.{not-true, not-false}
+use Rattle.record.specs.Layout.{ledgerOf}
+use Rattle.writers.proofs.Verdicts.{proof-room, proof-slot, proof-block, proof-final, proof-passed, slot-row}
+use Rattle.writers.proofs.Laid.{weighing}
+use borrow.Author.Needs.{needs}
+use Rattle.writers.proofs.judge_proof.Statement.{statement}
+use Rattle.writers.proofs.judge_proof.Tie as tie
+
+returns : tie.Need-returns
+returns c =
+    proof-room (ledgerOf (c .before .before .args .rec .now)) (c .before .before .args .room) (c .before .before .args .s .0) (c .before .before .args .b) (omega arith)
+
+slot-ok-requires : tie.Need-slot-ok-requires
+slot-ok-requires c κs = search needs
+
+returns-2 : tie.Need-returns-2
+returns-2 c =
+    proof-slot (ledgerOf (c .before .before .before .before .args .rec .now)) (c .before .before .before .before .args .room) (c .before .before .before .before .args .s .0) (c .before .before .before .before .args .b) (omega arith) (sym (c .before .slot-ok .ensures) ∙ not-true _ (c .if2 .taken))
+
+returns-3 : tie.Need-returns-3
+returns-3 c =
+    proof-block (ledgerOf (c .before .before .before .before .before .args .rec .now)) (c .before .before .before .before .before .args .room) (c .before .before .before .before .before .args .s .0) (c .before .before .before .before .before .args .b) (omega arith) (sym (c .before .before .slot-ok .ensures) ∙ not-false _ (c .before .if2 .left)) (c .if3 .taken)
+
+table-requires : tie.Need-table-requires
+table-requires c κs = search needs
+
+proof-held-requires : tie.Need-proof-held-requires
+proof-held-requires c κs =
+    weighing (c .before .before .before .before .before .before .args .rec .now) (c .table .result) (c .before .before .before .before .before .before .args .s .0) (c .before .before .before .before .before .before .pre) (c .table .ensures)
+    (slot-row (c .before .before .before .before .before .before .args .s .0) (sym (c .before .before .before .slot-ok .ensures) ∙ not-false _ (c .before .before .if2 .left)))
+
+returns-4 : tie.Need-returns-4
+returns-4 c =
+    proof-final (ledgerOf (c .before .before .before .before .before .before .before .before .args .rec .now)) (c .before .before .before .before .before .before .before .before .args .room) (c .before .before .before .before .before .before .before .before .args .s .0) (c .before .before .before .before .before .before .before .before .args .b) (omega arith) (sym (c .before .before .before .before .before .slot-ok .ensures) ∙ not-false _ (c .before .before .before .before .if2 .left)) (c .before .before .before .if3 .left) (sym (c .before .proof-held .ensures) ∙ not-true _ (c .if4 .taken))
+
+returns-5 : tie.Need-returns-5
+returns-5 c =
+    proof-passed (ledgerOf (c .before .before .before .before .before .before .before .before .args .rec .now)) (c .before .before .before .before .before .before .before .before .args .room) (c .before .before .before .before .before .before .before .before .args .s .0) (c .before .before .before .before .before .before .before .before .args .b) (omega arith) (sym (c .before .before .before .before .before .slot-ok .ensures) ∙ not-false _ (c .before .before .before .before .if2 .left)) (c .before .before .before .if3 .left) (sym (c .before .proof-held .ensures) ∙ not-false _ (c .if4 .left))
+
+pub judge-proof-spec : {M : Type 1} → statement M
+judge-proof-spec =
+    tie.close
+    (tie.spec
+    returns
+    slot-ok-requires
+    returns-2
+    returns-3
+    table-requires
+    proof-held-requires
+    returns-4
+    returns-5)
