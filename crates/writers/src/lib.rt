@@ -1,4 +1,5 @@
 // The certificate writer and the proof writer: the stored signers as masks, and their packets in lent bytes.
+use candidates::is_final;
 use pool::held;
 use record::count;
 use record::has_fallback;
@@ -22,13 +23,11 @@ ghost use Rattle.rulebook.specs.Ledger.{cellAt};
 ghost use Rattle.rulebook.specs.Weights.{slotOk};
 ghost use Rattle.rulebook.specs.Packets.{maskOf};
 ghost use Rattle.rulebook.specs.PaperNumbers.{certificateNumber};
-ghost use Rattle.rulebook.specs.Rules.{isFinal};
 ghost use Rattle.rulebook.specs.Checker.{isOtherKind, blockMisfits};
 ghost use Rattle.rulebook.specs.Writers.{inA, inB, certificateFor, certificateVerdict, proofVerdict, proofBytes};
 ghost use Rattle.record.specs.Layout.{ledgerOf};
 ghost use Rattle.soundness.specs.Sound.{soundWords};
 ghost use Rattle.numbers.specs.Written.{Written};
-ghost use Rattle.pool.specs.Weighing.{Weighing};
 ghost use Rattle.writers.specs.Masks.{inMask, Signing, Naming};
 ghost use Rattle.writers.specs.Writing.{certificateOn, proofOn, Writes, Laying};
 
@@ -179,17 +178,6 @@ fn judge_certificate(rec: &[u64], room: usize, kind: CertificateKind, s: Slot, b
     Verdict::Fine
 }
 
-// Whether a block has a finality proof: kind 1, or kinds 2 and 5.
-fn proof_held(rec: &[u64], t: StakeTable, s: Slot, b: u64) -> bool
-    requires { ⌜ Weighing (now rec) t (s .0) ⌝ }
-    ensures { λ r. ⌜ r ≡ isFinal (ledgerOf (now (rec .entry))) (s .0) b ⌝ }
-{
-    let fast = held(rec, t, CertificateKind::FastFinal, s, b);
-    let notar = held(rec, t, CertificateKind::Notar, s, b);
-    let last = held(rec, t, CertificateKind::Final, s, 0);
-    fast | (notar & last)
-}
-
 // 9, 3, 5, 18, in this order, for a proof.
 fn judge_proof(rec: &[u64], room: usize, s: Slot, b: u64) -> Verdict
     requires { ⌜ soundWords (now rec) ≡ true ⌝ }
@@ -205,7 +193,7 @@ fn judge_proof(rec: &[u64], room: usize, s: Slot, b: u64) -> Verdict
         return Verdict::Refused(Refusal::BadBlock);
     }
     let t = table(rec);
-    if !proof_held(rec, t, s, b) {
+    if !is_final(rec, t, s, b) {
         return Verdict::Refused(Refusal::NotHeld);
     }
     Verdict::Fine

@@ -27,18 +27,18 @@ returns-3 c =
 table-requires : tie.Need-table-requires
 table-requires c κs = search needs
 
-proof-held-requires : tie.Need-proof-held-requires
-proof-held-requires c κs =
+is-final-requires : tie.Need-is-final-requires
+is-final-requires c κs =
     weighing (c .before .before .before .before .before .before .args .rec .now) (c .table .result) (c .before .before .before .before .before .before .args .s .0) (c .before .before .before .before .before .before .pre) (c .table .ensures)
     (slot-row (c .before .before .before .before .before .before .args .s .0) (sym (c .before .before .before .slot-ok .ensures) ∙ not-false _ (c .before .before .if2 .left)))
 
 returns-4 : tie.Need-returns-4
 returns-4 c =
-    proof-final (ledgerOf (c .before .before .before .before .before .before .before .before .args .rec .now)) (c .before .before .before .before .before .before .before .before .args .room) (c .before .before .before .before .before .before .before .before .args .s .0) (c .before .before .before .before .before .before .before .before .args .b) (omega arith) (sym (c .before .before .before .before .before .slot-ok .ensures) ∙ not-false _ (c .before .before .before .before .if2 .left)) (c .before .before .before .if3 .left) (sym (c .before .proof-held .ensures) ∙ not-true _ (c .if4 .taken))
+    proof-final (ledgerOf (c .before .before .before .before .before .before .before .before .args .rec .now)) (c .before .before .before .before .before .before .before .before .args .room) (c .before .before .before .before .before .before .before .before .args .s .0) (c .before .before .before .before .before .before .before .before .args .b) (omega arith) (sym (c .before .before .before .before .before .slot-ok .ensures) ∙ not-false _ (c .before .before .before .before .if2 .left)) (c .before .before .before .if3 .left) (sym (c .before .is-final .ensures) ∙ not-true _ (c .if4 .taken))
 
 returns-5 : tie.Need-returns-5
 returns-5 c =
-    proof-passed (ledgerOf (c .before .before .before .before .before .before .before .before .args .rec .now)) (c .before .before .before .before .before .before .before .before .args .room) (c .before .before .before .before .before .before .before .before .args .s .0) (c .before .before .before .before .before .before .before .before .args .b) (omega arith) (sym (c .before .before .before .before .before .slot-ok .ensures) ∙ not-false _ (c .before .before .before .before .if2 .left)) (c .before .before .before .if3 .left) (sym (c .before .proof-held .ensures) ∙ not-false _ (c .if4 .left))
+    proof-passed (ledgerOf (c .before .before .before .before .before .before .before .before .args .rec .now)) (c .before .before .before .before .before .before .before .before .args .room) (c .before .before .before .before .before .before .before .before .args .s .0) (c .before .before .before .before .before .before .before .before .args .b) (omega arith) (sym (c .before .before .before .before .before .slot-ok .ensures) ∙ not-false _ (c .before .before .before .before .if2 .left)) (c .before .before .before .if3 .left) (sym (c .before .is-final .ensures) ∙ not-false _ (c .if4 .left))
 
 pub judge-proof-spec : {M : Type 1} → statement M
 judge-proof-spec =
@@ -49,6 +49,6 @@ judge-proof-spec =
     returns-2
     returns-3
     table-requires
-    proof-held-requires
+    is-final-requires
     returns-4
     returns-5)
