@@ -99,7 +99,8 @@ pub fn parent_held(rec: &[u64], t: StakeTable, p: Slot, b: u64) -> bool
     ensures { λ r. ⌜ r ≡ parentHeld (ledgerOf (now (rec .entry))) (p .0) b ⌝ }
 {
     if p.0 == 0 {
-        return b == genesis(rec);
+        let first = genesis(rec);
+        return b == first;
     }
     held(rec, t, CertificateKind::NotarFallback, p, b)
 }
