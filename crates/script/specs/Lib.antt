@@ -1,0 +1,3 @@
+-- What the readers of a script's line cite.
+pub mod Words
+pub mod Digits
