@@ -15,7 +15,10 @@ use Rattle.rulebook.specs.declared.CertificateKind.{CertificateKind}
 use Rattle.rulebook.specs.declared.CertificateKind.the-variants as certificate
 use Rattle.rulebook.specs.declared.CheckAnswer.{CheckAnswer}
 use Rattle.rulebook.specs.declared.CheckAnswer.the-variants as check
+use Rattle.rulebook.specs.declared.Refusal.{Refusal}
 use Rattle.rulebook.specs.declared.Refusal.the-variants as refusal
+use Rattle.rulebook.specs.declared.Verdict.{Verdict}
+use Rattle.rulebook.specs.declared.Verdict.the-variants as verdict
 use Rattle.rulebook.specs.Tools.{given, choose, someTo, part, sumTo}
 use Rattle.rulebook.specs.Weights.{mostNodes, slotOk, stakeIn, weight, totalTo, reaches, stakesFit}
 use Rattle.rulebook.specs.PaperNumbers.{certificateKind}
@@ -32,7 +35,7 @@ use Rattle.stakes.specs.Table.{Fit, tableOf, madeOf, weighed}
 use Rattle.stakes.proofs.Laws.{table-fit, made-fits, made-table}
 use Rattle.checker.specs.declared.Checked.{Checked}
 use Rattle.checker.specs.declared.Checked.the-variants as checked
-use Rattle.checker.specs.Told.{Sound, Heard, stakesOf, told, weighedIn, finished, alone, isFinalKind, followed, continued, proven}
+use Rattle.checker.specs.Told.{Sound, Heard, stakesOf, told, faultOf, unless, weighedIn, finished, alone, isFinalKind, followed, continued, proven}
 
 -- ---- kinds
 
@@ -116,7 +119,7 @@ stakes-weighed t s c w e =
     ∙ ap₂ (λ (x y : ℕ). record { signers = countOf who x; weight = record { 0 = y } }) (sym (stakes-length t s)) (stakes-weight t s who)
 
 -- The signers are as bad against the table's count.
-pub signers-same : (t : StakeTable) → Sound t → (k : CertificateKind) (c : Certificate) → badSigners (length (stakesOf t)) k c ≡ badSigners (t .count) k c
+signers-same : (t : StakeTable) → Sound t → (k : CertificateKind) (c : Certificate) → badSigners (length (stakesOf t)) k c ≡ badSigners (t .count) k c
 signers-same t s k c = ap (λ (n : ℕ). badSigners n k c) (stakes-length t s)
 
 -- A table that was made has the lent stakes, and is sound.
@@ -201,36 +204,39 @@ unfolding proofOf proven told acceptedOf
 proven-is ws packet (good c next) = first-is ws packet (certificateKind (c .kind)) c next
 proven-is ws packet (bad r) = refl
 
--- The kind is found once.
-judge-is : (ws : List ℕ) (k : CertificateKind) (c : Certificate) (next : ℕ) → k ≡ certificateKind (c .kind)
-    → told ws (judged (judge ws c) c next) ≡ told ws (judged (judgeKind ws k c) c next)
-unfolding judge
-judge-is ws k c next e = ap (λ (x : CertificateKind). told ws (judged (judgeKind ws x c) c next)) (sym e)
+-- The tests of a certificate in their order, and the weighing last.
+fault-then : (ws : List ℕ) (c : Certificate) (next : ℕ) (a b d f : Bool) (last : Verdict)
+    → told ws (judged (refuseIf a refusal.BadKind (refuseIf b refusal.BadSlot (refuseIf d refusal.BadBlock (refuseIf f refusal.BadSigners last)))) c next)
+    ≡ unless (faultOf a b d f) (told ws (judged last c next))
+unfolding faultOf unless refuseIf judged told
+fault-then ws c next true b d f last = refl
+fault-then ws c next false true d f last = refl
+fault-then ws c next false false true f last = refl
+fault-then ws c next false false false true last = refl
+fault-then ws c next false false false false last = refl
 
--- The tests of a certificate in their order: each refuses where those before it do not.
-module _ (ws : List ℕ) (k : CertificateKind) (c : Certificate) (next : ℕ) (e : k ≡ certificateKind (c .kind)) where
-  pub refuse-kind : isOtherKind k ≡ true → checked.Bad refusal.BadKind ≡ told ws (judged (judge ws c) c next)
-  unfolding judgeKind refuseIf judged told
-  refuse-kind a = sym (judge-is ws k c next e ∙ simp a)
+pub unless-fine : (v : Verdict) (x : Checked) → v ≡ verdict.Fine → unless v x ≡ x
+unfolding unless
+unless-fine v x e = rw e
 
-  module _ (a : isOtherKind k ≡ false) where
-    pub refuse-slot : not (slotOk (c .slot)) ≡ true → checked.Bad refusal.BadSlot ≡ told ws (judged (judge ws c) c next)
-    unfolding judgeKind refuseIf judged told
-    refuse-slot b = sym (judge-is ws k c next e ∙ simp (a, b))
+pub unless-refused : (v : Verdict) (x : Checked) (r : Refusal) → v ≡ verdict.Refused r → unless v x ≡ checked.Bad r
+unfolding unless
+unless-refused v x r e = rw e
 
-    module _ (b : not (slotOk (c .slot)) ≡ false) where
-      pub refuse-block : blockMisfits k (c .block) ≡ true → checked.Bad refusal.BadBlock ≡ told ws (judged (judge ws c) c next)
-      unfolding judgeKind refuseIf judged told
-      refuse-block d = sym (judge-is ws k c next e ∙ simp (a, b, d))
+pub fault-same : (a b d f x y z w : Bool) → a ≡ x → b ≡ y → d ≡ z → f ≡ w → (v : Verdict) → v ≡ faultOf a (not b) d f → v ≡ faultOf x (not y) z w
+fault-same a b d f x y z w p q r s v e = e ∙ rw (p, q, r, s)
 
-      module _ (d : blockMisfits k (c .block) ≡ false) where
-        pub refuse-signers : badSigners (length ws) k c ≡ true → checked.Bad refusal.BadSigners ≡ told ws (judged (judge ws c) c next)
-        unfolding judgeKind refuseIf judged told
-        refuse-signers f = sym (judge-is ws k c next e ∙ simp (a, b, d, f))
-
-        pub pass-all : badSigners (length ws) k c ≡ false → weighedIn ws k c next ≡ told ws (judged (judge ws c) c next)
-        unfolding judgeKind refuseIf weighedIn
-        pass-all f = sym (judge-is ws k c next e ∙ simp (a, b, d, f))
+pub judge-is : (t : StakeTable) → Sound t → (k : CertificateKind) (c : Certificate) (next : ℕ) → k ≡ certificateKind (c .kind) → (v : Verdict)
+    → v ≡ faultOf (isOtherKind k) (not (slotOk (c .slot))) (blockMisfits k (c .block)) (badSigners (t .count) k c)
+    → told (stakesOf t) (judged (judge (stakesOf t) c) c next) ≡ unless v (weighedIn (stakesOf t) k c next)
+unfolding judge judgeKind weighedIn
+judge-is t s k c next e v h =
+    let ws = stakesOf t in
+    let last = refuseIf (not (reaches (fifthsOf k) (totalTo ws (length ws)) (signedWeight ws c))) refusal.TooLight verdict.Fine in
+    ap (λ (x : CertificateKind). told ws (judged (judgeKind ws x c) c next)) (sym e)
+    ∙ fault-then ws c next (isOtherKind k) (not (slotOk (c .slot))) (blockMisfits k (c .block)) (badSigners (length ws) k c) last
+    ∙ ap (λ (x : Verdict). unless x (told ws (judged last c next)))
+    (ap (faultOf (isOtherKind k) (not (slotOk (c .slot))) (blockMisfits k (c .block))) (signers-same t s k c) ∙ sym h)
 
 -- ---- the whole answer, from what is told of the first certificate
 

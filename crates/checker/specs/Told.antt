@@ -12,6 +12,7 @@ use Rattle.rulebook.specs.declared.CertificateKind.the-variants as certificate
 use Rattle.rulebook.specs.declared.CheckAnswer.{CheckAnswer}
 use Rattle.rulebook.specs.declared.CheckAnswer.the-variants as check
 use Rattle.rulebook.specs.declared.Refusal.the-variants as refusal
+use Rattle.rulebook.specs.declared.Verdict.{Verdict}
 use Rattle.rulebook.specs.declared.Verdict.the-variants as verdict
 use Rattle.rulebook.specs.Tools.{given}
 use Rattle.rulebook.specs.Weights.{reaches, totalTo}
@@ -42,6 +43,17 @@ pub record Heard (t : StakeTable) (k : CertificateKind) (c : Certificate) : Type
 unfoldable pub told : List ℕ → One → Checked
 told stakes (good c next) = checked.Good (acceptedOf stakes c) next
 told stakes (bad r) = checked.Bad r
+
+-- The first of 4, 3, 5, 14 that stands.
+unfoldable pub faultOf : Bool → Bool → Bool → Bool → Verdict
+faultOf badKind badSlot badBlock badMasks =
+    refuseIf badKind refusal.BadKind
+    (refuseIf badSlot refusal.BadSlot (refuseIf badBlock refusal.BadBlock (refuseIf badMasks refusal.BadSigners verdict.Fine)))
+
+-- A fault decides; else what is found later.
+unfoldable pub unless : Verdict → Checked → Checked
+unless verdict.Fine x = x
+unless (verdict.Refused r) x = checked.Bad r
 
 -- 15, the last test of a certificate.
 unfoldable pub weighedIn : List ℕ → CertificateKind → Certificate → ℕ → Checked

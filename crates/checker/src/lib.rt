@@ -7,6 +7,7 @@ use rulebook::Found;
 use rulebook::Refusal;
 use rulebook::Slot;
 use rulebook::Threshold;
+use rulebook::Verdict;
 use stakes::StakeTable;
 ghost use mathlib.Core.Path.{_≡_};
 ghost use Prim.Native.Nat.{_≤_};
@@ -14,7 +15,7 @@ ghost use Rattle.rulebook.specs.Weights.{slotOk, mostNodes};
 ghost use Rattle.rulebook.specs.PaperNumbers.{certificateKind};
 ghost use Rattle.rulebook.specs.Pool.{fifthsOf};
 ghost use Rattle.rulebook.specs.Checker.{isOtherKind, blockMisfits, withoutB, badSigners, judged, judge as Checker·judge, oneAt, checkCertificate, checkProof};
-ghost use Rattle.checker.specs.Told.{Sound, Heard, stakesOf, told, finished, isFinalKind, followed, continued, weighedIn};
+ghost use Rattle.checker.specs.Told.{Sound, Heard, stakesOf, told, finished, isFinalKind, followed, continued, weighedIn, faultOf};
 
 // One certificate of a packet: what is told of it with the place after it, or its refusal.
 pub enum Checked {
@@ -136,25 +137,40 @@ fn weigh_in(t: StakeTable, k: CertificateKind, c: Certificate, next: usize) -> C
     )
 }
 
+// The first of 4, 3, 5, 14 that stands, where it is found wrong in kind, slot, block or masks.
+fn first_fault(kind: bool, slot: bool, block: bool, masks: bool) -> Verdict
+    ensures { λ r. ⌜ r ≡ faultOf kind slot block masks ⌝ }
+{
+    if kind {
+        return Verdict::Refused(Refusal::BadKind);
+    }
+    if slot {
+        return Verdict::Refused(Refusal::BadSlot);
+    }
+    if block {
+        return Verdict::Refused(Refusal::BadBlock);
+    }
+    if masks {
+        return Verdict::Refused(Refusal::BadSigners);
+    }
+    Verdict::Fine
+}
+
 // 4, 3, 5, 14, 15, in this order, once the five numbers are read.
 fn judge(t: StakeTable, c: Certificate, next: usize) -> Checked
     requires { ⌜ Sound t ⌝ }
     ensures { λ r. ⌜ r ≡ told (stakesOf t) (judged (Checker·judge (stakesOf t) c) c next) ⌝ }
 {
     let k = kind_of(c.kind);
-    if is_other(k) {
-        return Checked::Bad(Refusal::BadKind);
+    let kind = is_other(k);
+    let slot = !slot_ok(c.slot);
+    let block = block_misfits(k, c.block);
+    let masks = bad_signers(t.count, k, c);
+    let fault = first_fault(kind, slot, block, masks);
+    match fault {
+        Verdict::Refused(r) => Checked::Bad(r),
+        Verdict::Fine => weigh_in(t, k, c, next),
     }
-    if !slot_ok(c.slot) {
-        return Checked::Bad(Refusal::BadSlot);
-    }
-    if block_misfits(k, c.block) {
-        return Checked::Bad(Refusal::BadBlock);
-    }
-    if bad_signers(t.count, k, c) {
-        return Checked::Bad(Refusal::BadSigners);
-    }
-    weigh_in(t, k, c, next)
 }
 
 // The certificate at a place of the packet, read and judged.

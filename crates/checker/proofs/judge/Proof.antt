@@ -1,7 +1,8 @@
--- The tests in their order.
-use Rattle.checker.proofs.Laws.{signers-same, refuse-kind, refuse-slot, refuse-block, refuse-signers, pass-all}
-use mathlib.Core.Bool.{not}
-use mathlib.Core.Path.{sym, ap, _∙_}
+-- The tests in their order; a fault decides, else the weight.
+use Rattle.checker.proofs.Laws.{fault-same, judge-is, unless-fine, unless-refused}
+use mathlib.Core.Path.{sym, _∙_}
+use mathlib.Core.Path.{_∙_, sym}
+use Prim.Native.Nat.{_-_}
 use borrow.Author.Needs.{needs}
 use Rattle.checker.proofs.judge.Statement.{statement}
 use Rattle.checker.proofs.judge.Tie as tie
@@ -9,6 +10,7 @@ use Rattle.checker.proofs.judge.Reads as reads
 use Rattle.checker.proofs.judge.Lts as lts
 use Rattle.checker.proofs.bad_signers.Reads as bad-signers-reads
 use Rattle.checker.proofs.block_misfits.Reads as block-misfits-reads
+use Rattle.checker.proofs.first_fault.Reads as first-fault-reads
 use Rattle.checker.proofs.is_other.Reads as is-other-reads
 use Rattle.checker.proofs.kind_of.Reads as kind-of-reads
 use Rattle.checker.proofs.slot_ok.Reads as slot-ok-reads
@@ -20,37 +22,34 @@ kind-of-requires c κs = search needs
 is-other-requires : tie.Need-is-other-requires
 is-other-requires c κs = search needs
 
-returns : tie.Need-returns
-returns c =
-    refuse-kind _ _ _ _ (c .before .before .kind-of .ensures) (sym (c .before .is-other .ensures) ∙ c .if1 .taken)
-
 slot-ok-requires : tie.Need-slot-ok-requires
 slot-ok-requires c κs = search needs
-
-returns-2 : tie.Need-returns-2
-returns-2 c =
-    refuse-slot _ _ _ _ (c .before .before .before .before .kind-of .ensures) (sym (c .before .before .before .is-other .ensures) ∙ c .before .before .if1 .left) (ap not (sym (c .before .slot-ok .ensures)) ∙ c .if2 .taken)
 
 block-misfits-requires : tie.Need-block-misfits-requires
 block-misfits-requires c κs = search needs
 
-returns-3 : tie.Need-returns-3
-returns-3 c =
-    refuse-block _ _ _ _ (c .before .before .before .before .before .before .kind-of .ensures) (sym (c .before .before .before .before .before .is-other .ensures) ∙ c .before .before .before .before .if1 .left) (ap not (sym (c .before .before .before .slot-ok .ensures)) ∙ c .before .before .if2 .left) (sym (c .before .block-misfits .ensures) ∙ c .if3 .taken)
-
 bad-signers-requires : tie.Need-bad-signers-requires
 bad-signers-requires c κs = search needs
 
-returns-4 : tie.Need-returns-4
-returns-4 c =
-    refuse-signers _ _ _ _ (c .before .before .before .before .before .before .before .before .kind-of .ensures) (sym (c .before .before .before .before .before .before .before .is-other .ensures) ∙ c .before .before .before .before .before .before .if1 .left) (ap not (sym (c .before .before .before .before .before .slot-ok .ensures)) ∙ c .before .before .before .before .if2 .left) (sym (c .before .before .before .block-misfits .ensures) ∙ c .before .before .if3 .left) (signers-same _ (c .before .before .before .before .before .before .before .before .before .pre) _ _ ∙ sym (c .before .bad-signers .ensures) ∙ c .if4 .taken)
+first-fault-requires : tie.Need-first-fault-requires
+first-fault-requires c κs = search needs
+
+enum-known-fault : tie.Need-enum-known-fault
+enum-known-fault c = search needs
+
+enum-told : tie.Need-enum-told
+enum-told c = search needs
 
 weigh-in-requires : tie.Need-weigh-in-requires
 weigh-in-requires c κs = search needs
 
-returns-5 : tie.Need-returns-5
-returns-5 c =
-    c .weigh-in .ensures ∙ pass-all _ _ _ _ (c .before .before .before .before .before .before .before .before .before .kind-of .ensures) (sym (c .before .before .before .before .before .before .before .before .is-other .ensures) ∙ c .before .before .before .before .before .before .before .if1 .left) (ap not (sym (c .before .before .before .before .before .before .slot-ok .ensures)) ∙ c .before .before .before .before .before .if2 .left) (sym (c .before .before .before .before .block-misfits .ensures) ∙ c .before .before .before .if3 .left) (signers-same _ (c .before .before .before .before .before .before .before .before .before .before .pre) _ _ ∙ sym (c .before .before .bad-signers .ensures) ∙ c .before .if4 .left)
+returns : tie.Need-returns
+returns c =
+    sym (judge-is _ (c .before .before .before .before .before .before .before .before .before .pre) _ _ _ (c .before .before .before .before .before .before .before .before .kind-of .ensures) _ (fault-same _ _ _ _ _ _ _ _ (c .before .before .before .before .before .before .before .is-other .ensures) (c .before .before .before .before .before .before .slot-ok .ensures) (c .before .before .before .before .before .block-misfits .ensures) (c .before .before .before .before .bad-signers .ensures) _ (c .before .before .before .first-fault .ensures)) ∙ unless-refused _ _ _ (c .before .fault .given .1))
+
+returns-2 : tie.Need-returns-2
+returns-2 c =
+    c .weigh-in .ensures ∙ sym (judge-is _ (c .before .before .before .before .before .before .before .before .before .pre) _ _ _ (c .before .before .before .before .before .before .before .before .kind-of .ensures) _ (fault-same _ _ _ _ _ _ _ _ (c .before .before .before .before .before .before .before .is-other .ensures) (c .before .before .before .before .before .before .slot-ok .ensures) (c .before .before .before .before .before .block-misfits .ensures) (c .before .before .before .before .bad-signers .ensures) _ (c .before .before .before .first-fault .ensures)) ∙ unless-fine _ _ (c .before .enum-told .given .1))
 
 pub judge-spec : {M : Type 1} → statement M
 judge-spec =
@@ -58,12 +57,12 @@ judge-spec =
     (tie.spec
     kind-of-requires
     is-other-requires
-    returns
     slot-ok-requires
-    returns-2
     block-misfits-requires
-    returns-3
     bad-signers-requires
-    returns-4
+    first-fault-requires
+    enum-known-fault
+    enum-told
     weigh-in-requires
-    returns-5)
+    returns
+    returns-2)
