@@ -1,37 +1,34 @@
 -- Laws of the checker's steps: kinds, the stakes of a table, and what is told of a certificate against the rule book. Assumes
 -- nothing.
 use mathlib.Core.Path.{_≡_, refl, sym, ap, ap₂, _∙_, subst}
-use mathlib.Core.Bool.{Bool, true, false, not, _&&_, _||_}
-use mathlib.Core.List.{List, _++_}
-use Prim.Native.Nat.{ℕ, _+_, _-_, _^_, _≤_, _<_}
+use mathlib.Core.Bool.{Bool, true, false, not, _||_}
+use mathlib.Core.List.{List}
+use Prim.Native.Nat.{ℕ, _-_, _≤_, _<_}
 use native.Mathlib.Omega.{arith}
-use lib.ListN.{length, take, getD, replicate, length-append, length-take}
+use lib.ListN.{length, replicate, length-append}
 use lib.Seq.{getD-take, take-append-seam, length-take-le}
-use lib.Dec.{eqb, leb, ltb}
-use borrow.Author.Tests.{ne-eqb, eqb-true, eq-eqb}
-use Rattle.rulebook.specs.declared.Accepted.{Accepted}
+use lib.Dec.{eqb}
+use borrow.Author.Tests.{ne-eqb, eqb-true}
 use Rattle.rulebook.specs.declared.Certificate.{Certificate}
 use Rattle.rulebook.specs.declared.CertificateKind.{CertificateKind}
 use Rattle.rulebook.specs.declared.CertificateKind.the-variants as certificate
-use Rattle.rulebook.specs.declared.CheckAnswer.{CheckAnswer}
 use Rattle.rulebook.specs.declared.CheckAnswer.the-variants as check
 use Rattle.rulebook.specs.declared.Refusal.{Refusal}
 use Rattle.rulebook.specs.declared.Refusal.the-variants as refusal
 use Rattle.rulebook.specs.declared.Verdict.{Verdict}
 use Rattle.rulebook.specs.declared.Verdict.the-variants as verdict
-use Rattle.rulebook.specs.Tools.{given, choose, someTo, part, sumTo}
+use Rattle.rulebook.specs.Tools.{choose, part}
 use Rattle.rulebook.specs.Weights.{mostNodes, slotOk, stakeIn, weight, totalTo, reaches, stakesFit}
 use Rattle.rulebook.specs.PaperNumbers.{certificateKind}
 use Rattle.rulebook.specs.Pool.{fifthsOf}
 use Rattle.rulebook.specs.Inputs.{refuseIf}
 use Rattle.rulebook.specs.Packets.{bit, countOf}
-use Rattle.rulebook.specs.Checker.{One, good, bad, isOtherKind, blockMisfits, badSigners, withoutB, signed, signedWeight, acceptedOf, judged, oneAt, ended, singleOf, secondOf, firstIn, proofOf, judgeKind, judge, checkCertificate, checkProof}
+use Rattle.rulebook.specs.Checker.{One, good, bad, isOtherKind, blockMisfits, badSigners, signed, signedWeight, acceptedOf, judged, oneAt, ended, singleOf, secondOf, firstIn, proofOf, judgeKind, judge, checkCertificate, checkProof}
 use Rattle.rulebook.proofs.ToolLaws.{sum-same, given-on}
-use Rattle.rulebook.proofs.MaskLaws.{overlap-past}
 use Rattle.stakes.specs.declared.StakeTable.{StakeTable}
 use Rattle.stakes.specs.declared.Made.{Made}
 use Rattle.stakes.specs.declared.Weighed.{Weighed}
-use Rattle.stakes.specs.Table.{Fit, tableOf, madeOf, weighed}
+use Rattle.stakes.specs.Table.{tableOf, madeOf, weighed}
 use Rattle.stakes.proofs.Laws.{table-fit, made-fits, made-table}
 use Rattle.checker.specs.declared.Checked.{Checked}
 use Rattle.checker.specs.declared.Checked.the-variants as checked

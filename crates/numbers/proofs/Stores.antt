@@ -1,5 +1,5 @@
 -- Bytes written one store at a time, and one run of bytes after another.
-use mathlib.Core.Path.{_≡_, refl, sym, ap, ap₂, _∙_, subst}
+use mathlib.Core.Path.{_≡_, sym, ap, ap₂, _∙_, subst}
 use mathlib.Core.List.{List, [], _∷_, _++_, append-assoc}
 use Prim.Native.Nat.{ℕ, suc, _+_, _≤_}
 use native.Mathlib.Nat.{add-zero, zero-add}
@@ -10,7 +10,7 @@ use Rattle.rulebook.specs.declared.Certificate.{Certificate}
 use Rattle.rulebook.specs.Packets.{numberBytes, certificateBytes}
 use Rattle.rulebook.specs.Writers.{over}
 use Rattle.rulebook.proofs.NumberLaws.{certificate-length}
-use Rattle.numbers.specs.Written.{Room, Written, laid}
+use Rattle.numbers.specs.Written.{Written, laid}
 
 -- Stores from a place on lay the bytes there.
 pub stores-lay : (buffer : List ℕ) (at : ℕ) (bytes : List ℕ) → at + length bytes ≤ length buffer → sets buffer at bytes ≡ laid buffer at bytes

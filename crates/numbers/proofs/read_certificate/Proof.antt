@@ -1,6 +1,6 @@
 -- The certificate: each number that was read leads on to the next, and the first that was not decides.
 use borrow.Author.Needs.{needs}
-use mathlib.Core.Path.{_≡_, sym, _∙_}
+use mathlib.Core.Path.{sym, _∙_}
 use Rattle.rulebook.specs.Packets.{certificateAt, andThen}
 use Rattle.numbers.proofs.Fell.{fell}
 use Rattle.numbers.proofs.read_certificate.Statement.{statement}

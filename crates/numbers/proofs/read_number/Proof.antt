@@ -4,7 +4,7 @@ use mathlib.Core.Path.{_≡_, refl, sym, ap, _∙_, subst}
 use Prim.Native.Nat.{ℕ, _+_, _-_, _*_, _%_, _^_, _≤_, _<_}
 use native.Mathlib.Omega.{arith}
 use native.Mathlib.Nat.{mod-lt}
-use lib.ListN.{length, drop, getD}
+use lib.ListN.{length, drop}
 use denote.Ref.{now}
 use lib.Bits.{and-mask, bitOr}
 use lib.Dec.{lit<, lit≤}

@@ -1,11 +1,6 @@
 -- Five numbers written one after the other are one run of bytes.
 use borrow.Author.Needs.{needs}
-use mathlib.Core.Path.{_≡_, refl, sym, ap, ap₂, _∙_}
-use Prim.Native.Nat.{ℕ, _+_}
 use native.Mathlib.Omega.{arith}
-use lib.ListN.{length}
-use lib.Seq.{sets}
-use Rattle.rulebook.specs.Packets.{numberBytes, certificateBytes}
 use Rattle.numbers.proofs.Stores.{five}
 use Rattle.rulebook.proofs.NumberLaws.{certificate-length}
 use Rattle.numbers.proofs.write_certificate.Statement.{statement}

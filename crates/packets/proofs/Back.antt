@@ -1,0 +1,382 @@
+-- What a writer gives is accepted and reads back to what is held, with its true count and weight.
+use mathlib.Core.Path.{_≡_, refl, sym, ap, ap₂, _∙_, subst}
+use mathlib.Core.Bool.{Bool, true, false, not, _&&_, _||_}
+use mathlib.Core.List.{List, [], _∷_, _++_, append-nil}
+use Prim.Native.Nat.{ℕ, _+_, _^_, _≤_, _<_}
+use native.Mathlib.Nat.{zero-add}
+use native.Mathlib.Omega.{arith}
+use lib.ListN.{length, length-append}
+use lib.Pow.{pow-mono}
+use lib.Dec.{eqb, leb, ltb, lit<}
+use borrow.Author.Tests.{lt-leb, le-ltb, leb-true, not-false, eq-eqb}
+use Rattle.rulebook.specs.declared.Cell.{Cell}
+use Rattle.rulebook.specs.declared.Accepted.{Accepted}
+use Rattle.rulebook.specs.declared.Certificate.{Certificate}
+use Rattle.rulebook.specs.declared.CertificateKind.{CertificateKind}
+use Rattle.rulebook.specs.declared.CertificateKind.the-variants as certificate
+use Rattle.rulebook.specs.declared.CheckAnswer.the-variants as check
+use Rattle.rulebook.specs.declared.Found.the-variants as found
+use Rattle.rulebook.specs.declared.Refusal.the-variants as refusal
+use Rattle.rulebook.specs.declared.Verdict.{Verdict}
+use Rattle.rulebook.specs.declared.Verdict.the-variants as verdict
+use Rattle.rulebook.specs.declared.WriteAnswer.the-variants as write
+use Rattle.rulebook.specs.Tools.{choose, part, sumTo, someTo}
+use Rattle.rulebook.specs.Weights.{lastSlot, mostNodes, stakeIn, weight, totalTo, reaches, slotOk, stakesFit}
+use Rattle.rulebook.specs.PaperNumbers.{certificateKind, certificateNumber}
+use Rattle.rulebook.specs.Ledger.{Ledger, none, cellAt}
+use Rattle.rulebook.specs.Pool.{hasFallback, counts, weigh, weighs, signersOf, fifthsOf, held}
+use Rattle.rulebook.specs.Rules.{isFinal}
+use Rattle.rulebook.specs.Inputs.{refuseIf}
+use Rattle.rulebook.specs.Packets.{certificateAt, certificateBytes, bit, maskOf, countOf}
+use Rattle.rulebook.specs.Checker.{good, isOtherKind, blockMisfits, withoutB, badSigners, signed, signedWeight, judgeKind, judge, acceptedOf, judged, oneOf, oneAt, ended, singleOf, checkCertificate, secondOf, firstIn, proofOf, checkProof}
+use Rattle.rulebook.specs.Writers.{inA, inB, certificateFor, wroteOn, certificateVerdict, writeCertificate, proofVerdict, proofBytes, writeProof}
+use Rattle.rulebook.proofs.ToolLaws.{given-on, given-off, choose-on, choose-off, and-both, both-and, or-cases, by-test, true-not-false, sum-same, sum-const, part-off}
+use Rattle.rulebook.proofs.MaskLaws.{mask-lt, masks-apart, masks-weight, masks-count, count-same}
+use Rattle.rulebook.proofs.WeightLaws.{weight-same}
+use Rattle.rulebook.proofs.NumberLaws.{Fits64, certificate-in}
+use Rattle.packets.specs.Promises.{parts, TableIs, acceptedFor, proofParts, proofKind, CertificateBack, ProofBack}
+use Rattle.packets.proofs.Accepts.{passed}
+use Rattle.packets.proofs.Spelling.{parts-one, parts-two}
+
+-- ---- a node counts by one of the two masks, and by one only
+
+-- One test, and another beside it.
+or-else : (a h : Bool) → (a || (h && not a)) ≡ (a || h)
+or-else true h = refl
+or-else false true = refl
+or-else false false = refl
+
+or-no : (a : Bool) → (a || false) ≡ a
+or-no true = refl
+or-no false = refl
+
+and-no : (a : Bool) → (a && false) ≡ false
+and-no true = refl
+and-no false = refl
+
+and-else : (a h : Bool) → (a && (h && not a)) ≡ false
+and-else true true = refl
+and-else true false = refl
+and-else false h = refl
+
+or-late : (a h : Bool) → (not a || (h && a)) ≡ (not a || h)
+or-late true true = refl
+or-late true false = refl
+or-late false h = refl
+
+and-late : (a h : Bool) → (not a && (h && a)) ≡ false
+and-late true h = refl
+and-late false true = refl
+and-late false false = refl
+
+who-counts : (k : CertificateKind) (b : ℕ) (c : Cell) → isOtherKind k ≡ false → (inA k b c || inB k b c) ≡ counts (signersOf k b) c
+unfolding isOtherKind inA inB counts signersOf
+who-counts certificate.FastFinal b c t = or-no (eqb (c .notar) b)
+who-counts certificate.Notar b c t = or-no (eqb (c .notar) b)
+who-counts certificate.NotarFallback b c t = or-else (eqb (c .notar) b) (hasFallback b c)
+who-counts certificate.Skip b c t = or-late (none (c .skip)) (not (none (c .skipfallback)))
+who-counts certificate.Final b c t = or-no (not (none (c .finalvote)))
+who-counts certificate.Other b c t = let z : _≡_ {A = ℕ} 0 1 = cc in absurd (omega arith)
+
+never-both : (k : CertificateKind) (b : ℕ) (c : Cell) → (inA k b c && inB k b c) ≡ false
+unfolding inA inB
+never-both certificate.FastFinal b c = and-no (eqb (c .notar) b)
+never-both certificate.Notar b c = and-no (eqb (c .notar) b)
+never-both certificate.NotarFallback b c = and-else (eqb (c .notar) b) (hasFallback b c)
+never-both certificate.Skip b c = and-late (none (c .skip)) (not (none (c .skipfallback)))
+never-both certificate.Final b c = and-no (not (none (c .finalvote)))
+never-both certificate.Other b c = refl
+
+no-b : (k : CertificateKind) (b : ℕ) (c : Cell) → withoutB k ≡ true → inB k b c ≡ false
+unfolding withoutB inB
+no-b certificate.FastFinal b c t = refl
+no-b certificate.Notar b c t = refl
+no-b certificate.NotarFallback b c t = let z : _≡_ {A = ℕ} 0 1 = cc in absurd (omega arith)
+no-b certificate.Skip b c t = let z : _≡_ {A = ℕ} 0 1 = cc in absurd (omega arith)
+no-b certificate.Final b c t = refl
+no-b certificate.Other b c t = refl
+
+mask-empty : (p : ℕ → Bool) (n : ℕ) → ((i : ℕ) → p i ≡ false) → maskOf p n ≡ 0
+unfolding maskOf
+mask-empty p n f = omega (arith, sum-same n (λ i. part (p i) (2 ^ i)) (λ i. 0) (λ i h. part-off (p i) (2 ^ i) (f i)), sum-const n 0)
+
+-- ---- kinds and tests
+
+kind-back : (k : CertificateKind) → isOtherKind k ≡ false → certificateKind (certificateNumber k) ≡ k
+unfolding isOtherKind certificateKind certificateNumber choose
+kind-back certificate.FastFinal t = refl
+kind-back certificate.Notar t = refl
+kind-back certificate.NotarFallback t = refl
+kind-back certificate.Skip t = refl
+kind-back certificate.Final t = refl
+kind-back certificate.Other t = let z : _≡_ {A = ℕ} 0 1 = cc in absurd (omega arith)
+
+kind-small : (k : CertificateKind) → certificateNumber k ≤ 5
+unfolding certificateNumber
+kind-small certificate.FastFinal = omega arith
+kind-small certificate.Notar = omega arith
+kind-small certificate.NotarFallback = omega arith
+kind-small certificate.Skip = omega arith
+kind-small certificate.Final = omega arith
+kind-small certificate.Other = omega arith
+
+-- None of four tests stands.
+none-of : (a b c d : Bool) → a ≡ false → b ≡ false → c ≡ false → d ≡ false → ((a || b) || (c || d)) ≡ false
+none-of a b c d p q r s = rw (p, q, r, s)
+
+-- Five tests that do not refuse.
+all-passed : (a b c d e : Bool) → a ≡ false → b ≡ true → c ≡ false → d ≡ false → e ≡ true
+    → refuseIf a refusal.BadKind (refuseIf (not b) refusal.BadSlot (refuseIf c refusal.BadBlock (refuseIf d refusal.BadSigners (refuseIf (not e) refusal.TooLight verdict.Fine)))) ≡ verdict.Fine
+unfolding refuseIf
+all-passed a b c d e p q r s t = rw (p, q, r, s, t)
+
+-- ---- the checker on packets that begin with a good certificate
+
+module _ (stakes packet : List ℕ) (fits : stakesFit stakes (length stakes) ≡ true) where
+  one-is : (c : Certificate) (at next : ℕ) → certificateAt packet at ≡ found.Whole c next → judge stakes c ≡ verdict.Fine → oneAt stakes packet at ≡ good c next
+  unfolding oneAt oneOf judged
+  one-is c at next e j = rw (e, j)
+
+  ends : (c : Certificate) (next : ℕ) → next ≡ length packet → ended stakes packet c next ≡ check.Accepted (acceptedOf stakes c)
+  unfolding ended
+  ends c next e =
+      given-on (not (ltb next (length packet))) (check.Refused refusal.BadLength) (λ _. check.Accepted (acceptedOf stakes c))
+      (ap not (le-ltb next (length packet) (omega arith)))
+
+  accepts-one : (c : Certificate) (next : ℕ) → certificateAt packet 0 ≡ found.Whole c next → judge stakes c ≡ verdict.Fine → next ≡ length packet
+      → checkCertificate stakes packet ≡ check.Accepted (acceptedOf stakes c)
+  unfolding checkCertificate singleOf
+  accepts-one c next e j n =
+      given-on (stakesFit stakes (length stakes)) (check.Refused refusal.BadSizes) (λ _. singleOf stakes packet (oneAt stakes packet 0)) fits
+      ∙ rw (one-is c 0 next e j) (ends c next n)
+
+  accepts-fast : (c : Certificate) (next : ℕ) → certificateAt packet 0 ≡ found.Whole c next → judge stakes c ≡ verdict.Fine
+      → certificateKind (c .kind) ≡ certificate.FastFinal → next ≡ length packet → checkProof stakes packet ≡ check.Accepted (acceptedOf stakes c)
+  unfolding checkProof proofOf firstIn
+  accepts-fast c next e j k n =
+      given-on (stakesFit stakes (length stakes)) (check.Refused refusal.BadSizes) (λ _. proofOf stakes packet (oneAt stakes packet 0)) fits
+      ∙ rw (one-is c 0 next e j, k) (ends c next n)
+
+  accepts-slow : (c d : Certificate) (next end : ℕ) → certificateAt packet 0 ≡ found.Whole c next → judge stakes c ≡ verdict.Fine
+      → certificateKind (c .kind) ≡ certificate.Notar → certificateAt packet next ≡ found.Whole d end → judge stakes d ≡ verdict.Fine → d .kind ≡ 5
+      → d .slot ≡ c .slot → end ≡ length packet → checkProof stakes packet ≡ check.Accepted (acceptedOf stakes c)
+  unfolding checkProof proofOf firstIn secondOf
+  accepts-slow c d next end e j k f i five same n =
+      given-on (stakesFit stakes (length stakes)) (check.Refused refusal.BadSizes) (λ _. proofOf stakes packet (oneAt stakes packet 0)) fits
+      ∙ rw (one-is c 0 next e j, k, one-is d next end f i)
+      (given-on (eqb (d .kind) 5 && eqb (d .slot) (c .slot)) (check.Refused refusal.NotAProof) (λ _. ended stakes packet c end)
+      (both-and (eqb (d .kind) 5) (eqb (d .slot) (c .slot)) (eq-eqb (d .kind) 5 five) (eq-eqb (d .slot) (c .slot) same))
+      ∙ ends c end n)
+
+-- ---- what is written of a ledger
+
+module _ (l : Ledger) (stakes : List ℕ) (t : TableIs l stakes) where
+  abbrev size : ℕ
+  size = length stakes
+
+  few : size ≤ mostNodes
+  unfolding stakesFit
+  few =
+      leb-true size mostNodes
+      (and-both (leb 1 size) (leb size mostNodes) (and-both (leb 1 size && leb size mostNodes) _ (t .fits) .0) .1)
+
+  -- What the pool weighs is what the stakes weigh.
+  weight-is : (who : ℕ → Bool) → weight (l .stakes) (l .count) who ≡ weight stakes size who
+  unfolding weight
+  weight-is who =
+      ap (λ (n : ℕ). sumTo n (λ i. part (who i) (stakeIn (l .stakes) i))) (t .count)
+      ∙ sum-same size (λ i. part (who i) (stakeIn (l .stakes) i)) (λ i. part (who i) (stakeIn stakes i)) (λ i h. ap (part (who i)) (t .each i h))
+
+  module _ (k : CertificateKind) (s b : ℕ) where
+    abbrev pa : ℕ → Bool
+    pa i = inA k b (cellAt l s i)
+
+    abbrev pb : ℕ → Bool
+    pb i = inB k b (cellAt l s i)
+
+    abbrev who : ℕ → Bool
+    who i = counts (signersOf k b) (cellAt l s i)
+
+    -- The certificate over the stakes' own count.
+    abbrev cert : Certificate
+    cert = record { kind = certificateNumber k; slot = s; block = b; maska = maskOf pa size; maskb = maskOf pb size }
+
+    cert-is : certificateFor l k s b ≡ cert
+    unfolding certificateFor
+    cert-is = ap (λ (n : ℕ). record { kind = certificateNumber k; slot = s; block = b; maska = maskOf pa n; maskb = maskOf pb n }) (t .count)
+
+    no-mask-b : (w : Bool) → withoutB k ≡ w → (w && not (none (maskOf pb size))) ≡ false
+    no-mask-b true e = rw (mask-empty pb size (λ i. no-b k b (cellAt l s i) e))
+    no-mask-b false e = refl
+
+    signers-fine : badSigners size k cert ≡ false
+    unfolding badSigners
+    signers-fine =
+        none-of (leb (2 ^ size) (maskOf pa size)) (leb (2 ^ size) (maskOf pb size)) (someTo size (λ n. bit (maskOf pa size) n && bit (maskOf pb size) n))
+        (withoutB k && not (none (maskOf pb size)))
+        (lt-leb (2 ^ size) (maskOf pa size) (mask-lt pa size))
+        (lt-leb (2 ^ size) (maskOf pb size) (mask-lt pb size))
+        (masks-apart pa pb size (λ i h. never-both k b (cellAt l s i)))
+        (no-mask-b (withoutB k) refl)
+
+    module _ (z : isOtherKind k ≡ false) where
+      signed-weight : signedWeight stakes cert ≡ weight stakes size who
+      unfolding signedWeight signed
+      signed-weight = masks-weight stakes size pa pb ∙ weight-same stakes size (λ i. pa i || pb i) who (λ i h. who-counts k b (cellAt l s i) z)
+
+      signed-count : countOf (signed cert) size ≡ countOf who size
+      unfolding signed
+      signed-count = masks-count size pa pb ∙ count-same size (λ i. pa i || pb i) who (λ i h. who-counts k b (cellAt l s i) z)
+
+      heavy : held l k s b ≡ true → reaches (fifthsOf k) (totalTo stakes size) (signedWeight stakes cert) ≡ true
+      unfolding held weighs weigh
+      heavy h = ap₂ (reaches (fifthsOf k)) (sym (t .total)) (signed-weight ∙ sym (weight-is who)) ∙ h
+
+      fine : slotOk s ≡ true → blockMisfits k b ≡ false → held l k s b ≡ true → judge stakes cert ≡ verdict.Fine
+      unfolding judge judgeKind
+      fine so m h =
+          ap (λ (x : CertificateKind). judgeKind stakes x cert) (kind-back k z)
+          ∙ all-passed (isOtherKind k) (slotOk s) (blockMisfits k b) (badSigners size k cert) (reaches (fifthsOf k) (totalTo stakes size) (signedWeight stakes cert)) z so m signers-fine (heavy h)
+
+      -- The answer is the true one.
+      true-answer : acceptedOf stakes cert ≡ acceptedFor l k s b
+      unfolding acceptedOf acceptedFor weigh
+      true-answer =
+          ap (λ (x : CertificateKind). answer x (countOf (signed cert) size) (signedWeight stakes cert)) (kind-back k z)
+          ∙ ap₂ (answer k) (signed-count ∙ ap (countOf who) (sym (t .count))) (signed-weight ∙ sym (weight-is who))
+        where
+          answer : CertificateKind → ℕ → ℕ → Accepted
+          answer x y w = record { kind = x; slot = record { 0 = s }; block = b; signers = y; weight = record { 0 = w } }
+
+    fits64 : b < 2 ^ 64 → slotOk s ≡ true → Fits64 cert
+    unfolding slotOk
+    fits64 h so =
+        let p : 2 ^ size ≤ 2 ^ 64 = pow-mono few in
+        let q = leb-true s lastSlot (and-both (leb 1 s) (leb s lastSlot) so .1) in
+        let big : 16 < 2 ^ 64 = lit< tt in
+        record {
+          kind = omega (arith, kind-small k, big);
+          slot = omega (arith, q, big);
+          block = h;
+          maska = omega (arith, mask-lt pa size, p);
+          maskb = omega (arith, mask-lt pb size, p);
+        }
+
+    -- The certificate at the front of a packet.
+    reads : b < 2 ^ 64 → slotOk s ≡ true → (rest : List ℕ) → certificateAt (certificateBytes cert ++ rest) 0 ≡ found.Whole cert (length (certificateBytes cert))
+    reads h so rest =
+        certificate-in (certificateBytes cert ++ rest) [] cert rest 0 refl refl (fits64 h so) ∙ ap (found.Whole cert) (zero-add (length (certificateBytes cert)))
+
+    reads-alone : b < 2 ^ 64 → slotOk s ≡ true → certificateAt (certificateBytes cert) 0 ≡ found.Whole cert (length (certificateBytes cert))
+    reads-alone h so =
+        subst (λ (x : List ℕ). certificateAt x 0 ≡ found.Whole cert (length (certificateBytes cert))) (append-nil (certificateBytes cert)) (reads h so [])
+
+-- ---- the two writers
+
+-- A writer that wrote found nothing to refuse.
+wrote-fine : (v : Verdict) (bytes : List ℕ) (n : ℕ) → wroteOn v bytes .answer ≡ write.Written n → v ≡ verdict.Fine
+unfolding wroteOn
+wrote-fine verdict.Fine bytes n e = refl
+wrote-fine (verdict.Refused r) bytes n e = let z : _≡_ {A = ℕ} 0 1 = cc in absurd (omega arith)
+
+wrote-bytes : (v : Verdict) (bytes : List ℕ) → v ≡ verdict.Fine → wroteOn v bytes .bytes ≡ bytes
+unfolding wroteOn
+wrote-bytes v bytes e = rw e
+
+module _ (l : Ledger) (stakes : List ℕ) (t : TableIs l stakes) where
+  certificate-on : (k : CertificateKind) (s b : ℕ) → b < 2 ^ 64 → isOtherKind k ≡ false → slotOk s ≡ true → blockMisfits k b ≡ false → held l k s b ≡ true
+      → (parts (certificateBytes (certificateFor l k s b)) ≡ certificateFor l k s b ∷ [])
+      × (checkCertificate stakes (certificateBytes (certificateFor l k s b)) ≡ check.Accepted (acceptedFor l k s b))
+  certificate-on k s b h z so m hd =
+      let c = cert l stakes t k s b in
+      let bytes = certificateBytes c in
+      let r = reads-alone l stakes t k s b h so in
+      let good : (parts bytes ≡ c ∷ []) × (checkCertificate stakes bytes ≡ check.Accepted (acceptedFor l k s b)) =
+      (parts-one bytes c r, accepts-one stakes bytes (t .fits) c (length bytes) r (fine l stakes t k s b z so m hd) refl ∙ ap check.Accepted (true-answer l stakes t k s b z)) in
+      subst (λ (x : Certificate). (parts (certificateBytes x) ≡ x ∷ []) × (checkCertificate stakes (certificateBytes x) ≡ check.Accepted (acceptedFor l k s b)))
+      (sym (cert-is l stakes t k s b)) good
+
+  fast-on : (s b : ℕ) → b < 2 ^ 64 → slotOk s ≡ true → none b ≡ false → held l certificate.FastFinal s b ≡ true
+      → (parts (certificateBytes (certificateFor l certificate.FastFinal s b)) ≡ certificateFor l certificate.FastFinal s b ∷ [])
+      × (checkProof stakes (certificateBytes (certificateFor l certificate.FastFinal s b)) ≡ check.Accepted (acceptedFor l certificate.FastFinal s b))
+  unfolding isOtherKind blockMisfits
+  fast-on s b h so m hd =
+      let k = certificate.FastFinal in
+      let c = cert l stakes t k s b in
+      let bytes = certificateBytes c in
+      let r = reads-alone l stakes t k s b h so in
+      let good : (parts bytes ≡ c ∷ []) × (checkProof stakes bytes ≡ check.Accepted (acceptedFor l k s b)) = (
+        parts-one bytes c r,
+        accepts-fast stakes bytes (t .fits) c (length bytes) r (fine l stakes t k s b refl so m hd) (kind-back k refl) refl ∙ ap check.Accepted (true-answer l stakes t k s b refl),
+      ) in
+      subst (λ (x : Certificate). (parts (certificateBytes x) ≡ x ∷ []) × (checkProof stakes (certificateBytes x) ≡ check.Accepted (acceptedFor l k s b)))
+      (sym (cert-is l stakes t k s b)) good
+
+  slow-on : (s b : ℕ) → b < 2 ^ 64 → slotOk s ≡ true → none b ≡ false → held l certificate.Notar s b ≡ true → held l certificate.Final s 0 ≡ true
+      → (parts (certificateBytes (certificateFor l certificate.Notar s b) ++ certificateBytes (certificateFor l certificate.Final s 0))
+      ≡ certificateFor l certificate.Notar s b ∷ certificateFor l certificate.Final s 0 ∷ [])
+      × (checkProof stakes (certificateBytes (certificateFor l certificate.Notar s b) ++ certificateBytes (certificateFor l certificate.Final s 0))
+      ≡ check.Accepted (acceptedFor l certificate.Notar s b))
+  unfolding isOtherKind blockMisfits certificateNumber
+  slow-on s b h so m hn hf =
+      let k = certificate.Notar in
+      let c = cert l stakes t k s b in
+      let d = cert l stakes t certificate.Final s 0 in
+      let x = certificateBytes c in
+      let y = certificateBytes d in
+      let zero-lt : 0 < 2 ^ 64 = lit< tt in
+      let r = reads l stakes t k s b h so y in
+      let q = certificate-in (x ++ y) x d [] (length x) (ap (λ (z : List ℕ). x ++ z) (sym (append-nil y))) refl (fits64 l stakes t certificate.Final s 0 zero-lt so) in
+      let good : (parts (x ++ y) ≡ c ∷ d ∷ []) × (checkProof stakes (x ++ y) ≡ check.Accepted (acceptedFor l k s b)) = (
+        parts-two (x ++ y) c d (length x) (length x + length y) r q,
+        accepts-slow stakes (x ++ y) (t .fits) c d (length x) (length x + length y) r (fine l stakes t k s b refl so m hn) (kind-back k refl) q
+            (fine l stakes t certificate.Final s 0 refl so refl hf) refl refl (sym (length-append x y))
+            ∙ ap check.Accepted (true-answer l stakes t k s b refl),
+      ) in
+      subst (λ (v : Certificate). (parts (certificateBytes v ++ certificateBytes (certificateFor l certificate.Final s 0)) ≡ v ∷ certificateFor l certificate.Final s 0 ∷ [])
+      × (checkProof stakes (certificateBytes v ++ certificateBytes (certificateFor l certificate.Final s 0)) ≡ check.Accepted (acceptedFor l k s b)))
+      (sym (cert-is l stakes t k s b))
+      (subst (λ (w : Certificate). (parts (x ++ certificateBytes w) ≡ c ∷ w ∷ []) × (checkProof stakes (x ++ certificateBytes w) ≡ check.Accepted (acceptedFor l k s b)))
+      (sym (cert-is l stakes t certificate.Final s 0)) good)
+
+pub certificate-back : CertificateBack
+unfolding writeCertificate certificateVerdict
+certificate-back l stakes t room k s b n h e =
+    let bytes = certificateBytes (certificateFor l k s b) in
+    let v = wrote-fine (certificateVerdict l room k s b) bytes n e in
+    let p1 = passed (ltb room 32) refusal.NoRoom _ v in
+    let p2 = passed (isOtherKind k) refusal.BadKind _ (p1 .1) in
+    let p3 = passed (not (slotOk s)) refusal.BadSlot _ (p2 .1) in
+    let p4 = passed (blockMisfits k b) refusal.BadBlock _ (p3 .1) in
+    let p5 = passed (not (held l k s b)) refusal.NotHeld _ (p4 .1) in
+    subst (λ (x : List ℕ). (parts x ≡ certificateFor l k s b ∷ []) × (checkCertificate stakes x ≡ check.Accepted (acceptedFor l k s b)))
+    (sym (wrote-bytes (certificateVerdict l room k s b) bytes v))
+    (certificate-on l stakes t k s b h (p2 .0) (not-false (slotOk s) (p3 .0)) (p4 .0) (not-false (held l k s b) (p5 .0)))
+
+-- What is promised of the bytes of a proof.
+abbrev ProofOn : Ledger → List ℕ → ℕ → ℕ → List ℕ → List Certificate → CertificateKind → Type 0
+ProofOn l stakes s b bytes certs k = (parts bytes ≡ certs) × (checkProof stakes bytes ≡ check.Accepted (acceptedFor l k s b))
+
+pub proof-back : ProofBack
+unfolding writeProof proofVerdict proofBytes isFinal proofParts proofKind
+proof-back l stakes t room s b n h e =
+    let fast = held l certificate.FastFinal s b in
+    let slow = held l certificate.Notar s b && held l certificate.Final s 0 in
+    let c1 = certificateFor l certificate.FastFinal s b in
+    let c2 = certificateFor l certificate.Notar s b in
+    let c5 = certificateFor l certificate.Final s 0 in
+    let v = wrote-fine (proofVerdict l room s b) (proofBytes l s b) n e in
+    let p1 = passed (ltb room 64) refusal.NoRoom _ v in
+    let p2 = passed (not (slotOk s)) refusal.BadSlot _ (p1 .1) in
+    let p3 = passed (none b) refusal.BadBlock _ (p2 .1) in
+    let p4 = passed (not (fast || slow)) refusal.NotHeld _ (p3 .1) in
+    let so = not-false (slotOk s) (p2 .0) in
+    subst (λ (x : List ℕ). ProofOn l stakes s b x (proofParts l s b) (proofKind l s b)) (sym (wrote-bytes (proofVerdict l room s b) (proofBytes l s b) v))
+    (by-test fast
+    (λ f. rw (given-on fast (certificateBytes c2 ++ certificateBytes c5) (λ _. certificateBytes c1) f, given-on fast (c2 ∷ c5 ∷ []) (λ _. c1 ∷ []) f, choose-on fast certificate.FastFinal certificate.Notar f)
+    (fast-on l stakes t s b h so (p3 .0) f))
+    (λ f.
+    let w = and-both (held l certificate.Notar s b) (held l certificate.Final s 0)
+    (or-cases fast slow (not-false (fast || slow) (p4 .0)) (λ q. true-not-false fast q f) (λ q. q)) in
+    rw (given-off fast (certificateBytes c2 ++ certificateBytes c5) (λ _. certificateBytes c1) f, given-off fast (c2 ∷ c5 ∷ []) (λ _. c1 ∷ []) f, choose-off fast certificate.FastFinal certificate.Notar f)
+    (slow-on l stakes t s b h so (p3 .0) (w .0) (w .1))))

@@ -1,0 +1,57 @@
+-- One spelling: an accepted packet is the spelling of the certificates that it reads to.
+use mathlib.Core.Path.{_≡_, sym, ap, _∙_}
+use mathlib.Core.List.{List, [], _∷_, _++_, append-nil}
+use Prim.Native.Nat.{ℕ}
+use native.Mathlib.Nat.{le-refl}
+use lib.ListN.{length, drop}
+use lib.Seq.{drop-length}
+use Rattle.rulebook.specs.declared.Accepted.{Accepted}
+use Rattle.rulebook.specs.declared.Certificate.{Certificate}
+use Rattle.rulebook.specs.declared.Found.the-variants as found
+use Rattle.rulebook.specs.Packets.{certificateAt, certificateBytes}
+use Rattle.rulebook.proofs.NumberLaws.{certificate-read, certificate-whole}
+use Rattle.packets.specs.Promises.{Bytes, partFrom, parts, OneCertificate, OneProof}
+use Rattle.packets.proofs.Accepts.{Proven, one, two, accepted-single, accepted-proof, past-end}
+
+-- Certificates, one after the other.
+spelled : List Certificate → List ℕ
+spelled [] = []
+spelled (c ∷ cs) = certificateBytes c ++ spelled cs
+
+-- A packet of one certificate, and one of two.
+pub parts-one : (packet : List ℕ) (c : Certificate) → certificateAt packet 0 ≡ found.Whole c (length packet) → parts packet ≡ c ∷ []
+unfolding parts partFrom
+parts-one packet c e = rw e (rw (past-end packet (length packet) (le-refl (length packet))))
+
+pub parts-two : (packet : List ℕ) (c d : Certificate) (n m : ℕ) → certificateAt packet 0 ≡ found.Whole c n → certificateAt packet n ≡ found.Whole d m
+    → parts packet ≡ c ∷ d ∷ []
+unfolding parts partFrom
+parts-two packet c d n m e f = rw e (rw f)
+
+one-spelled : (packet : List ℕ) (c : Certificate) → Bytes packet → certificateAt packet 0 ≡ found.Whole c (length packet) → packet ≡ spelled (parts packet)
+unfolding spelled
+one-spelled packet c h e = certificate-whole packet c h e ∙ sym (ap spelled (parts-one packet c e) ∙ append-nil (certificateBytes c))
+
+two-spelled : (packet : List ℕ) (c d : Certificate) (n : ℕ) → Bytes packet → certificateAt packet 0 ≡ found.Whole c n
+    → certificateAt packet n ≡ found.Whole d (length packet) → packet ≡ spelled (parts packet)
+unfolding spelled
+two-spelled packet c d n h e f =
+    let rest : drop n packet ≡ certificateBytes d ++ [] =
+    certificate-read packet n d (length packet) f .spelled h ∙ ap (λ (x : List ℕ). certificateBytes d ++ x) (drop-length packet) in
+    certificate-read packet 0 c n e .spelled h ∙ ap (λ (x : List ℕ). certificateBytes c ++ x) rest
+    ∙ sym (ap spelled (parts-two packet c d n (length packet) e f))
+
+proven-spelled : (stakes packet : List ℕ) (a : Accepted) → Bytes packet → Proven stakes packet a → packet ≡ spelled (parts packet)
+proven-spelled stakes packet a h (one c e j q) = one-spelled packet c h e
+proven-spelled stakes packet a h (two c d n e j q f) = two-spelled packet c d n h e f
+
+pub one-certificate : OneCertificate
+one-certificate stakes others p q a b hp hq ep eq same =
+    let x = accepted-single stakes p a ep in
+    let y = accepted-single others q b eq in
+    one-spelled p (x .first) hp (x .read) ∙ ap spelled same ∙ sym (one-spelled q (y .first) hq (y .read))
+
+pub one-proof : OneProof
+one-proof stakes others p q a b hp hq ep eq same =
+    proven-spelled stakes p a hp (accepted-proof stakes p a ep) ∙ ap spelled same
+    ∙ sym (proven-spelled others q b hq (accepted-proof others q b eq))
