@@ -2,9 +2,9 @@
 // record through these functions.
 ghost use mathlib.Core.Path.{_≡_};
 ghost use mathlib.Core.Bool.{not};
-ghost use Prim.Native.Nat.{_<_};
+ghost use Prim.Native.Nat.{_<_, suc};
 ghost use lib.ListN.{length, getD, take, replicate};
-ghost use Rattle.rulebook.specs.Weights.{mostNodes, windows, stakeIn};
+ghost use Rattle.rulebook.specs.Weights.{mostNodes, lastSlot, windows, stakeIn};
 ghost use Rattle.rulebook.specs.Ledger.{none, rowAt, cellAt, ownCell, isArmed, putCell, putKept, putTimedOut, putFinal, putArmed};
 ghost use Rattle.rulebook.specs.Pool.{hasFallback};
 ghost use Rattle.rulebook.specs.Votes.{placeIf, placeOf, fillFallback, withVote, storeVote};
@@ -18,12 +18,17 @@ use rulebook::Slot;
 use rulebook::VoteKind;
 use rulebook::Weight;
 
-// The layout: 4 numbers, 4 armed windows, 64 stakes; then 17 rows of 5 words and 64 cells of 7 words.
-const NODES: usize = 64;
+// "There are up to 64 nodes"; "Slots 1 to 16, windows of 4".
+pub const NODES: usize = 64;
 
+pub const LAST_SLOT: usize = 16;
+
+pub const WINDOWS: usize = 4;
+
+// The layout: 4 numbers, the armed windows, the stakes; then a row for slot 0 and each slot: 5 words, and 7 for each node.
 const ARMED_START: usize = 4;
 
-const STAKE_START: usize = 8;
+const STAKE_START: usize = ARMED_START + WINDOWS;
 
 const HEAD_WORDS: usize = STAKE_START + NODES;
 
@@ -33,16 +38,18 @@ const ROW_HEAD: usize = 5;
 
 const ROW_WORDS: usize = ROW_HEAD + CELL_WORDS * NODES;
 
+const RECORD_WORDS: usize = HEAD_WORDS + ROW_WORDS * (LAST_SLOT + 1);
+
 // How many words the host lends a node.
 pub fn record_words() -> usize
     ensures { λ r. ⌜ r ≡ recordWords ⌝ }
 {
-    HEAD_WORDS + ROW_WORDS * 17
+    RECORD_WORDS
 }
 
 // The first word of a slot's row.
 fn row_start(s: Slot) -> usize
-    requires { ⌜ s .0 < 17 ⌝ }
+    requires { ⌜ s .0 < suc lastSlot ⌝ }
     ensures { λ r. ⌜ r ≡ rowStart (s .0) ⌝ }
 {
     HEAD_WORDS + ROW_WORDS * s.0
@@ -50,7 +57,7 @@ fn row_start(s: Slot) -> usize
 
 // The first word of a node's cell in a slot's row.
 fn cell_start(s: Slot, n: Node) -> usize
-    requires { ⌜ (s .0 < 17) × (n .0 < mostNodes) ⌝ }
+    requires { ⌜ (s .0 < suc lastSlot) × (n .0 < mostNodes) ⌝ }
     ensures { λ r. ⌜ r ≡ cellStart (s .0) (n .0) ⌝ }
 {
     row_start(s) + ROW_HEAD + CELL_WORDS * n.0

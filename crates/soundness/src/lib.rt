@@ -12,6 +12,9 @@ ghost use Rattle.rulebook.specs.WellFormed.{flag, inOrder, cellFits, cellBlank,
 ghost use Rattle.record.specs.Layout.{recordWords, InSlot, ledgerOf};
 ghost use Rattle.soundness.specs.Sound.{soundWords, TableOf};
 ghost use Rattle.soundness.specs.Starting.{SetUp, StartOf};
+use record::LAST_SLOT;
+use record::NODES;
+use record::WINDOWS;
 use record::armed_word;
 use record::clear;
 use record::count;
@@ -78,7 +81,7 @@ fn cells_fit(rec: &[u64], s: Slot, used: usize) -> bool
     ensures { λ r. ⌜ r ≡ cellsFit (ledgerOf (now (rec .entry))) (s .0) used ⌝ }
 {
     let mut ok = true;
-    for n in 0..64 {
+    for n in 0..NODES {
         let c = load_cell(rec, s, Node(n));
         let here = place_fits(c, n < used);
         ok = ok & here;
@@ -140,7 +143,7 @@ fn rows_fit(rec: &[u64]) -> bool
     ensures { λ r. ⌜ r ≡ allTo lastSlot (λ i. rowFits (ledgerOf (now (rec .entry))) (suc i)) ⌝ }
 {
     let mut ok = true;
-    for i in 0..16 {
+    for i in 0..LAST_SLOT {
         let here = row_fits(rec, Slot(i + 1));
         ok = ok & here;
     }
@@ -152,7 +155,7 @@ fn stakes_fit(rec: &[u64]) -> bool
     requires { ⌜ length (now rec) ≡ recordWords ⌝ }
     ensures { λ r. ⌜ r ≡ (stakesFit (ledgerOf (now (rec .entry)) .stakes) (ledgerOf (now (rec .entry)) .count) && eqb (totalTo (ledgerOf (now (rec .entry)) .stakes) (ledgerOf (now (rec .entry)) .count)) (ledgerOf (now (rec .entry)) .total)) ⌝ }
 {
-    if 64 < count(rec) {
+    if NODES < count(rec) {
         return false;
     }
     let made = make_table(stakes_of(rec));
@@ -168,7 +171,7 @@ fn armed_fits(rec: &[u64]) -> bool
     ensures { λ r. ⌜ r ≡ allTo windows (λ w. flag (getD (ledgerOf (now (rec .entry)) .armed) w 0)) ⌝ }
 {
     let mut ok = true;
-    for w in 0..4 {
+    for w in 0..WINDOWS {
         ok = ok & (armed_word(rec, w) <= 1);
     }
     ok
@@ -181,7 +184,7 @@ fn rest_fits(rec: &[u64]) -> bool
 {
     let m = count(rec);
     let mut ok = true;
-    for n in 0..64 {
+    for n in 0..NODES {
         let w = stake(rec, Node(n));
         ok = ok & ((n < m) | (w.0 == 0));
     }
