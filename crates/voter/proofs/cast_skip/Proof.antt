@@ -1,16 +1,13 @@
-use Rattle.voter.proofs.CastLaws.{skip-on, skip-off, skip-comes}
-use Rattle.voter.proofs.LiveLaws.{live-placed, live-castable, onward, onward-none}
-use Rattle.voter.proofs.OutboxLaws.{moved-is}
-use Rattle.voter.specs.Outbox.{stateIn}
+-- The skip where there is no own initial vote; paid from the potential.
+use mathlib.Core.Path.{_∙_, ap, sym}
+use borrow.Author.Needs.{needs}
 use Rattle.rulebook.specs.Rules.{State}
 use Rattle.rulebook.specs.Ledger.{noInitial}
 use Rattle.rulebook.specs.declared.Cell.{Cell}
-use mathlib.Core.Path.{_≡_, refl, _∙_, ap, sym}
-use mathlib.Core.Bool.{Bool, true, false}
-use mathlib.Core.Logic.{⊎-elim}
-use Prim.Native.Nat.{ℕ, _+_, _-_, _*_, _^_, _≤_, _<_}
-use native.Mathlib.Omega.{arith}
-use borrow.Author.Needs.{needs}
+use Rattle.voter.proofs.CastLaws.{skip-on, skip-off, skip-comes}
+use Rattle.voter.proofs.LiveLaws.{live-placed, onward, onward-none}
+use Rattle.voter.proofs.OutboxLaws.{moved-is}
+use Rattle.voter.specs.Outbox.{stateIn}
 use Rattle.voter.proofs.cast_skip.Statement.{statement}
 use Rattle.voter.proofs.cast_skip.Tie as tie
 

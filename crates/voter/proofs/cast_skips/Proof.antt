@@ -1,14 +1,10 @@
-use Prim.Native.Nat.{_/_}
+-- Four skips from the window's first slot on, one after the other.
+use Prim.Native.Nat.{_/_, ℕ, _+_, _-_, _*_}
+use borrow.Author.Needs.{needs}
+use Rattle.rulebook.specs.Rules.{State, castSkip}
 use Rattle.voter.proofs.CastLaws.{skips-from, first-is}
 use Rattle.voter.proofs.LiveLaws.{onward-is, onward-then}
 use Rattle.voter.specs.Outbox.{stateIn}
-use Rattle.rulebook.specs.Rules.{State, castSkip}
-use mathlib.Core.Path.{_≡_, refl, _∙_, ap, sym}
-use mathlib.Core.Bool.{Bool, true, false}
-use mathlib.Core.Logic.{⊎-elim}
-use Prim.Native.Nat.{ℕ, _+_, _-_, _*_, _^_, _≤_, _<_}
-use native.Mathlib.Omega.{arith}
-use borrow.Author.Needs.{needs}
 use Rattle.voter.proofs.cast_skips.Statement.{statement}
 use Rattle.voter.proofs.cast_skips.Tie as tie
 

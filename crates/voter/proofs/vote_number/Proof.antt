@@ -1,14 +1,8 @@
-use Rattle.rulebook.specs.PaperNumbers.{voteNumber}
-use mathlib.Core.Path.{_≡_, refl, _∙_, ap, sym}
-use mathlib.Core.Bool.{Bool, true, false}
-use mathlib.Core.Logic.{⊎-elim}
-use Prim.Native.Nat.{ℕ, _+_, _-_, _*_, _^_, _≤_, _<_}
-use native.Mathlib.Omega.{arith}
+-- The number of each kind.
 use borrow.Author.Needs.{needs}
+use Rattle.rulebook.specs.PaperNumbers.{voteNumber}
 use Rattle.voter.proofs.vote_number.Statement.{statement}
 use Rattle.voter.proofs.vote_number.Tie as tie
-use Rattle.voter.proofs.vote_number.Reads as reads
-use Rattle.voter.proofs.vote_number.Lts as lts
 
 enum-told : tie.Need-enum-told
 enum-told c = search needs

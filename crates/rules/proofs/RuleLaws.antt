@@ -1,0 +1,184 @@
+-- Each rule by the ways through its tests: what code that has gone such a way cites. Assumes nothing.
+use mathlib.Core.Path.{_≡_, refl, sym, ap, _∙_}
+use mathlib.Core.Bool.{Bool, true, false, not, _&&_, _||_}
+use Prim.Native.Nat.{ℕ, zero, suc, _+_, _-_, _≤_}
+use lib.Dec.{eqb}
+use borrow.Author.Tests.{ne-eqb}
+use Rattle.rulebook.specs.declared.Cell.{Cell}
+use Rattle.rulebook.specs.declared.Block.{Block}
+use Rattle.rulebook.specs.declared.VoteKind.the-variants as vote
+use Rattle.rulebook.specs.declared.CertificateKind.the-variants as certificate
+use Rattle.rulebook.specs.Tools.{given, lowest}
+use Rattle.rulebook.specs.Weights.{lastSlot, isFirst}
+use Rattle.rulebook.specs.Ledger.{Ledger, none, noInitial, rowAt, ownCell, isArmed, putArmed, putFinal}
+use Rattle.rulebook.specs.Pool.{held, names, ready, someReady}
+use Rattle.rulebook.specs.Run.{ruleAt}
+use Rattle.rulebook.specs.Rules.{State, report, cast, castSkip, castSkips, ruleA, ruleB, ruleC, ruleD, ruleE, ruleF, parentFits, mayFinal, mayFallback, fallbackBlock, castFallback, windowOpen, maySkipFallback, skipWeights, castSkipFallback, isFinal}
+use Rattle.rulebook.proofs.ToolLaws.{given-on, given-off}
+use Rattle.settling.specs.Steps.{Placed, Came}
+use Rattle.settling.proofs.LawfulRules.{fallback-keeps, skipFallback-keeps}
+use Rattle.settling.proofs.Spending.{came-self, came-lawful}
+
+module _ (o : State) (s : ℕ) where
+  -- ---- A
+
+  abbrev mayArm : Bool
+  mayArm = isFirst s && not (isArmed (o .ledger) s)
+
+  pub A-on : mayArm ≡ true → someReady (o .ledger) s ≡ true → ruleA o s ≡ report o (putArmed (o .ledger) s) 7 s 0
+  unfolding ruleA
+  A-on e f = given-on mayArm o _ e ∙ given-on (someReady (o .ledger) s) o (λ _. report o (putArmed (o .ledger) s) 7 s 0) f
+
+  pub A-none : mayArm ≡ true → someReady (o .ledger) s ≡ false → ruleA o s ≡ o
+  unfolding ruleA
+  A-none e f = given-on mayArm o _ e ∙ given-off (someReady (o .ledger) s) o (λ _. report o (putArmed (o .ledger) s) 7 s 0) f
+
+  pub A-off : mayArm ≡ false → ruleA o s ≡ o
+  unfolding ruleA
+  A-off e = given-off mayArm o _ e
+
+  -- ---- B
+
+  abbrev mayNotar : Bool
+  mayNotar = noInitial (ownCell (o .ledger) s) && not (none (rowAt (o .ledger) s .kept .number))
+
+  abbrev parentDoes : Bool
+  parentDoes = parentFits (o .ledger) s (isFirst s) (rowAt (o .ledger) s .kept)
+
+  pub B-on : mayNotar ≡ true → parentDoes ≡ true → ruleB o s ≡ cast o s vote.Notar (rowAt (o .ledger) s .kept .number)
+  unfolding ruleB
+  B-on e f = given-on mayNotar o _ e ∙ given-on parentDoes o (λ _. cast o s vote.Notar (rowAt (o .ledger) s .kept .number)) f
+
+  pub B-none : mayNotar ≡ true → parentDoes ≡ false → ruleB o s ≡ o
+  unfolding ruleB
+  B-none e f = given-on mayNotar o _ e ∙ given-off parentDoes o (λ _. cast o s vote.Notar (rowAt (o .ledger) s .kept .number)) f
+
+  pub B-off : mayNotar ≡ false → ruleB o s ≡ o
+  unfolding ruleB
+  B-off e = given-off mayNotar o _ e
+
+  -- ---- C
+
+  abbrev certified : Bool
+  certified = held (o .ledger) certificate.Notar s (ownCell (o .ledger) s .notar)
+
+  pub C-on : mayFinal (ownCell (o .ledger) s) ≡ true → certified ≡ true → ruleC o s ≡ cast o s vote.Final 0
+  unfolding ruleC
+  C-on e f = given-on (mayFinal (ownCell (o .ledger) s)) o _ e ∙ given-on certified o (λ _. cast o s vote.Final 0) f
+
+  pub C-none : mayFinal (ownCell (o .ledger) s) ≡ true → certified ≡ false → ruleC o s ≡ o
+  unfolding ruleC
+  C-none e f = given-on (mayFinal (ownCell (o .ledger) s)) o _ e ∙ given-off certified o (λ _. cast o s vote.Final 0) f
+
+  pub C-off : mayFinal (ownCell (o .ledger) s) ≡ false → ruleC o s ≡ o
+  unfolding ruleC
+  C-off e = given-off (mayFinal (ownCell (o .ledger) s)) o _ e
+
+  -- ---- D
+
+  pub fallback-on : (b : ℕ) → mayFallback (ownCell (castSkips o s .ledger) s) b ≡ true → castFallback o s b ≡ cast (castSkips o s) s vote.NotarFallback b
+  unfolding castFallback
+  fallback-on b e = given-on (mayFallback (ownCell (castSkips o s .ledger) s) b) (castSkips o s) (λ _. cast (castSkips o s) s vote.NotarFallback b) e
+
+  pub fallback-off : (b : ℕ) → mayFallback (ownCell (castSkips o s .ledger) s) b ≡ false → castFallback o s b ≡ castSkips o s
+  unfolding castFallback
+  fallback-off b e = given-off (mayFallback (ownCell (castSkips o s .ledger) s) b) (castSkips o s) (λ _. cast (castSkips o s) s vote.NotarFallback b) e
+
+  pub D-on : noInitial (ownCell (o .ledger) s) ≡ false → none (fallbackBlock (o .ledger) s) ≡ false → ruleD o s ≡ castFallback o s (fallbackBlock (o .ledger) s)
+  unfolding ruleD
+  D-on e f =
+      given-on (not (noInitial (ownCell (o .ledger) s))) o _ (ap not e)
+      ∙ given-on (not (none (fallbackBlock (o .ledger) s))) o (λ _. castFallback o s (fallbackBlock (o .ledger) s)) (ap not f)
+
+  pub D-none : noInitial (ownCell (o .ledger) s) ≡ false → none (fallbackBlock (o .ledger) s) ≡ true → ruleD o s ≡ o
+  unfolding ruleD
+  D-none e f =
+      given-on (not (noInitial (ownCell (o .ledger) s))) o _ (ap not e)
+      ∙ given-off (not (none (fallbackBlock (o .ledger) s))) o (λ _. castFallback o s (fallbackBlock (o .ledger) s)) (ap not f)
+
+  pub D-off : noInitial (ownCell (o .ledger) s) ≡ true → ruleD o s ≡ o
+  unfolding ruleD
+  D-off e = given-off (not (noInitial (ownCell (o .ledger) s))) o _ (ap not e)
+
+  -- ---- E
+
+  pub skipFallback-on : maySkipFallback (ownCell (castSkips o s .ledger) s) ≡ true → castSkipFallback o s ≡ cast (castSkips o s) s vote.SkipFallback 0
+  unfolding castSkipFallback
+  skipFallback-on e = given-on (maySkipFallback (ownCell (castSkips o s .ledger) s)) (castSkips o s) (λ _. cast (castSkips o s) s vote.SkipFallback 0) e
+
+  pub skipFallback-off : maySkipFallback (ownCell (castSkips o s .ledger) s) ≡ false → castSkipFallback o s ≡ castSkips o s
+  unfolding castSkipFallback
+  skipFallback-off e = given-off (maySkipFallback (ownCell (castSkips o s .ledger) s)) (castSkips o s) (λ _. cast (castSkips o s) s vote.SkipFallback 0) e
+
+  abbrev maySkip : Bool
+  maySkip = not (none (ownCell (o .ledger) s .notar)) && (windowOpen (o .ledger) s || maySkipFallback (ownCell (o .ledger) s))
+
+  pub E-on : maySkip ≡ true → skipWeights (o .ledger) s ≡ true → ruleE o s ≡ castSkipFallback o s
+  unfolding ruleE
+  E-on e f = given-on maySkip o _ e ∙ given-on (skipWeights (o .ledger) s) o (λ _. castSkipFallback o s) f
+
+  pub E-none : maySkip ≡ true → skipWeights (o .ledger) s ≡ false → ruleE o s ≡ o
+  unfolding ruleE
+  E-none e f = given-on maySkip o _ e ∙ given-off (skipWeights (o .ledger) s) o (λ _. castSkipFallback o s) f
+
+  pub E-off : maySkip ≡ false → ruleE o s ≡ o
+  unfolding ruleE
+  E-off e = given-off maySkip o _ e
+
+  -- ---- F
+
+  abbrev finalIn : ℕ
+  finalIn = lowest (isFinal (o .ledger) s) (names (o .ledger) s)
+
+  pub F-on : none (rowAt (o .ledger) s .final) ≡ true → none finalIn ≡ false → ruleF o s ≡ report o (putFinal (o .ledger) s finalIn) 6 s finalIn
+  unfolding ruleF
+  F-on e f =
+      given-on (none (rowAt (o .ledger) s .final)) o _ e
+      ∙ given-on (not (none finalIn)) o (λ _. report o (putFinal (o .ledger) s finalIn) 6 s finalIn) (ap not f)
+
+  pub F-none : none (rowAt (o .ledger) s .final) ≡ true → none finalIn ≡ true → ruleF o s ≡ o
+  unfolding ruleF
+  F-none e f =
+      given-on (none (rowAt (o .ledger) s .final)) o _ e
+      ∙ given-off (not (none finalIn)) o (λ _. report o (putFinal (o .ledger) s finalIn) 6 s finalIn) (ap not f)
+
+  pub F-off : none (rowAt (o .ledger) s .final) ≡ false → ruleF o s ≡ o
+  unfolding ruleF
+  F-off e = given-off (none (rowAt (o .ledger) s .final)) o _ e
+
+-- ---- what D and E cast is paid from the potential
+
+module _ (o : State) (s : ℕ) (h : Placed (o .ledger)) (low : 1 ≤ s) (high : s ≤ lastSlot) where
+  pub fallback-comes : (b : ℕ) → (b ≡ 0 → ⊥) → Came o (castFallback o s b)
+  fallback-comes b ne = fallback-keeps (Came o) (came-lawful o) s low high o b (ne-eqb b 0 ne) (came-self o h)
+
+  pub skipFallback-comes : Came o (castSkipFallback o s)
+  skipFallback-comes = skipFallback-keeps (Came o) (came-lawful o) s low high o (came-self o h)
+
+-- ---- tests as code computes them
+
+-- B's first test, from what was loaded.
+pub may-notar : (c d : Cell) (b k : Block) (r x : Bool) → c ≡ d → b ≡ k → r ≡ noInitial c → (r && not (none (b .number))) ≡ x
+    → (noInitial d && not (none (k .number))) ≡ x
+may-notar c d b k r x ec eb er ex = sym (λ i. noInitial (ec i) && not (none (eb i .number))) ∙ sym (ap (λ (y : Bool). y && not (none (b .number))) er) ∙ ex
+
+-- B's parent, in a first slot and in another.
+pub parent-first : (l : Ledger) (s : ℕ) (b : Block) → isFirst s ≡ true → ready l s (b .parentslot .0) (b .parent) ≡ parentFits l s (isFirst s) b
+unfolding parentFits
+parent-first l s b e = rw e
+
+pub parent-later : (l : Ledger) (s : ℕ) (b : Block) → isFirst s ≡ false
+    → (eqb (b .parentslot .0) (s - 1) && eqb (ownCell l (s - 1) .notar) (b .parent)) ≡ parentFits l s (isFirst s) b
+unfolding parentFits
+parent-later l s b e = rw e
+
+-- There is no seventh rule.
+pub rule-beyond : (r : ℕ) (o : State) (s : ℕ) → (r ≡ 0 → ⊥) → (r ≡ 1 → ⊥) → (r ≡ 2 → ⊥) → (r ≡ 3 → ⊥) → (r ≡ 4 → ⊥) → (r ≡ 5 → ⊥) → o ≡ ruleAt r o s
+unfolding ruleAt
+rule-beyond zero o s a b c d e f = absurd (a refl)
+rule-beyond (suc zero) o s a b c d e f = absurd (b refl)
+rule-beyond (suc (suc zero)) o s a b c d e f = absurd (c refl)
+rule-beyond (suc (suc (suc zero))) o s a b c d e f = absurd (d refl)
+rule-beyond (suc (suc (suc (suc zero)))) o s a b c d e f = absurd (e refl)
+rule-beyond (suc (suc (suc (suc (suc zero))))) o s a b c d e f = absurd (f refl)
+rule-beyond (suc (suc (suc (suc (suc (suc r)))))) o s a b c d e f = refl

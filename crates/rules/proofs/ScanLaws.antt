@@ -1,0 +1,175 @@
+-- The search for the first rule that applies and the run, as the loops go through them over the lent memory. Assumes nothing.
+use mathlib.Core.Path.{_≡_, refl, sym, ap, _∙_, subst}
+use mathlib.Core.List.{List}
+use Prim.Native.Nat.{ℕ, suc, _+_, _*_, _≤_, _<_}
+use native.Mathlib.Omega.{arith}
+use lib.ListN.{length}
+use Rattle.rulebook.specs.Weights.{lastSlot}
+use Rattle.rulebook.specs.Rules.{State}
+use Rattle.rulebook.specs.Run.{made, ruleAt, scan, run}
+use Rattle.stakes.specs.declared.StakeTable.{StakeTable}
+use Rattle.record.specs.Layout.{ledgerOf}
+use Rattle.pool.specs.Weighing.{Tabled}
+use Rattle.settling.specs.Spare.{spare}
+use Rattle.settling.specs.Steps.{Placed, SameNode, Came, Passed, Running}
+use Rattle.settling.proofs.Spending.{rule-comes, scan-comes}
+use Rattle.settling.proofs.Search.{passed-start, passed-quiet, passed-slot, passed-found, passed-none}
+use Rattle.settling.proofs.Settling.{running-start, running-more, running-less, running-done}
+use Rattle.voter.specs.Outbox.{recordsIn, stateIn, Moved}
+use Rattle.voter.specs.Voting.{Live, LiveAt, Onward}
+use Rattle.voter.proofs.OutboxLaws.{made-in}
+use Rattle.voter.proofs.LiveLaws.{live-placed, onward-none, onward-is, onward-then}
+use Rattle.rules.specs.UnderWay.{UnderWay, UnderWayAt}
+
+-- The table stays the node's.
+pub under-way : {t : StakeTable} {ws out ws' left : List ℕ} {at now : ℕ} {q : State} → Tabled (ledgerOf ws) t
+    → Onward ws out at ws' left now q → UnderWay t ws' left now
+under-way h a =
+    record {
+      live = a .live;
+      table =
+          record {
+            fit = h .fit;
+            own = a .live .own;
+            count = h .count ∙ sym (a .same .count);
+            total = h .total ∙ sym (a .same .total);
+            stakes = h .stakes ∙ sym (a .same .stakes);
+          };
+    }
+
+pub under-way-at : {t : StakeTable} {ws out : List ℕ} {at s : ℕ} → UnderWay t ws out at → 1 ≤ s → s ≤ lastSlot → UnderWayAt t ws out at s
+under-way-at v a b = record { live = record { live = v .live; low = a; high = b }; table = v .table }
+
+-- As many records as the outbox holds.
+pub moved-made : {ws out ws' left : List ℕ} {at now : ℕ} {q : State} → Moved ws out at ws' left now q → made q ≡ now
+moved-made {left = left} {now = now} m = sym (ap (λ (x : State). length (x .records)) (m .is)) ∙ made-in left now
+
+-- ---- one rule more, from memory that still holds the state of the scan's start
+
+module _ {ws out ws' out' ws'' out'' : List ℕ} {at now now' : ℕ} (s r : ℕ) (v : Live ws out at) (low : 1 ≤ s) (high : s ≤ lastSlot)
+    (held : Onward ws out at ws' out' now (stateIn ws out at))
+    (took : Onward ws' out' now ws'' out'' now' (ruleAt r (stateIn ws' out' now) s)) where
+  pub ruled : Onward ws out at ws'' out'' now' (ruleAt r (stateIn ws out at) s)
+  ruled = onward-then (λ (x : State). ruleAt r x s) held took
+
+  quiet-made : now' ≡ at → made (ruleAt r (stateIn ws out at) s) ≡ made (stateIn ws out at)
+  quiet-made e = moved-made (ruled .moved) ∙ e ∙ sym (made-in out at)
+
+  -- It made no record: the memory holds the same state.
+  pub still-held : now' ≡ at → Onward ws out at ws'' out'' now' (stateIn ws out at)
+  still-held e = onward-is ruled (rule-comes (stateIn ws out at) (live-placed v) s low high r .still (quiet-made e))
+
+  pub rule-passed : now' ≡ at → Passed (stateIn ws out at) s r → Passed (stateIn ws out at) s (r + 1)
+  rule-passed e h = passed-quiet (stateIn ws out at) s r (live-placed v) low high h (quiet-made e)
+
+  -- It made one: it is the first that applies.
+  pub rule-found : (now' ≡ at → ⊥) → r < 6 → Passed (stateIn ws out at) s r → Onward ws out at ws'' out'' now' (scan (stateIn ws out at))
+  rule-found ne few h =
+      onward-is ruled
+      (sym (passed-found (stateIn ws out at) s r low high few h (λ e. ne (sym (moved-made (ruled .moved)) ∙ e ∙ made-in out at))))
+
+-- All slots are passed: no rule applies.
+pub none-found : {ws out ws' left : List ℕ} {at now : ℕ} → Onward ws out at ws' left now (stateIn ws out at)
+    → Passed (stateIn ws out at) 17 0 → Onward ws out at ws' left now (scan (stateIn ws out at))
+none-found {ws = ws} {out = out} {at = at} a h = onward-is a (sym (passed-none (stateIn ws out at) h))
+
+-- ---- the invariants of the two loops: the memory still holds the state of the scan's start, and what was tried does not apply
+
+pub record Trying (ws out : List ℕ) (at : ℕ) (ws' left : List ℕ) (now s r : ℕ) : Type 0 where
+  pub few : r ≤ 6
+  pub still : now ≡ at
+  pub kept : length left ≡ length out
+  pub held : Onward ws out at ws' left now (stateIn ws out at)
+  pub passed : Passed (stateIn ws out at) s r
+
+pub record Searching (ws out : List ℕ) (at : ℕ) (ws' left : List ℕ) (now s : ℕ) : Type 0 where
+  pub low : 1 ≤ s
+  pub high : s ≤ 17
+  pub still : now ≡ at
+  pub kept : length left ≡ length out
+  pub held : Onward ws out at ws' left now (stateIn ws out at)
+  pub passed : Passed (stateIn ws out at) s 0
+
+-- The search begins at slot 1.
+pub searching-start : {ws out : List ℕ} {at : ℕ} → Live ws out at → Searching ws out at ws out at 1
+searching-start {ws = ws} {out = out} {at = at} v =
+    record {
+      low = omega arith;
+      high = omega arith;
+      still = refl;
+      kept = refl;
+      held = onward-none v refl;
+      passed = passed-start (stateIn ws out at);
+    }
+
+module _ {ws out ws' out' : List ℕ} {at now s : ℕ} (h : Searching ws out at ws' out' now s) where
+  -- A slot's rules begin at rule A.
+  pub trying-start : Trying ws' out' now ws' out' now s 0
+  trying-start =
+      record {
+        few = omega arith;
+        still = refl;
+        kept = refl;
+        held = onward-none (h .held .live) refl;
+        passed = subst (λ (x : State). Passed x s 0) (sym (h .held .moved .is)) (h .passed);
+      }
+
+  -- All six were tried: on to the next slot.
+  pub searching-more : {ws'' out'' : List ℕ} {now' r : ℕ} → s < 17 → 6 ≤ r → Trying ws' out' now ws'' out'' now' s r → Searching ws out at ws'' out'' now' (s + 1)
+  searching-more {r = r} b six t =
+      let e : r ≡ 6 = omega (arith, t .few) in
+      record {
+        low = omega (arith, h .low);
+        high = omega arith;
+        still = t .still ∙ h .still;
+        kept = t .kept ∙ h .kept;
+        held = onward-then (λ (x : State). x) (h .held) (t .held);
+        passed =
+            passed-slot (stateIn ws out at) s
+            (subst (λ (x : State). Passed x s 6) (h .held .moved .is) (subst (λ (i : ℕ). Passed (stateIn ws' out' now) s i) e (t .passed)));
+      }
+
+  -- All slots were searched.
+  pub searching-end : 17 ≤ s → Onward ws out at ws' out' now (scan (stateIn ws out at))
+  searching-end b = let e : s ≡ 17 = omega (arith, h .high) in none-found (h .held) (subst (λ (i : ℕ). Passed (stateIn ws out at) i 0) e (h .passed))
+
+-- ---- the invariant of settling: the memory holds a state that the run goes through
+
+pub record Settling (ws out : List ℕ) (at : ℕ) (ws' left : List ℕ) (now : ℕ) : Type 0 where
+  pub kept : length left ≡ length out
+  pub held : Onward ws out at ws' left now (stateIn ws' left now)
+  pub going : Running (stateIn ws out at) (stateIn ws' left now)
+
+pub settling-start : {ws out : List ℕ} {at : ℕ} → Live ws out at → Settling ws out at ws out at
+settling-start {ws = ws} {out = out} {at = at} v =
+    record { kept = refl; held = onward-none v refl; going = running-start (stateIn ws out at) (live-placed v) }
+
+-- ---- one scan more
+
+module _ {ws out ws' out' ws'' out'' : List ℕ} {at now now' : ℕ} (h : Settling ws out at ws' out' now)
+    (took : Onward ws' out' now ws'' out'' now' (scan (stateIn ws' out' now))) where
+  fresh-made : (now' ≡ now → ⊥) → made (stateIn ws'' out'' now') ≡ made (stateIn ws' out' now) → ⊥
+  fresh-made ne e = ne (sym (made-in out'' now') ∙ e ∙ made-in out' now)
+
+  -- It made a record: the run goes on, and the potential is less.
+  pub settling-more : length out'' ≡ length out' → (now' ≡ now → ⊥) → Settling ws out at ws'' out'' now'
+  settling-more e ne =
+      record {
+        kept = e ∙ h .kept;
+        held = onward-then (λ (x : State). stateIn ws'' out'' now') (h .held) (onward-is took (sym (took .moved .is)));
+        going = running-more (stateIn ws out at) (stateIn ws' out' now) (stateIn ws'' out'' now') (h .going) (took .moved .is) (fresh-made ne);
+      }
+
+  pub settling-less : (now' ≡ now → ⊥) → spare (ledgerOf ws'') < spare (ledgerOf ws')
+  settling-less ne = running-less (stateIn ws out at) (stateIn ws' out' now) (stateIn ws'' out'' now') (h .going) (took .moved .is) (fresh-made ne)
+
+  -- It made none: the memory holds what the run gives.
+  pub settling-done : now' ≡ now → Onward ws out at ws'' out'' now (run (stateIn ws out at))
+  settling-done e =
+      let same : made (scan (stateIn ws' out' now)) ≡ made (stateIn ws' out' now) = moved-made (took .moved) ∙ e ∙ sym (made-in out' now) in
+      let quiet : made (stateIn ws'' out'' now') ≡ made (stateIn ws' out' now) = made-in out'' now' ∙ e ∙ sym (made-in out' now) in
+      let ran : run (stateIn ws out at) ≡ stateIn ws' out' now =
+      running-done (stateIn ws out at) (stateIn ws' out' now) (stateIn ws'' out'' now') (h .going) (took .moved .is) quiet in
+      let stays : scan (stateIn ws' out' now) ≡ stateIn ws' out' now = scan-comes (stateIn ws' out' now) (h .going .came .placed) .still same in
+      subst (λ (n : ℕ). Onward ws out at ws'' out'' n (run (stateIn ws out at))) e
+      (onward-is (onward-then (λ (x : State). scan x) (h .held) took) (stays ∙ sym ran))

@@ -1,0 +1,2 @@
+-- What running the rules asks of a caller.
+pub mod UnderWay
