@@ -7,12 +7,16 @@ use native.Mathlib.Nat.{zero-add, suc-add, zero-mul, add-zero, not-suc-le-zero, 
 use lib.ListN.{length, getD, length-append, length-map, List·getD-append}
 use lib.Seq.{getD-append-add}
 use Rattle.rulebook.specs.declared.Cell.{Cell}
+use Rattle.rulebook.specs.declared.VoteKind.{VoteKind}
 use Rattle.rulebook.specs.Weights.{mostNodes, lastSlot, windows}
-use Rattle.rulebook.specs.Ledger.{Ledger, Row, noRow, noCell, rowAt}
+use Rattle.rulebook.specs.Ledger.{Ledger, Row, noRow, noCell, rowAt, putRow}
+use Rattle.rulebook.specs.Votes.{storeVote}
 use Rattle.rulebook.specs.WellFormed.{Shaped}
 use Rattle.record.specs.Layout.{wordAt, armedStart, stakeStart, headWords, cellWords, rowHead, rowWords, rowStart, cellStart, recordWords, tabulate, cellFrom, cellOf, rowOf, ledgerOf}
 use Rattle.record.specs.Spelling.{joined, spellCell, spellHead, spellRow, wordsOf}
-use Rattle.record.proofs.Tables.{tabulate-same, tabulate-getD}
+use Rattle.record.proofs.Tables.{getD-tabulate, tabulate-same, tabulate-getD}
+use Rattle.record.proofs.Reading.{row-words}
+use Rattle.record.proofs.Replacing.{row-other}
 
 -- ---- tables cut into parts
 
@@ -115,6 +119,29 @@ module _ (ws : List ℕ) where
 -- Words of the right length are told by their ledger.
 pub words-told : (ws ws' : List ℕ) → length ws ≡ recordWords → length ws' ≡ recordWords → ledgerOf ws ≡ ledgerOf ws' → ws ≡ ws'
 words-told ws ws' e e' q = sym (words-ledger ws e) ∙ ap wordsOf q ∙ words-ledger ws' e'
+
+-- ---- a vote stays in its row
+
+-- A row's words are told by the row.
+row-told : (ws : List ℕ) (s j : ℕ) → s < suc lastSlot → j < rowWords → wordAt ws (rowStart s + j) ≡ wordAt (spellRow (rowAt (ledgerOf ws) s)) j
+row-told ws s j h l =
+    sym
+    (ap (λ (r : Row). wordAt (spellRow r) j) (row-words ws s h)
+    ∙ ap (λ (xs : List ℕ). wordAt xs j) (row-spelled ws s)
+    ∙ getD-tabulate rowWords j (λ k. wordAt ws (rowStart s + k)) 0 l)
+
+-- Whatever is put into slot s's row, every word of slot t's row stays.
+pub row-words-stay : (ws ws' : List ℕ) (s t j : ℕ) (r : Row) → ledgerOf ws' ≡ putRow (ledgerOf ws) s r → t < suc lastSlot → (t ≡ s → ⊥) → j < rowWords
+    → wordAt ws' (rowStart t + j) ≡ wordAt ws (rowStart t + j)
+row-words-stay ws ws' s t j r e h q l =
+    let same : rowAt (ledgerOf ws') t ≡ rowAt (ledgerOf ws) t = ap (λ (m : Ledger). rowAt m t) e ∙ row-other (ledgerOf ws) s t r q in
+    row-told ws' t j h l ∙ ap (λ (x : Row). wordAt (spellRow x) j) same ∙ sym (row-told ws t j h l)
+
+-- So a vote stored in slot s changes no word of another slot's row.
+pub vote-stays : (ws ws' : List ℕ) (s n t j : ℕ) (k : VoteKind) (b : ℕ) → ledgerOf ws' ≡ storeVote (ledgerOf ws) s n k b → t < suc lastSlot → (t ≡ s → ⊥) → j < rowWords
+    → wordAt ws' (rowStart t + j) ≡ wordAt ws (rowStart t + j)
+unfolding storeVote
+vote-stays ws ws' s n t j k b e h q l = row-words-stay ws ws' s t j _ e h q l
 
 -- ---- the meaning of the spelling
 
