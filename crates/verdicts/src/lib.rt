@@ -1,10 +1,9 @@
 // Whether an input may be taken: the refusals of votes, blocks and timeouts in the document's order, read from a record.
 ghost use mathlib.Core.Path.{_≡_};
 ghost use Rattle.rulebook.specs.Weights.{slotOk};
-ghost use Rattle.rulebook.specs.Inputs.{isOther, misfits, placeVerdict, badParent, sameBlock, voteVerdict, blockVerdict, timeoutVerdict, verdict};
-ghost use Rattle.record.specs.Layout.{Counted, InSlot, ledgerOf};
+ghost use Rattle.rulebook.specs.Inputs.{isOther, misfits, placeVerdict, sameBlock, voteVerdict, blockVerdict, timeoutVerdict, verdict};
+ghost use Rattle.record.specs.Layout.{Counted, ledgerOf};
 use record::count;
-use record::genesis;
 use record::is_armed;
 use record::kept_block;
 use record::load_cell;
@@ -20,6 +19,7 @@ use rulebook::Slot;
 use rulebook::Verdict;
 use rulebook::Vote;
 use rulebook::VoteKind;
+use soundness::bad_parent;
 
 // A slot is one of 1 to 16.
 fn slot_ok(s: Slot) -> bool
@@ -93,16 +93,6 @@ pub fn vote_verdict(rec: &[u64], v: Vote) -> Verdict
         return Verdict::Refused(Refusal::BadBlock);
     }
     place_verdict(place_of(load_cell(rec, slot, node), kind, block))
-}
-
-// 11: the parent's slot not below the slot, or slot 0 with another number than genesis.
-fn bad_parent(rec: &[u64], s: Slot, b: Block) -> bool
-    requires { ⌜ InSlot (now rec) (s .0) ⌝ }
-    ensures { λ r. ⌜ r ≡ badParent (ledgerOf (now (rec .entry))) (s .0) b ⌝ }
-{
-    let p = b.parentslot;
-    let g = genesis(rec);
-    (s.0 <= p.0) | ((p.0 == 0) & (b.parent != g))
 }
 
 // The same number, parent's slot and parent.
