@@ -1,0 +1,66 @@
+-- The number that the table of certificates gives.
+use Rattle.rulebook.specs.PaperNumbers.{certificateNumber}
+use borrow.Author.Needs.{needs}
+use Rattle.checker_vectors.proofs.kind_number.Statement.{statement}
+use Rattle.checker_vectors.proofs.kind_number.Tie as tie
+use Rattle.checker_vectors.proofs.kind_number.Reads as reads
+use Rattle.checker_vectors.proofs.kind_number.Lts as lts
+
+enum-told : tie.Need-enum-told
+enum-told c = search needs
+
+enum-told-2 : tie.Need-enum-told-2
+enum-told-2 c = search needs
+
+enum-told-3 : tie.Need-enum-told-3
+enum-told-3 c = search needs
+
+enum-told-4 : tie.Need-enum-told-4
+enum-told-4 c = search needs
+
+enum-told-5 : tie.Need-enum-told-5
+enum-told-5 c = search needs
+
+enum-told-6 : tie.Need-enum-told-6
+enum-told-6 c = search needs
+
+returns : tie.Need-returns
+unfolding certificateNumber
+returns c = search needs
+
+returns-2 : tie.Need-returns-2
+unfolding certificateNumber
+returns-2 c = search needs
+
+returns-3 : tie.Need-returns-3
+unfolding certificateNumber
+returns-3 c = search needs
+
+returns-4 : tie.Need-returns-4
+unfolding certificateNumber
+returns-4 c = search needs
+
+returns-5 : tie.Need-returns-5
+unfolding certificateNumber
+returns-5 c = search needs
+
+returns-6 : tie.Need-returns-6
+unfolding certificateNumber
+returns-6 c = search needs
+
+pub kind-number-spec : {M : Type 1} → statement M
+kind-number-spec =
+    tie.close
+    (tie.spec
+    enum-told
+    enum-told-2
+    enum-told-3
+    enum-told-4
+    enum-told-5
+    enum-told-6
+    returns
+    returns-2
+    returns-3
+    returns-4
+    returns-5
+    returns-6)
