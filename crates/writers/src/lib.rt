@@ -14,7 +14,6 @@ use rulebook::Verdict;
 use rulebook::WriteAnswer;
 use soundness::sound;
 use soundness::table;
-use stakes::StakeTable;
 use stakes::with_bit;
 ghost use mathlib.Core.Path.{_≡_};
 ghost use mathlib.Core.Bool.{true};

@@ -1,0 +1,2 @@
+-- What the checker says of what a writer wrote.
+pub mod ReadBack
