@@ -1,4 +1,3 @@
 -- Laws of reading back.
-pub mod Masks
-pub mod ReadBack
+pub mod Exactly
 pub mod Words

@@ -22,11 +22,14 @@ use Rattle.rulebook.specs.Writers.{Wrote, certificateFor, wroteOn, certificateV
 use Rattle.rulebook.proofs.ToolLaws.{given-on, by-test}
 use Rattle.record.specs.Layout.{ledgerOf}
 use Rattle.soundness.specs.Sound.{soundWords}
-use Rattle.soundness.proofs.Laws.{sound-ledger}
+use Rattle.soundness.proofs.Laws.{sound-formed}
 use Rattle.writers.specs.Writing.{unsound, certificateOn, proofOn, Writes}
 use Rattle.writers.proofs.Laid.{certificate-unsound, proof-unsound}
-use Rattle.readback.specs.ReadBack.{stakesIn, storedAs, proofKind, readAs, ReadsBack}
-use Rattle.readback.proofs.ReadBack.{certificate-read, proof-read}
+use Rattle.packets.specs.Promises.{acceptedFor, proofKind}
+use Rattle.packets.proofs.Back.{certificate-back as packet-back, proof-back as packets-back}
+use Rattle.packets.proofs.Table.{table-of-record}
+use Rattle.record.proofs.Reading.{ledger-shaped}
+use Rattle.readback.specs.ReadBack.{readAs, ReadsBack}
 
 -- ---- a writer's refusal, and the bytes that it wrote
 
@@ -89,10 +92,11 @@ module _ (ws : List ℕ) (room : ℕ) (k : CertificateKind) (s b n : ℕ) (e : c
       ∙ ap (λ (w : Wrote). length (w .bytes)) (sym on-is)
 
   pub certificate-accepted : b < 2 ^ 64
-      → checkCertificate (stakesIn (ledgerOf ws)) (certificateOn ws room k s b .bytes) ≡ check.Accepted (storedAs (ledgerOf ws) k s b)
+      → checkCertificate (take (ledgerOf ws .count) (ledgerOf ws .stakes)) (certificateOn ws room k s b .bytes) ≡ check.Accepted (acceptedFor (ledgerOf ws) k s b)
   certificate-accepted h =
-      ap (λ (w : Wrote). checkCertificate (stakesIn (ledgerOf ws)) (w .bytes)) on-is
-      ∙ certificate-read (ledgerOf ws) (sound-ledger ws certificate-sound) room k s b n h answer-is
+      ap (λ (w : Wrote). checkCertificate (take (ledgerOf ws .count) (ledgerOf ws .stakes)) (w .bytes)) on-is
+      ∙ packet-back (ledgerOf ws) (take (ledgerOf ws .count) (ledgerOf ws .stakes))
+      (table-of-record (ledgerOf ws) (ledger-shaped ws) (sound-formed ws certificate-sound)) room k s b n h answer-is .1
 
 -- It ends inside the buffer.
 pub certificate-inside : (ws buffer : List ℕ) (k : CertificateKind) (s b n : ℕ) {after : List ℕ} {a : WriteAnswer}
@@ -102,12 +106,12 @@ certificate-inside ws buffer k s b n {after} w e =
 
 -- What was written is read back.
 pub certificate-back : (ws buffer : List ℕ) (k : CertificateKind) (s b n : ℕ) {after stakes packet : List ℕ} {a : WriteAnswer} {r : CheckAnswer} → b < 2 ^ 64
-    → Writes (certificateOn ws (length buffer) k s b) buffer a after → a ≡ write.Written n → stakes ≡ stakesIn (ledgerOf ws) → packet ≡ take (n - 0) after
-    → r ≡ checkCertificate stakes packet → ReadsBack (certificateOn ws (length buffer) k s b) (storedAs (ledgerOf ws) k s b) buffer r after
+    → Writes (certificateOn ws (length buffer) k s b) buffer a after → a ≡ write.Written n → stakes ≡ take (ledgerOf ws .count) (ledgerOf ws .stakes) → packet ≡ take (n - 0) after
+    → r ≡ checkCertificate stakes packet → ReadsBack (certificateOn ws (length buffer) k s b) (acceptedFor (ledgerOf ws) k s b) buffer r after
 certificate-back ws buffer k s b n {after} h w e st pk g =
     let f = sym (w .answered) ∙ e in
     let p = pk ∙ packet-is (certificateOn ws (length buffer) k s b .bytes) buffer after n (w .bytes) (certificate-length ws (length buffer) k s b n f) in
-    accepted-back (storedAs (ledgerOf ws) k s b) n w e (g ∙ (λ i. checkCertificate (st i) (p i)) ∙ certificate-accepted ws (length buffer) k s b n f h)
+    accepted-back (acceptedFor (ledgerOf ws) k s b) n w e (g ∙ (λ i. checkCertificate (st i) (p i)) ∙ certificate-accepted ws (length buffer) k s b n f h)
 
 -- ---- proofs
 
@@ -129,10 +133,11 @@ module _ (ws : List ℕ) (room s b n : ℕ) (e : proofOn ws room s b .answer ≡
       ∙ ap (λ (w : Wrote). length (w .bytes)) (sym proof-on-is)
 
   pub proof-accepted : b < 2 ^ 64
-      → checkProof (stakesIn (ledgerOf ws)) (proofOn ws room s b .bytes) ≡ check.Accepted (storedAs (ledgerOf ws) (proofKind (ledgerOf ws) s b) s b)
+      → checkProof (take (ledgerOf ws .count) (ledgerOf ws .stakes)) (proofOn ws room s b .bytes) ≡ check.Accepted (acceptedFor (ledgerOf ws) (proofKind (ledgerOf ws) s b) s b)
   proof-accepted h =
-      ap (λ (w : Wrote). checkProof (stakesIn (ledgerOf ws)) (w .bytes)) proof-on-is
-      ∙ proof-read (ledgerOf ws) (sound-ledger ws proof-sound) room s b n h proof-answer-is
+      ap (λ (w : Wrote). checkProof (take (ledgerOf ws .count) (ledgerOf ws .stakes)) (w .bytes)) proof-on-is
+      ∙ packets-back (ledgerOf ws) (take (ledgerOf ws .count) (ledgerOf ws .stakes))
+      (table-of-record (ledgerOf ws) (ledger-shaped ws) (sound-formed ws proof-sound)) room s b n h proof-answer-is .1
 
 -- It ends inside the buffer.
 pub proof-inside : (ws buffer : List ℕ) (s b n : ℕ) {after : List ℕ} {a : WriteAnswer}
@@ -142,12 +147,12 @@ proof-inside ws buffer s b n {after} w e =
 
 -- What was written is read back.
 pub proof-back : (ws buffer : List ℕ) (s b n : ℕ) {after stakes packet : List ℕ} {a : WriteAnswer} {r : CheckAnswer} → b < 2 ^ 64
-    → Writes (proofOn ws (length buffer) s b) buffer a after → a ≡ write.Written n → stakes ≡ stakesIn (ledgerOf ws) → packet ≡ take (n - 0) after
-    → r ≡ checkProof stakes packet → ReadsBack (proofOn ws (length buffer) s b) (storedAs (ledgerOf ws) (proofKind (ledgerOf ws) s b) s b) buffer r after
+    → Writes (proofOn ws (length buffer) s b) buffer a after → a ≡ write.Written n → stakes ≡ take (ledgerOf ws .count) (ledgerOf ws .stakes) → packet ≡ take (n - 0) after
+    → r ≡ checkProof stakes packet → ReadsBack (proofOn ws (length buffer) s b) (acceptedFor (ledgerOf ws) (proofKind (ledgerOf ws) s b) s b) buffer r after
 proof-back ws buffer s b n {after} h w e st pk g =
     let f = sym (w .answered) ∙ e in
     let p = pk ∙ packet-is (proofOn ws (length buffer) s b .bytes) buffer after n (w .bytes) (proof-length ws (length buffer) s b n f) in
-    accepted-back (storedAs (ledgerOf ws) (proofKind (ledgerOf ws) s b) s b) n w e (g ∙ (λ i. checkProof (st i) (p i)) ∙ proof-accepted ws (length buffer) s b n f h)
+    accepted-back (acceptedFor (ledgerOf ws) (proofKind (ledgerOf ws) s b) s b) n w e (g ∙ (λ i. checkProof (st i) (p i)) ∙ proof-accepted ws (length buffer) s b n f h)
 
 -- The contract leaves nothing open: two results that it allows are equal.
 pub reads-back-one : (wrote : Wrote) (told : Accepted) (buffer : List ℕ) (a b : CheckAnswer) (x y : List ℕ) → ReadsBack wrote told buffer a x

@@ -11,7 +11,8 @@ use writers::write_proof;
 ghost use lib.ListN.{length};
 ghost use Rattle.record.specs.Layout.{ledgerOf};
 ghost use Rattle.writers.specs.Writing.{certificateOn, proofOn};
-ghost use Rattle.readback.specs.ReadBack.{storedAs, proofKind, ReadsBack};
+ghost use Rattle.readback.specs.ReadBack.{ReadsBack};
+ghost use Rattle.packets.specs.Promises.{acceptedFor, proofKind};
 
 // Writes a certificate and has it checked: one that is written is accepted, with the stored signers and their weight.
 pub fn certificate_read_back(
@@ -21,7 +22,7 @@ pub fn certificate_read_back(
     slot: Slot,
     block: u64,
 ) -> CheckAnswer
-    ensures { λ r. ⌜ ReadsBack (certificateOn (now (rec .entry)) (length (now (buffer .entry))) kind (slot .0) block) (storedAs (ledgerOf (now (rec .entry))) kind (slot .0) block) (now (buffer .entry)) r (now (buffer .exit)) ⌝ }
+    ensures { λ r. ⌜ ReadsBack (certificateOn (now (rec .entry)) (length (now (buffer .entry))) kind (slot .0) block) (acceptedFor (ledgerOf (now (rec .entry))) kind (slot .0) block) (now (buffer .entry)) r (now (buffer .exit)) ⌝ }
 {
     let w = write_certificate(rec, buffer, kind, slot, block);
     match w {
@@ -32,7 +33,7 @@ pub fn certificate_read_back(
 
 // Writes a finality proof and has it checked: one that is written is accepted, as its first certificate says.
 pub fn proof_read_back(rec: &[u64], buffer: &mut [u8], slot: Slot, block: u64) -> CheckAnswer
-    ensures { λ r. ⌜ ReadsBack (proofOn (now (rec .entry)) (length (now (buffer .entry))) (slot .0) block) (storedAs (ledgerOf (now (rec .entry))) (proofKind (ledgerOf (now (rec .entry))) (slot .0) block) (slot .0) block) (now (buffer .entry)) r (now (buffer .exit)) ⌝ }
+    ensures { λ r. ⌜ ReadsBack (proofOn (now (rec .entry)) (length (now (buffer .entry))) (slot .0) block) (acceptedFor (ledgerOf (now (rec .entry))) (proofKind (ledgerOf (now (rec .entry))) (slot .0) block) (slot .0) block) (now (buffer .entry)) r (now (buffer .exit)) ⌝ }
 {
     let w = write_proof(rec, buffer, slot, block);
     match w {
