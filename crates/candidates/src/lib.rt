@@ -193,12 +193,13 @@ pub fn skip_weights(rec: &[u64], t: StakeTable, s: Slot) -> bool
     requires { ⌜ Weighing (now rec) t (s .0) ⌝ }
     ensures { λ r. ⌜ r ≡ skipWeights (ledgerOf (now (rec .entry))) (s .0) ⌝ }
 {
-    let skip = weigh(rec, t, s, Who::Skip);
-    let notar = weigh(rec, t, s, Who::AnyNotar);
-    let sum = skip.0 + notar.0;
+    let skips = weigh(rec, t, s, Who::Skip);
+    let notars = weigh(rec, t, s, Who::AnyNotar);
+    let sum = skips.0 + notars.0;
     if !Threshold::FORTY.reached(Weight(sum), t.total) {
         return false;
     }
     let most = largest_notar(rec, t, s);
-    Threshold::FORTY.reached(Weight(sum - most.0), t.total)
+    let rest = sum - most.0;
+    Threshold::FORTY.reached(Weight(rest), t.total)
 }
