@@ -48,10 +48,12 @@ fn refusal_number(r: Refusal) -> u64
     }
 }
 
+// Writes a text.
 fn text(s: &[u8]) {
     io::write_all(1, s);
 }
 
+// A byte as a word.
 fn wide(x: u8) -> u64 {
     x as u64
 }
@@ -92,6 +94,7 @@ fn tell(answer: CheckAnswer) {
     text(b"\n");
 }
 
+// Checks a packet as one certificate and tells the answer.
 fn certificate(stakes: &[u64], packet: &[u8]) {
     text(b"certificate ");
     show(packet);
@@ -99,6 +102,7 @@ fn certificate(stakes: &[u64], packet: &[u8]) {
     tell(check_certificate(stakes, packet));
 }
 
+// Checks a packet as a finality proof and tells the answer.
 fn proof(stakes: &[u64], packet: &[u8]) {
     text(b"proof ");
     show(packet);
@@ -327,6 +331,7 @@ fn tables() {
     proof(&t7, b"\x01\x01\x07\x01\x00");
 }
 
+// All groups in turn.
 fn main() {
     good_certificates();
     cut_and_long();

@@ -3,10 +3,12 @@ use numbers::read_number;
 use numbers::write_number;
 use rulebook::Reading;
 
+// Writes a text.
 fn text(s: &[u8]) {
     io::write_all(1, s);
 }
 
+// A byte as a word.
 fn wide(x: u8) -> u64 {
     x as u64
 }
@@ -172,6 +174,7 @@ fn written_last() {
     write(18446744073709551615);
 }
 
+// All groups in turn.
 fn main() {
     first_bounds();
     last_bounds();
