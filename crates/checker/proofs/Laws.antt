@@ -36,11 +36,6 @@ use Rattle.checker.specs.Told.{Sound, Heard, stakesOf, told, faultOf, un
 
 -- ---- kinds
 
--- Any other number.
-pub kind-other : (n : ℕ) → (n ≡ 1 → ⊥) → (n ≡ 2 → ⊥) → (n ≡ 3 → ⊥) → (n ≡ 4 → ⊥) → (n ≡ 5 → ⊥) → certificateKind n ≡ certificate.Other
-unfolding certificateKind choose
-kind-other n a b c d e = simp (ne-eqb n 1 a, ne-eqb n 2 b, ne-eqb n 3 c, ne-eqb n 4 d, ne-eqb n 5 e)
-
 -- Kind 5 is the number 5.
 pub kind-final : (n : ℕ) → isFinalKind (certificateKind n) ≡ eqb n 5
 unfolding certificateKind choose isFinalKind

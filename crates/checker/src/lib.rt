@@ -1,4 +1,8 @@
 // The checker of certificates and finality proofs, on lent stakes and a lent packet.
+use kinds::block_misfits;
+use kinds::is_other;
+use kinds::kind_of;
+use kinds::threshold_of;
 use rulebook::Accepted;
 use rulebook::Certificate;
 use rulebook::CertificateKind;
@@ -6,15 +10,12 @@ use rulebook::CheckAnswer;
 use rulebook::Found;
 use rulebook::Refusal;
 use rulebook::Slot;
-use rulebook::Threshold;
 use rulebook::Verdict;
 use stakes::StakeTable;
 ghost use mathlib.Core.Path.{_≡_};
 ghost use Prim.Native.Nat.{_≤_};
 ghost use Rattle.rulebook.specs.Weights.{slotOk, mostNodes};
-ghost use Rattle.rulebook.specs.PaperNumbers.{certificateKind};
-ghost use Rattle.rulebook.specs.Pool.{fifthsOf};
-ghost use Rattle.rulebook.specs.Checker.{isOtherKind, blockMisfits, withoutB, badSigners, judged, judge as Checker·judge, oneAt, checkCertificate, checkProof};
+ghost use Rattle.rulebook.specs.Checker.{withoutB, badSigners, judged, judge as Checker·judge, oneAt, checkCertificate, checkProof};
 ghost use Rattle.checker.specs.Told.{Sound, Heard, stakesOf, told, finished, isFinalKind, followed, continued, weighedIn, faultOf};
 
 // One certificate of a packet: what is told of it with the place after it, or its refusal.
@@ -23,53 +24,11 @@ pub enum Checked {
     Bad(Refusal),
 }
 
-// The kind that a number stands for.
-fn kind_of(n: u64) -> CertificateKind
-    ensures { λ r. ⌜ r ≡ certificateKind n ⌝ }
-{
-    match n {
-        1 => CertificateKind::FastFinal,
-        2 => CertificateKind::Notar,
-        3 => CertificateKind::NotarFallback,
-        4 => CertificateKind::Skip,
-        5 => CertificateKind::Final,
-        _ => CertificateKind::Other,
-    }
-}
-
-// 4.
-fn is_other(k: CertificateKind) -> bool
-    ensures { λ r. ⌜ r ≡ isOtherKind k ⌝ }
-{
-    match k {
-        CertificateKind::FastFinal => false,
-        CertificateKind::Notar => false,
-        CertificateKind::NotarFallback => false,
-        CertificateKind::Skip => false,
-        CertificateKind::Final => false,
-        CertificateKind::Other => true,
-    }
-}
-
 // 3, from the other side.
 fn slot_ok(slot: u64) -> bool
     ensures { λ r. ⌜ r ≡ slotOk slot ⌝ }
 {
     (1 <= slot) & (slot <= 16)
-}
-
-// 5.
-fn block_misfits(k: CertificateKind, block: u64) -> bool
-    ensures { λ r. ⌜ r ≡ blockMisfits k block ⌝ }
-{
-    match k {
-        CertificateKind::FastFinal => block == 0,
-        CertificateKind::Notar => block == 0,
-        CertificateKind::NotarFallback => block == 0,
-        CertificateKind::Skip => block != 0,
-        CertificateKind::Final => block != 0,
-        CertificateKind::Other => false,
-    }
 }
 
 // Mask B must be 0.
@@ -96,20 +55,6 @@ fn bad_signers(count: usize, k: CertificateKind, c: Certificate) -> bool
     let both = stakes::overlap(c.maska, c.maskb);
     let no_b = without_b(k);
     (past_a | past_b) | (both | (no_b & (c.maskb != 0)))
-}
-
-// How many fifths of the stake the kind needs.
-fn threshold_of(k: CertificateKind) -> Threshold
-    ensures { λ r. ⌜ r .0 ≡ fifthsOf k ⌝ }
-{
-    match k {
-        CertificateKind::FastFinal => Threshold::EIGHTY,
-        CertificateKind::Notar => Threshold::SIXTY,
-        CertificateKind::NotarFallback => Threshold::SIXTY,
-        CertificateKind::Skip => Threshold::SIXTY,
-        CertificateKind::Final => Threshold::SIXTY,
-        CertificateKind::Other => Threshold(5),
-    }
 }
 
 // 15, or what is told of the certificate: the signers are weighed once.

@@ -9,10 +9,10 @@ use Rattle.checker.proofs.judge.Tie as tie
 use Rattle.checker.proofs.judge.Reads as reads
 use Rattle.checker.proofs.judge.Lts as lts
 use Rattle.checker.proofs.bad_signers.Reads as bad-signers-reads
-use Rattle.checker.proofs.block_misfits.Reads as block-misfits-reads
+use Rattle.kinds.proofs.block_misfits.Reads as block-misfits-reads
 use Rattle.checker.proofs.first_fault.Reads as first-fault-reads
-use Rattle.checker.proofs.is_other.Reads as is-other-reads
-use Rattle.checker.proofs.kind_of.Reads as kind-of-reads
+use Rattle.kinds.proofs.is_other.Reads as is-other-reads
+use Rattle.kinds.proofs.kind_of.Reads as kind-of-reads
 use Rattle.checker.proofs.slot_ok.Reads as slot-ok-reads
 use Rattle.checker.proofs.weigh_in.Reads as weigh-in-reads
 

@@ -10,7 +10,7 @@ use Rattle.checker.proofs.weigh_in.Statement.{statement}
 use Rattle.checker.proofs.weigh_in.Tie as tie
 use Rattle.checker.proofs.weigh_in.Reads as reads
 use Rattle.checker.proofs.weigh_in.Lts as lts
-use Rattle.checker.proofs.threshold_of.Reads as threshold-of-reads
+use Rattle.kinds.proofs.threshold_of.Reads as threshold-of-reads
 use Rattle.rulebook.proofs.Threshold.reached.Reads as reached-reads
 use Rattle.stakes.proofs.weigh.Reads as weigh-reads
 

@@ -1,12 +1,12 @@
 -- Each number by the table of kinds.
-use Rattle.checker.proofs.Laws.{kind-other}
+use Rattle.kinds.proofs.Laws.{kind-other}
 use Rattle.rulebook.specs.PaperNumbers.{certificateKind}
 use Rattle.rulebook.specs.Tools.{choose}
 use mathlib.Core.Path.{sym, ap}
-use Rattle.checker.proofs.kind_of.Statement.{statement}
-use Rattle.checker.proofs.kind_of.Tie as tie
-use Rattle.checker.proofs.kind_of.Reads as reads
-use Rattle.checker.proofs.kind_of.Lts as lts
+use Rattle.kinds.proofs.kind_of.Statement.{statement}
+use Rattle.kinds.proofs.kind_of.Tie as tie
+use Rattle.kinds.proofs.kind_of.Reads as reads
+use Rattle.kinds.proofs.kind_of.Lts as lts
 
 returns : tie.Need-returns
 unfolding certificateKind choose

@@ -1,10 +1,10 @@
 -- A block for kinds 1 to 3, none for 4 and 5.
 use Rattle.rulebook.specs.Checker.{blockMisfits}
 use borrow.Author.Needs.{needs}
-use Rattle.checker.proofs.block_misfits.Statement.{statement}
-use Rattle.checker.proofs.block_misfits.Tie as tie
-use Rattle.checker.proofs.block_misfits.Reads as reads
-use Rattle.checker.proofs.block_misfits.Lts as lts
+use Rattle.kinds.proofs.block_misfits.Statement.{statement}
+use Rattle.kinds.proofs.block_misfits.Tie as tie
+use Rattle.kinds.proofs.block_misfits.Reads as reads
+use Rattle.kinds.proofs.block_misfits.Lts as lts
 
 enum-told : tie.Need-enum-told
 enum-told c = search needs

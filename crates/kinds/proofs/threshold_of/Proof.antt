@@ -1,10 +1,10 @@
 -- The table's column "reaches".
 use Rattle.rulebook.specs.Pool.{fifthsOf}
 use borrow.Author.Needs.{needs}
-use Rattle.checker.proofs.threshold_of.Statement.{statement}
-use Rattle.checker.proofs.threshold_of.Tie as tie
-use Rattle.checker.proofs.threshold_of.Reads as reads
-use Rattle.checker.proofs.threshold_of.Lts as lts
+use Rattle.kinds.proofs.threshold_of.Statement.{statement}
+use Rattle.kinds.proofs.threshold_of.Tie as tie
+use Rattle.kinds.proofs.threshold_of.Reads as reads
+use Rattle.kinds.proofs.threshold_of.Lts as lts
 
 enum-told : tie.Need-enum-told
 enum-told c = search needs

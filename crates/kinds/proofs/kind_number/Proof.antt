@@ -1,10 +1,9 @@
--- Every number but 1 to 5.
-use Rattle.rulebook.specs.Checker.{isOtherKind}
+-- A number for each kind.
+use Prim.Native.Nat.{_-_}
+use Rattle.rulebook.specs.PaperNumbers.{certificateNumber}
 use borrow.Author.Needs.{needs}
-use Rattle.checker.proofs.is_other.Statement.{statement}
-use Rattle.checker.proofs.is_other.Tie as tie
-use Rattle.checker.proofs.is_other.Reads as reads
-use Rattle.checker.proofs.is_other.Lts as lts
+use Rattle.kinds.proofs.kind_number.Statement.{statement}
+use Rattle.kinds.proofs.kind_number.Tie as tie
 
 enum-told : tie.Need-enum-told
 enum-told c = search needs
@@ -25,31 +24,37 @@ enum-told-6 : tie.Need-enum-told-6
 enum-told-6 c = search needs
 
 returns : tie.Need-returns
-unfolding isOtherKind
-returns c = search needs
+unfolding certificateNumber
+returns c =
+    simp (c .enum-told .given .1)
 
 returns-2 : tie.Need-returns-2
-unfolding isOtherKind
-returns-2 c = search needs
+unfolding certificateNumber
+returns-2 c =
+    simp (c .enum-told2 .given .1)
 
 returns-3 : tie.Need-returns-3
-unfolding isOtherKind
-returns-3 c = search needs
+unfolding certificateNumber
+returns-3 c =
+    simp (c .enum-told3 .given .1)
 
 returns-4 : tie.Need-returns-4
-unfolding isOtherKind
-returns-4 c = search needs
+unfolding certificateNumber
+returns-4 c =
+    simp (c .enum-told4 .given .1)
 
 returns-5 : tie.Need-returns-5
-unfolding isOtherKind
-returns-5 c = search needs
+unfolding certificateNumber
+returns-5 c =
+    simp (c .enum-told5 .given .1)
 
 returns-6 : tie.Need-returns-6
-unfolding isOtherKind
-returns-6 c = search needs
+unfolding certificateNumber
+returns-6 c =
+    simp (c .enum-told6 .given .1)
 
-pub is-other-spec : {M : Type 1} → statement M
-is-other-spec =
+pub kind-number-spec : {M : Type 1} → statement M
+kind-number-spec =
     tie.close
     (tie.spec
     enum-told
