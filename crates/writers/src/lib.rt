@@ -104,7 +104,7 @@ fn kind_number(kind: CertificateKind) -> u64
 }
 
 // The certificate that names all stored signers.
-pub fn certificate_for(rec: &[u64], kind: CertificateKind, s: Slot, b: u64) -> Certificate
+fn certificate_for(rec: &[u64], kind: CertificateKind, s: Slot, b: u64) -> Certificate
     requires { ⌜ Naming (now rec) (s .0) ⌝ }
     ensures { λ r. ⌜ r ≡ certificateFor (ledgerOf (now (rec .entry))) kind (s .0) b ⌝ }
 {
