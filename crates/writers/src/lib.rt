@@ -1,5 +1,9 @@
 // The certificate writer and the proof writer: the stored signers as masks, and their packets in lent bytes.
 use candidates::is_final;
+use kinds::block_misfits;
+use kinds::is_other;
+use kinds::kind_number;
+use kinds::slot_ok;
 use pool::held;
 use record::count;
 use record::has_fallback;
@@ -19,10 +23,7 @@ ghost use mathlib.Core.Path.{_≡_};
 ghost use mathlib.Core.Bool.{true};
 ghost use lib.ListN.{length};
 ghost use Rattle.rulebook.specs.Ledger.{cellAt};
-ghost use Rattle.rulebook.specs.Weights.{slotOk};
 ghost use Rattle.rulebook.specs.Packets.{maskOf};
-ghost use Rattle.rulebook.specs.PaperNumbers.{certificateNumber};
-ghost use Rattle.rulebook.specs.Checker.{isOtherKind, blockMisfits};
 ghost use Rattle.rulebook.specs.Writers.{inA, inB, certificateFor, certificateVerdict, proofVerdict, proofBytes};
 ghost use Rattle.record.specs.Layout.{ledgerOf};
 ghost use Rattle.soundness.specs.Sound.{soundWords};
@@ -89,20 +90,6 @@ fn signers_in(rec: &[u64], nodes: usize, which: Mask, kind: CertificateKind, s: 
     mask
 }
 
-// The number of a kind in a packet.
-fn kind_number(kind: CertificateKind) -> u64
-    ensures { λ r. ⌜ r ≡ certificateNumber kind ⌝ }
-{
-    match kind {
-        CertificateKind::FastFinal => 1,
-        CertificateKind::Notar => 2,
-        CertificateKind::NotarFallback => 3,
-        CertificateKind::Skip => 4,
-        CertificateKind::Final => 5,
-        CertificateKind::Other => 0,
-    }
-}
-
 // The certificate that names all stored signers.
 fn certificate_for(rec: &[u64], kind: CertificateKind, s: Slot, b: u64) -> Certificate
     requires { ⌜ Naming (now rec) (s .0) ⌝ }
@@ -115,41 +102,6 @@ fn certificate_for(rec: &[u64], kind: CertificateKind, s: Slot, b: u64) -> Certi
         block: b,
         maska: signers_in(rec, nodes, Mask::A, kind, s, b),
         maskb: signers_in(rec, nodes, Mask::B, kind, s, b),
-    }
-}
-
-// 4.
-fn is_other(kind: CertificateKind) -> bool
-    ensures { λ r. ⌜ r ≡ isOtherKind kind ⌝ }
-{
-    match kind {
-        CertificateKind::FastFinal => false,
-        CertificateKind::Notar => false,
-        CertificateKind::NotarFallback => false,
-        CertificateKind::Skip => false,
-        CertificateKind::Final => false,
-        CertificateKind::Other => true,
-    }
-}
-
-// 3, from the other side.
-fn slot_ok(s: Slot) -> bool
-    ensures { λ r. ⌜ r ≡ slotOk (s .0) ⌝ }
-{
-    (1 <= s.0) & (s.0 <= 16)
-}
-
-// 5.
-fn block_misfits(kind: CertificateKind, b: u64) -> bool
-    ensures { λ r. ⌜ r ≡ blockMisfits kind b ⌝ }
-{
-    match kind {
-        CertificateKind::FastFinal => b == 0,
-        CertificateKind::Notar => b == 0,
-        CertificateKind::NotarFallback => b == 0,
-        CertificateKind::Skip => b != 0,
-        CertificateKind::Final => b != 0,
-        CertificateKind::Other => false,
     }
 }
 
