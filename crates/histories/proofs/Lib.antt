@@ -1,0 +1,3 @@
+-- Histories of calls are the lives of the safety theorem.
+pub mod Lives
+pub mod Demand
