@@ -19,7 +19,8 @@ enum-known-w-2 c = search needs
 
 stakes-of-requires : tie.Need-stakes-of-requires
 stakes-of-requires c κs =
-    sound-counted (c .before .before .before .before .before .before .before .before .before .args .rec .now) (certificate-sound (c .before .before .before .before .before .before .before .before .before .args .rec .now) (length (c .before .before .before .before .before .before .before .before .before .args .buffer .now)) (c .before .before .before .before .before .before .before .before .before .args .kind) (c .before .before .before .before .before .before .before .before .before .args .slot .0) (c .before .before .before .before .before .before .before .before .before .args .block) _ (sym (c .before .before .before .before .before .write-certificate .ensures .answered) ∙ c .before .w2 .given .1))
+    let a = c .before .before .before .before .before .before .before .before .before in
+    sound-counted (a .args .rec .now) (certificate-sound (a .args .rec .now) (length (a .args .buffer .now)) (a .args .kind) (a .args .slot .0) (a .args .block) _ (sym (c .before .before .before .before .before .write-certificate .ensures .answered) ∙ c .before .w2 .given .1))
 
 sub-check-certificate : tie.Need-sub-check-certificate
 sub-check-certificate c = search needs
@@ -29,7 +30,8 @@ part-check-certificate-start c = search needs
 
 part-check-certificate-end : tie.Need-part-check-certificate-end
 part-check-certificate-end c =
-    certificate-inside (c .before .before .before .before .before .before .before .before .before .before .before .args .rec .now) (c .before .before .before .before .before .before .before .before .before .before .before .args .buffer .now) (c .before .before .before .before .before .before .before .before .before .before .before .args .kind) (c .before .before .before .before .before .before .before .before .before .before .before .args .slot .0) (c .before .before .before .before .before .before .before .before .before .before .before .args .block) _ (c .before .before .before .before .before .before .before .write-certificate .ensures) (c .before .before .before .w2 .given .1)
+    let a = c .before .before .before .before .before .before .before .before .before .before .before in
+    certificate-inside (a .args .rec .now) (a .args .buffer .now) (a .args .kind) (a .args .slot .0) (a .args .block) _ (c .before .before .before .before .before .before .before .write-certificate .ensures) (c .before .before .before .w2 .given .1)
 
 check-certificate-requires : tie.Need-check-certificate-requires
 check-certificate-requires c κs = search needs
@@ -46,7 +48,8 @@ same-length-2 c = search needs
 
 returns-2 : tie.Need-returns-2
 returns-2 c =
-    certificate-back (c .before .before .before .before .before .before .before .before .before .before .before .before .before .args .rec .now) (c .before .before .before .before .before .before .before .before .before .before .before .before .before .args .buffer .now) (c .before .before .before .before .before .before .before .before .before .before .before .before .before .args .kind) (c .before .before .before .before .before .before .before .before .before .before .before .before .before .args .slot .0) (c .before .before .before .before .before .before .before .before .before .before .before .before .before .args .block) _ (c .before .before .before .before .before .before .before .before .before .before .before .before .before .fits .block .fits) (c .before .before .before .before .before .before .before .before .before .write-certificate .ensures) (c .before .before .before .before .before .w2 .given .1) (c .before .before .before .stakes-of .ensures) refl (c .check-certificate .ensures)
+    let a = c .before .before .before .before .before .before .before .before .before .before .before .before .before in
+    certificate-back (a .args .rec .now) (a .args .buffer .now) (a .args .kind) (a .args .slot .0) (a .args .block) _ (a .fits .block .fits) (c .before .before .before .before .before .before .before .before .before .write-certificate .ensures) (c .before .before .before .before .before .w2 .given .1) (c .before .before .before .stakes-of .ensures) refl (c .check-certificate .ensures)
 
 pub certificate-read-back-spec : {M : Type 1} → statement M
 certificate-read-back-spec =

@@ -19,7 +19,8 @@ enum-known-w-2 c = search needs
 
 stakes-of-requires : tie.Need-stakes-of-requires
 stakes-of-requires c κs =
-    sound-counted (c .before .before .before .before .before .before .before .before .before .args .rec .now) (proof-sound (c .before .before .before .before .before .before .before .before .before .args .rec .now) (length (c .before .before .before .before .before .before .before .before .before .args .buffer .now)) (c .before .before .before .before .before .before .before .before .before .args .slot .0) (c .before .before .before .before .before .before .before .before .before .args .block) _ (sym (c .before .before .before .before .before .write-proof .ensures .answered) ∙ c .before .w2 .given .1))
+    let a = c .before .before .before .before .before .before .before .before .before in
+    sound-counted (a .args .rec .now) (proof-sound (a .args .rec .now) (length (a .args .buffer .now)) (a .args .slot .0) (a .args .block) _ (sym (c .before .before .before .before .before .write-proof .ensures .answered) ∙ c .before .w2 .given .1))
 
 sub-check-proof : tie.Need-sub-check-proof
 sub-check-proof c = search needs
@@ -29,7 +30,8 @@ part-check-proof-start c = search needs
 
 part-check-proof-end : tie.Need-part-check-proof-end
 part-check-proof-end c =
-    proof-inside (c .before .before .before .before .before .before .before .before .before .before .before .args .rec .now) (c .before .before .before .before .before .before .before .before .before .before .before .args .buffer .now) (c .before .before .before .before .before .before .before .before .before .before .before .args .slot .0) (c .before .before .before .before .before .before .before .before .before .before .before .args .block) _ (c .before .before .before .before .before .before .before .write-proof .ensures) (c .before .before .before .w2 .given .1)
+    let a = c .before .before .before .before .before .before .before .before .before .before .before in
+    proof-inside (a .args .rec .now) (a .args .buffer .now) (a .args .slot .0) (a .args .block) _ (c .before .before .before .before .before .before .before .write-proof .ensures) (c .before .before .before .w2 .given .1)
 
 check-proof-requires : tie.Need-check-proof-requires
 check-proof-requires c κs = search needs
@@ -46,7 +48,8 @@ same-length-2 c = search needs
 
 returns-2 : tie.Need-returns-2
 returns-2 c =
-    proof-back (c .before .before .before .before .before .before .before .before .before .before .before .before .before .args .rec .now) (c .before .before .before .before .before .before .before .before .before .before .before .before .before .args .buffer .now) (c .before .before .before .before .before .before .before .before .before .before .before .before .before .args .slot .0) (c .before .before .before .before .before .before .before .before .before .before .before .before .before .args .block) _ (c .before .before .before .before .before .before .before .before .before .before .before .before .before .fits .block .fits) (c .before .before .before .before .before .before .before .before .before .write-proof .ensures) (c .before .before .before .before .before .w2 .given .1) (c .before .before .before .stakes-of .ensures) refl (c .check-proof .ensures)
+    let a = c .before .before .before .before .before .before .before .before .before .before .before .before .before in
+    proof-back (a .args .rec .now) (a .args .buffer .now) (a .args .slot .0) (a .args .block) _ (a .fits .block .fits) (c .before .before .before .before .before .before .before .before .before .write-proof .ensures) (c .before .before .before .before .before .w2 .given .1) (c .before .before .before .stakes-of .ensures) refl (c .check-proof .ensures)
 
 pub proof-read-back-spec : {M : Type 1} → statement M
 proof-read-back-spec =

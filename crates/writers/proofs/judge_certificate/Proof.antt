@@ -11,45 +11,52 @@ use Rattle.writers.proofs.judge_certificate.Tie as tie
 
 returns : tie.Need-returns
 returns c =
-    certificate-room (ledgerOf (c .before .before .args .rec .now)) (c .before .before .args .room) (c .before .before .args .kind) (c .before .before .args .s .0) (c .before .before .args .b) (omega arith)
+    let a = c .before .before in
+    certificate-room (ledgerOf (a .args .rec .now)) (a .args .room) (a .args .kind) (a .args .s .0) (a .args .b) (omega arith)
 
 is-other-requires : tie.Need-is-other-requires
 is-other-requires c κs = search needs
 
 returns-2 : tie.Need-returns-2
 returns-2 c =
-    certificate-kind (ledgerOf (c .before .before .before .before .args .rec .now)) (c .before .before .before .before .args .room) (c .before .before .before .before .args .kind) (c .before .before .before .before .args .s .0) (c .before .before .before .before .args .b) (omega arith) (sym (c .before .is-other .ensures) ∙ c .if2 .taken)
+    let a = c .before .before .before .before in
+    certificate-kind (ledgerOf (a .args .rec .now)) (a .args .room) (a .args .kind) (a .args .s .0) (a .args .b) (omega arith) (sym (c .before .is-other .ensures) ∙ c .if2 .taken)
 
 slot-ok-requires : tie.Need-slot-ok-requires
 slot-ok-requires c κs = search needs
 
 returns-3 : tie.Need-returns-3
 returns-3 c =
-    certificate-slot (ledgerOf (c .before .before .before .before .before .before .args .rec .now)) (c .before .before .before .before .before .before .args .room) (c .before .before .before .before .before .before .args .kind) (c .before .before .before .before .before .before .args .s .0) (c .before .before .before .before .before .before .args .b) (omega arith) (sym (c .before .before .before .is-other .ensures) ∙ c .before .before .if2 .left) (sym (c .before .slot-ok .ensures) ∙ not-true _ (c .if3 .taken))
+    let a = c .before .before .before .before .before .before in
+    certificate-slot (ledgerOf (a .args .rec .now)) (a .args .room) (a .args .kind) (a .args .s .0) (a .args .b) (omega arith) (sym (c .before .before .before .is-other .ensures) ∙ c .before .before .if2 .left) (sym (c .before .slot-ok .ensures) ∙ not-true _ (c .if3 .taken))
 
 block-misfits-requires : tie.Need-block-misfits-requires
 block-misfits-requires c κs = search needs
 
 returns-4 : tie.Need-returns-4
 returns-4 c =
-    certificate-block (ledgerOf (c .before .before .before .before .before .before .before .before .args .rec .now)) (c .before .before .before .before .before .before .before .before .args .room) (c .before .before .before .before .before .before .before .before .args .kind) (c .before .before .before .before .before .before .before .before .args .s .0) (c .before .before .before .before .before .before .before .before .args .b) (omega arith) (sym (c .before .before .before .before .before .is-other .ensures) ∙ c .before .before .before .before .if2 .left) (sym (c .before .before .before .slot-ok .ensures) ∙ not-false _ (c .before .before .if3 .left)) (sym (c .before .block-misfits .ensures) ∙ c .if4 .taken)
+    let a = c .before .before .before .before .before .before .before .before in
+    certificate-block (ledgerOf (a .args .rec .now)) (a .args .room) (a .args .kind) (a .args .s .0) (a .args .b) (omega arith) (sym (c .before .before .before .before .before .is-other .ensures) ∙ c .before .before .before .before .if2 .left) (sym (c .before .before .before .slot-ok .ensures) ∙ not-false _ (c .before .before .if3 .left)) (sym (c .before .block-misfits .ensures) ∙ c .if4 .taken)
 
 table-requires : tie.Need-table-requires
 table-requires c κs = search needs
 
 held-requires : tie.Need-held-requires
 held-requires c κs =
-    weighing (c .before .before .before .before .before .before .before .before .before .args .rec .now) (c .table .result) (c .before .before .before .before .before .before .before .before .before .args .s .0) (c .before .before .before .before .before .before .before .before .before .pre) (c .table .ensures)
-    (slot-row (c .before .before .before .before .before .before .before .before .before .args .s .0) (sym (c .before .before .before .before .slot-ok .ensures) ∙ not-false _ (c .before .before .before .if3 .left)))
+    let a = c .before .before .before .before .before .before .before .before .before in
+    weighing (a .args .rec .now) (c .table .result) (a .args .s .0) (a .pre) (c .table .ensures)
+    (slot-row (a .args .s .0) (sym (c .before .before .before .before .slot-ok .ensures) ∙ not-false _ (c .before .before .before .if3 .left)))
 
 returns-5 : tie.Need-returns-5
 returns-5 c =
-    certificate-held (ledgerOf (c .before .before .before .before .before .before .before .before .before .before .before .args .rec .now)) (c .before .before .before .before .before .before .before .before .before .before .before .args .room) (c .before .before .before .before .before .before .before .before .before .before .before .args .kind) (c .before .before .before .before .before .before .before .before .before .before .before .args .s .0) (c .before .before .before .before .before .before .before .before .before .before .before .args .b) (omega arith) (sym (c .before .before .before .before .before .before .before .before .is-other .ensures) ∙ c .before .before .before .before .before .before .before .if2 .left) (sym (c .before .before .before .before .before .before .slot-ok .ensures) ∙ not-false _ (c .before .before .before .before .before .if3 .left)) (sym (c .before .before .before .before .block-misfits .ensures) ∙ c .before .before .before .if4 .left)
+    let a = c .before .before .before .before .before .before .before .before .before .before .before in
+    certificate-held (ledgerOf (a .args .rec .now)) (a .args .room) (a .args .kind) (a .args .s .0) (a .args .b) (omega arith) (sym (c .before .before .before .before .before .before .before .before .is-other .ensures) ∙ c .before .before .before .before .before .before .before .if2 .left) (sym (c .before .before .before .before .before .before .slot-ok .ensures) ∙ not-false _ (c .before .before .before .before .before .if3 .left)) (sym (c .before .before .before .before .block-misfits .ensures) ∙ c .before .before .before .if4 .left)
     (sym (c .before .held .ensures) ∙ not-true _ (c .if5 .taken))
 
 returns-6 : tie.Need-returns-6
 returns-6 c =
-    certificate-passed (ledgerOf (c .before .before .before .before .before .before .before .before .before .before .before .args .rec .now)) (c .before .before .before .before .before .before .before .before .before .before .before .args .room) (c .before .before .before .before .before .before .before .before .before .before .before .args .kind) (c .before .before .before .before .before .before .before .before .before .before .before .args .s .0) (c .before .before .before .before .before .before .before .before .before .before .before .args .b) (omega arith) (sym (c .before .before .before .before .before .before .before .before .is-other .ensures) ∙ c .before .before .before .before .before .before .before .if2 .left) (sym (c .before .before .before .before .before .before .slot-ok .ensures) ∙ not-false _ (c .before .before .before .before .before .if3 .left)) (sym (c .before .before .before .before .block-misfits .ensures) ∙ c .before .before .before .if4 .left)
+    let a = c .before .before .before .before .before .before .before .before .before .before .before in
+    certificate-passed (ledgerOf (a .args .rec .now)) (a .args .room) (a .args .kind) (a .args .s .0) (a .args .b) (omega arith) (sym (c .before .before .before .before .before .before .before .before .is-other .ensures) ∙ c .before .before .before .before .before .before .before .if2 .left) (sym (c .before .before .before .before .before .before .slot-ok .ensures) ∙ not-false _ (c .before .before .before .before .before .if3 .left)) (sym (c .before .before .before .before .block-misfits .ensures) ∙ c .before .before .before .if4 .left)
     (sym (c .before .held .ensures) ∙ not-false _ (c .if5 .left))
 
 pub judge-certificate-spec : {M : Type 1} → statement M

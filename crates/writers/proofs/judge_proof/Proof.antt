@@ -11,34 +11,40 @@ use Rattle.writers.proofs.judge_proof.Tie as tie
 
 returns : tie.Need-returns
 returns c =
-    proof-room (ledgerOf (c .before .before .args .rec .now)) (c .before .before .args .room) (c .before .before .args .s .0) (c .before .before .args .b) (omega arith)
+    let a = c .before .before in
+    proof-room (ledgerOf (a .args .rec .now)) (a .args .room) (a .args .s .0) (a .args .b) (omega arith)
 
 slot-ok-requires : tie.Need-slot-ok-requires
 slot-ok-requires c κs = search needs
 
 returns-2 : tie.Need-returns-2
 returns-2 c =
-    proof-slot (ledgerOf (c .before .before .before .before .args .rec .now)) (c .before .before .before .before .args .room) (c .before .before .before .before .args .s .0) (c .before .before .before .before .args .b) (omega arith) (sym (c .before .slot-ok .ensures) ∙ not-true _ (c .if2 .taken))
+    let a = c .before .before .before .before in
+    proof-slot (ledgerOf (a .args .rec .now)) (a .args .room) (a .args .s .0) (a .args .b) (omega arith) (sym (c .before .slot-ok .ensures) ∙ not-true _ (c .if2 .taken))
 
 returns-3 : tie.Need-returns-3
 returns-3 c =
-    proof-block (ledgerOf (c .before .before .before .before .before .args .rec .now)) (c .before .before .before .before .before .args .room) (c .before .before .before .before .before .args .s .0) (c .before .before .before .before .before .args .b) (omega arith) (sym (c .before .before .slot-ok .ensures) ∙ not-false _ (c .before .if2 .left)) (c .if3 .taken)
+    let a = c .before .before .before .before .before in
+    proof-block (ledgerOf (a .args .rec .now)) (a .args .room) (a .args .s .0) (a .args .b) (omega arith) (sym (c .before .before .slot-ok .ensures) ∙ not-false _ (c .before .if2 .left)) (c .if3 .taken)
 
 table-requires : tie.Need-table-requires
 table-requires c κs = search needs
 
 is-final-requires : tie.Need-is-final-requires
 is-final-requires c κs =
-    weighing (c .before .before .before .before .before .before .args .rec .now) (c .table .result) (c .before .before .before .before .before .before .args .s .0) (c .before .before .before .before .before .before .pre) (c .table .ensures)
-    (slot-row (c .before .before .before .before .before .before .args .s .0) (sym (c .before .before .before .slot-ok .ensures) ∙ not-false _ (c .before .before .if2 .left)))
+    let a = c .before .before .before .before .before .before in
+    weighing (a .args .rec .now) (c .table .result) (a .args .s .0) (a .pre) (c .table .ensures)
+    (slot-row (a .args .s .0) (sym (c .before .before .before .slot-ok .ensures) ∙ not-false _ (c .before .before .if2 .left)))
 
 returns-4 : tie.Need-returns-4
 returns-4 c =
-    proof-final (ledgerOf (c .before .before .before .before .before .before .before .before .args .rec .now)) (c .before .before .before .before .before .before .before .before .args .room) (c .before .before .before .before .before .before .before .before .args .s .0) (c .before .before .before .before .before .before .before .before .args .b) (omega arith) (sym (c .before .before .before .before .before .slot-ok .ensures) ∙ not-false _ (c .before .before .before .before .if2 .left)) (c .before .before .before .if3 .left) (sym (c .before .is-final .ensures) ∙ not-true _ (c .if4 .taken))
+    let a = c .before .before .before .before .before .before .before .before in
+    proof-final (ledgerOf (a .args .rec .now)) (a .args .room) (a .args .s .0) (a .args .b) (omega arith) (sym (c .before .before .before .before .before .slot-ok .ensures) ∙ not-false _ (c .before .before .before .before .if2 .left)) (c .before .before .before .if3 .left) (sym (c .before .is-final .ensures) ∙ not-true _ (c .if4 .taken))
 
 returns-5 : tie.Need-returns-5
 returns-5 c =
-    proof-passed (ledgerOf (c .before .before .before .before .before .before .before .before .args .rec .now)) (c .before .before .before .before .before .before .before .before .args .room) (c .before .before .before .before .before .before .before .before .args .s .0) (c .before .before .before .before .before .before .before .before .args .b) (omega arith) (sym (c .before .before .before .before .before .slot-ok .ensures) ∙ not-false _ (c .before .before .before .before .if2 .left)) (c .before .before .before .if3 .left) (sym (c .before .is-final .ensures) ∙ not-false _ (c .if4 .left))
+    let a = c .before .before .before .before .before .before .before .before in
+    proof-passed (ledgerOf (a .args .rec .now)) (a .args .room) (a .args .s .0) (a .args .b) (omega arith) (sym (c .before .before .before .before .before .slot-ok .ensures) ∙ not-false _ (c .before .before .before .before .if2 .left)) (c .before .before .before .if3 .left) (sym (c .before .is-final .ensures) ∙ not-false _ (c .if4 .left))
 
 pub judge-proof-spec : {M : Type 1} → statement M
 judge-proof-spec =

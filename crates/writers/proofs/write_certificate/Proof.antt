@@ -18,7 +18,8 @@ sound-requires c κs = search needs
 
 returns : tie.Need-returns
 returns c =
-    writes-unsound _ (c .before .before .before .before .args .buffer .now) (certificate-unsound (c .before .before .before .before .args .rec .now) (length (c .before .before .before .before .args .buffer .now)) (c .before .before .before .before .args .kind) (c .before .before .before .before .args .slot .0) (c .before .before .before .before .args .block) (sym (c .before .sound .ensures) ∙ not-true _ (c .if1 .taken)))
+    let a = c .before .before .before .before in
+    writes-unsound _ (a .args .buffer .now) (certificate-unsound (a .args .rec .now) (length (a .args .buffer .now)) (a .args .kind) (a .args .slot .0) (a .args .block) (sym (c .before .sound .ensures) ∙ not-true _ (c .if1 .taken)))
 
 judge-certificate-requires : tie.Need-judge-certificate-requires
 judge-certificate-requires c κs =
@@ -32,23 +33,27 @@ enum-told c = search needs
 
 certificate-for-requires : tie.Need-certificate-for-requires
 certificate-for-requires c κs =
-    naming (c .before .before .before .before .before .before .before .args .rec .now) (c .before .before .before .before .before .before .before .args .slot .0) (sym (c .before .before .before .before .sound .ensures) ∙ not-false _ (c .before .before .before .if1 .left)) (slot-row _ ((certificate-fine (ledgerOf (c .before .before .before .before .before .before .before .args .rec .now)) (length (c .before .before .before .before .before .before .before .args .buffer .now)) (c .before .before .before .before .before .before .before .args .kind) (c .before .before .before .before .before .before .before .args .slot .0) (c .before .before .before .before .before .before .before .args .block) (sym (c .before .before .judge-certificate .ensures) ∙ c .enum-told .given .1)) .slot))
+    let a = c .before .before .before .before .before .before .before in
+    naming (a .args .rec .now) (a .args .slot .0) (sym (c .before .before .before .before .sound .ensures) ∙ not-false _ (c .before .before .before .if1 .left)) (slot-row _ ((certificate-fine (ledgerOf (a .args .rec .now)) (length (a .args .buffer .now)) (a .args .kind) (a .args .slot .0) (a .args .block) (sym (c .before .before .judge-certificate .ensures) ∙ c .enum-told .given .1)) .slot))
 
 write-certificate-requires : tie.Need-write-certificate-requires
 write-certificate-requires c κs =
-    let f = (certificate-fine (ledgerOf (c .before .before .before .before .before .before .before .before .before .args .rec .now)) (length (c .before .before .before .before .before .before .before .before .before .args .buffer .now)) (c .before .before .before .before .before .before .before .before .before .args .kind) (c .before .before .before .before .before .before .before .before .before .args .slot .0) (c .before .before .before .before .before .before .before .before .before .args .block) (sym (c .before .before .before .before .judge-certificate .ensures) ∙ c .before .before .enum-told .given .1)) in
-    room-front (ledgerOf (c .before .before .before .before .before .before .before .before .before .args .rec .now)) (c .before .before .before .before .before .before .before .before .before .args .kind) (c .before .before .before .before .before .before .before .before .before .args .slot .0) (c .before .before .before .before .before .before .before .before .before .args .block) (c .before .before .before .before .before .before .before .before .before .args .buffer .now) (c .before .certificate-for .ensures) (slot-row _ (f .slot)) (f .room)
+    let a = c .before .before .before .before .before .before .before .before .before in
+    let f = (certificate-fine (ledgerOf (a .args .rec .now)) (length (a .args .buffer .now)) (a .args .kind) (a .args .slot .0) (a .args .block) (sym (c .before .before .before .before .judge-certificate .ensures) ∙ c .before .before .enum-told .given .1)) in
+    room-front (ledgerOf (a .args .rec .now)) (a .args .kind) (a .args .slot .0) (a .args .block) (a .args .buffer .now) (c .before .certificate-for .ensures) (slot-row _ (f .slot)) (f .room)
 
 returns-2 : tie.Need-returns-2
 returns-2 c =
-    writes-refused _ _ (c .before .before .before .before .before .before .before .before .args .buffer .now) _ (certificate-judged (c .before .before .before .before .before .before .before .before .args .rec .now) (length (c .before .before .before .before .before .before .before .before .args .buffer .now)) (c .before .before .before .before .before .before .before .before .args .kind) (c .before .before .before .before .before .before .before .before .args .slot .0) (c .before .before .before .before .before .before .before .before .args .block) _ (sym (c .before .before .before .before .before .sound .ensures) ∙ not-false _ (c .before .before .before .before .if1 .left)) (sym (c .before .v .given .1) ∙ c .before .before .before .judge-certificate .ensures))
+    let a = c .before .before .before .before .before .before .before .before in
+    writes-refused _ _ (a .args .buffer .now) _ (certificate-judged (a .args .rec .now) (length (a .args .buffer .now)) (a .args .kind) (a .args .slot .0) (a .args .block) _ (sym (c .before .before .before .before .before .sound .ensures) ∙ not-false _ (c .before .before .before .before .if1 .left)) (sym (c .before .v .given .1) ∙ c .before .before .before .judge-certificate .ensures))
 
 same-length : tie.Need-same-length
 same-length c = search needs
 
 returns-3 : tie.Need-returns-3
 returns-3 c =
-    writes-laid _ _ (certificate-judged (c .before .before .before .before .before .before .before .before .before .before .before .before .args .rec .now) (length (c .before .before .before .before .before .before .before .before .before .before .before .before .args .buffer .now)) (c .before .before .before .before .before .before .before .before .before .before .before .before .args .kind) (c .before .before .before .before .before .before .before .before .before .before .before .before .args .slot .0) (c .before .before .before .before .before .before .before .before .before .before .before .before .args .block) Fine (sym (c .before .before .before .before .before .before .before .before .before .sound .ensures) ∙ not-false _ (c .before .before .before .before .before .before .before .before .if1 .left)) (sym (c .before .before .before .before .before .enum-told .given .1) ∙ c .before .before .before .before .before .before .before .judge-certificate .ensures) ∙ ap (λ (x : Certificate). wroteOn Fine (certificateBytes x)) (sym (c .before .before .before .before .certificate-for .ensures))) (c .before .before .write-certificate .ensures)
+    let a = c .before .before .before .before .before .before .before .before .before .before .before .before in
+    writes-laid _ _ (certificate-judged (a .args .rec .now) (length (a .args .buffer .now)) (a .args .kind) (a .args .slot .0) (a .args .block) Fine (sym (c .before .before .before .before .before .before .before .before .before .sound .ensures) ∙ not-false _ (c .before .before .before .before .before .before .before .before .if1 .left)) (sym (c .before .before .before .before .before .enum-told .given .1) ∙ c .before .before .before .before .before .before .before .judge-certificate .ensures) ∙ ap (λ (x : Certificate). wroteOn Fine (certificateBytes x)) (sym (c .before .before .before .before .certificate-for .ensures))) (c .before .before .write-certificate .ensures)
 
 pub write-certificate-spec : {M : Type 1} → statement M
 write-certificate-spec =

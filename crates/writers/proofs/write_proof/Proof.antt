@@ -15,7 +15,8 @@ sound-requires c κs = search needs
 
 returns : tie.Need-returns
 returns c =
-    writes-unsound _ (c .before .before .before .before .args .buffer .now) (proof-unsound (c .before .before .before .before .args .rec .now) (length (c .before .before .before .before .args .buffer .now)) (c .before .before .before .before .args .slot .0) (c .before .before .before .before .args .block) (sym (c .before .sound .ensures) ∙ not-true _ (c .if1 .taken)))
+    let a = c .before .before .before .before in
+    writes-unsound _ (a .args .buffer .now) (proof-unsound (a .args .rec .now) (length (a .args .buffer .now)) (a .args .slot .0) (a .args .block) (sym (c .before .sound .ensures) ∙ not-true _ (c .if1 .taken)))
 
 judge-proof-requires : tie.Need-judge-proof-requires
 judge-proof-requires c κs =
@@ -29,19 +30,22 @@ enum-told c = search needs
 
 lay-proof-requires : tie.Need-lay-proof-requires
 lay-proof-requires c κs =
-    let f = (proof-fine (ledgerOf (c .before .before .before .before .before .before .before .before .args .rec .now)) (length (c .before .before .before .before .before .before .before .before .args .buffer .now)) (c .before .before .before .before .before .before .before .before .args .slot .0) (c .before .before .before .before .before .before .before .before .args .block) (sym (c .before .before .before .judge-proof .ensures) ∙ c .before .enum-told .given .1)) in
+    let a = c .before .before .before .before .before .before .before .before in
+    let f = (proof-fine (ledgerOf (a .args .rec .now)) (length (a .args .buffer .now)) (a .args .slot .0) (a .args .block) (sym (c .before .before .before .judge-proof .ensures) ∙ c .before .enum-told .given .1)) in
     record { sound = (sym (c .before .before .before .before .before .sound .ensures) ∙ not-false _ (c .before .before .before .before .if1 .left)); slot = slot-row _ (f .slot); room = f .room }
 
 returns-2 : tie.Need-returns-2
 returns-2 c =
-    writes-refused _ _ (c .before .before .before .before .before .before .before .before .args .buffer .now) _ (proof-judged (c .before .before .before .before .before .before .before .before .args .rec .now) (length (c .before .before .before .before .before .before .before .before .args .buffer .now)) (c .before .before .before .before .before .before .before .before .args .slot .0) (c .before .before .before .before .before .before .before .before .args .block) _ (sym (c .before .before .before .before .before .sound .ensures) ∙ not-false _ (c .before .before .before .before .if1 .left)) (sym (c .before .v .given .1) ∙ c .before .before .before .judge-proof .ensures))
+    let a = c .before .before .before .before .before .before .before .before in
+    writes-refused _ _ (a .args .buffer .now) _ (proof-judged (a .args .rec .now) (length (a .args .buffer .now)) (a .args .slot .0) (a .args .block) _ (sym (c .before .before .before .before .before .sound .ensures) ∙ not-false _ (c .before .before .before .before .if1 .left)) (sym (c .before .v .given .1) ∙ c .before .before .before .judge-proof .ensures))
 
 same-length : tie.Need-same-length
 same-length c = search needs
 
 returns-3 : tie.Need-returns-3
 returns-3 c =
-    writes-laid _ _ (proof-judged (c .before .before .before .before .before .before .before .before .before .before .before .args .rec .now) (length (c .before .before .before .before .before .before .before .before .before .before .before .args .buffer .now)) (c .before .before .before .before .before .before .before .before .before .before .before .args .slot .0) (c .before .before .before .before .before .before .before .before .before .before .before .args .block) Fine (sym (c .before .before .before .before .before .before .before .before .sound .ensures) ∙ not-false _ (c .before .before .before .before .before .before .before .if1 .left)) (sym (c .before .before .before .before .enum-told .given .1) ∙ c .before .before .before .before .before .before .judge-proof .ensures)) (c .before .before .lay-proof .ensures)
+    let a = c .before .before .before .before .before .before .before .before .before .before .before in
+    writes-laid _ _ (proof-judged (a .args .rec .now) (length (a .args .buffer .now)) (a .args .slot .0) (a .args .block) Fine (sym (c .before .before .before .before .before .before .before .before .sound .ensures) ∙ not-false _ (c .before .before .before .before .before .before .before .if1 .left)) (sym (c .before .before .before .before .enum-told .given .1) ∙ c .before .before .before .before .before .before .judge-proof .ensures)) (c .before .before .lay-proof .ensures)
 
 pub write-proof-spec : {M : Type 1} → statement M
 write-proof-spec =
