@@ -1,0 +1,55 @@
+-- The turns are counted down.
+use borrow.Author.Needs.{needs}
+use Rattle.board.proofs.block_lines.Statement.{statement}
+use Rattle.board.proofs.block_lines.Tie as tie
+
+abbrev Inv-loop : tie.InvT-loop
+Inv-loop rec s b₀ turns₀ b turns =
+    Unit {0}
+
+abbrev μ-loop : tie.MeasureT-loop
+μ-loop rec s b₀ turns₀ b turns =
+    turns
+
+block-after-requires : tie.Need-block-after-requires Inv-loop μ-loop
+block-after-requires c κs = search needs
+
+loop-holds : tie.Need-loop-holds Inv-loop μ-loop
+loop-holds c = search needs
+
+returns : tie.Need-returns Inv-loop μ-loop
+returns c = search needs
+
+block-line-requires : tie.Need-block-line-requires Inv-loop μ-loop
+block-line-requires c κs = search needs
+
+block-after-requires-2 : tie.Need-block-after-requires-2 Inv-loop μ-loop
+block-after-requires-2 c κs = search needs
+
+sub-turns : tie.Need-sub-turns Inv-loop μ-loop
+sub-turns c = search needs
+
+loop-less : tie.Need-loop-less Inv-loop μ-loop
+loop-less c = search needs
+
+loop-again : tie.Need-loop-again Inv-loop μ-loop
+loop-again c = search needs
+
+returns-2 : tie.Need-returns-2 Inv-loop μ-loop
+returns-2 c = search needs
+
+pub block-lines-spec : {M : Type 1} → statement M
+block-lines-spec =
+    tie.close
+    (tie.spec
+    Inv-loop
+    μ-loop
+    block-after-requires
+    loop-holds
+    returns
+    block-line-requires
+    block-after-requires-2
+    sub-turns
+    loop-less
+    loop-again
+    returns-2)

@@ -1,0 +1,61 @@
+-- The turns are counted down, and the lent slices keep their lengths.
+use lib.ListN.{length}
+use mathlib.Core.Path.{_≡_}
+use borrow.Author.Needs.{needs}
+use Rattle.panel.proofs.run.Statement.{statement}
+use Rattle.panel.proofs.run.Tie as tie
+
+abbrev Inv-loop : tie.InvT-loop
+Inv-loop fd line₀ rec₀ outbox₀ used₀ turns₀ line rec outbox used turns =
+    (length line ≡ length line₀) × (length rec ≡ length rec₀) × (length outbox ≡ length outbox₀)
+
+abbrev μ-loop : tie.MeasureT-loop
+μ-loop fd line₀ rec₀ outbox₀ used₀ turns₀ line rec outbox used turns =
+    turns
+
+loop-holds : tie.Need-loop-holds Inv-loop μ-loop
+loop-holds c = search needs
+
+take-piece-requires : tie.Need-take-piece-requires Inv-loop μ-loop
+take-piece-requires c κs = search needs
+
+turns-left-requires : tie.Need-turns-left-requires Inv-loop μ-loop
+turns-left-requires c κs = search needs
+
+loop-less : tie.Need-loop-less Inv-loop μ-loop
+loop-less c = search needs
+
+loop-again : tie.Need-loop-again Inv-loop μ-loop
+loop-again c = search needs
+
+finish-line-requires : tie.Need-finish-line-requires Inv-loop μ-loop
+finish-line-requires c κs = search needs
+
+same-length : tie.Need-same-length Inv-loop μ-loop
+same-length c = search needs
+
+same-length-2 : tie.Need-same-length-2 Inv-loop μ-loop
+same-length-2 c = search needs
+
+same-length-3 : tie.Need-same-length-3 Inv-loop μ-loop
+same-length-3 c = search needs
+
+returns : tie.Need-returns Inv-loop μ-loop
+returns c = search needs
+
+pub run-spec : {M : Type 1} → statement M
+run-spec =
+    tie.close
+    (tie.spec
+    Inv-loop
+    μ-loop
+    loop-holds
+    take-piece-requires
+    turns-left-requires
+    loop-less
+    loop-again
+    finish-line-requires
+    same-length
+    same-length-2
+    same-length-3
+    returns)

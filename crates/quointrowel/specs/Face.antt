@@ -1,0 +1,56 @@
+-- The face's answers: the panel's number, the values beside it in lent places, and all lent memory afterwards.
+use mathlib.Core.Path.{_≡_}
+use mathlib.Core.List.{List, [], _∷_}
+use Prim.Native.Nat.{ℕ}
+use Rattle.rulebook.specs.declared.Accepted.{Accepted}
+use Rattle.rulebook.specs.declared.CheckAnswer.{CheckAnswer}
+use Rattle.rulebook.specs.declared.Input.{Input}
+use Rattle.rulebook.specs.declared.Input.the-variants as input
+use Rattle.rulebook.specs.PaperNumbers.{voteKind, certificateNumber, startPanel, stepPanel, writePanel, checkPanel}
+use Rattle.rulebook.specs.Writers.{over}
+use Rattle.rulebook.specs.Writers as written
+use Rattle.node.specs.Stepping.{stepLeaves}
+use Rattle.soundness.specs.Starting.{startJudged, startAnswer, startLeft}
+
+-- The one value beside a number.
+abbrev pub Beside : ℕ → List ℕ → Type 0
+Beside v values = v ∷ [] ≡ values
+
+-- "An accepted check answers kind, slot, block, signer count and weight".
+abbrev pub acceptedValues : Accepted → List ℕ
+acceptedValues a = certificateNumber (a .kind) ∷ a .slot .0 ∷ a .block ∷ a .signers ∷ a .weight .0 ∷ []
+
+-- Start: its number, and all the record's words.
+pub record Started (ws stakes : List ℕ) (own genesis number : ℕ) (left : List ℕ) : Type 0 where
+  pub numbered : number ≡ startPanel (startAnswer (startJudged ws stakes own genesis)) .number
+  pub words : left ≡ startLeft (startJudged ws stakes own genesis) ws stakes own genesis
+
+-- The inputs that numbers stand for.
+abbrev pub voteInput : ℕ → ℕ → ℕ → ℕ → Input
+voteInput kind node slot block =
+    input.Vote (record { kind = voteKind kind; node = record { 0 = node }; slot = record { 0 = slot }; block = block })
+
+abbrev pub blockInput : ℕ → ℕ → ℕ → ℕ → Input
+blockInput slot number parentslot parent =
+    input.Block (record { 0 = slot }) (record { number = number; parentslot = record { 0 = parentslot }; parent = parent })
+
+abbrev pub timeoutInput : ℕ → Input
+timeoutInput slot = input.Timeout (record { 0 = slot })
+
+-- A step: its number, the count of its records, and all the words of record and outbox.
+pub record Stepped (ws out : List ℕ) (i : Input) (number made : ℕ) (ws' left : List ℕ) : Type 0 where
+  pub numbered : number ≡ stepPanel (stepLeaves ws out i .answer) .number
+  pub counted : Beside made (stepPanel (stepLeaves ws out i .answer) .values)
+  pub words : ws' ≡ stepLeaves ws out i .words
+  pub outbox : left ≡ stepLeaves ws out i .outbox
+
+-- A writer: its number, the count of its bytes, and the whole buffer.
+pub record Wrote (wrote : written.Wrote) (buffer : List ℕ) (number count : ℕ) (after : List ℕ) : Type 0 where
+  pub numbered : number ≡ writePanel (wrote .answer) .number
+  pub counted : Beside count (writePanel (wrote .answer) .values)
+  pub bytes : after ≡ over (wrote .bytes) buffer
+
+-- A check: its number and its five values.
+pub record Checked (answer : CheckAnswer) (number : ℕ) (values : List ℕ) : Type 0 where
+  pub numbered : number ≡ checkPanel answer .number
+  pub valued : values ≡ checkPanel answer .values

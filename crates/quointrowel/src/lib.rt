@@ -1,0 +1,302 @@
+// The face: every public operation with numbers and lent memory alone, for a host in C. Each answers its number on the
+// panel and puts the values beside it into lent places; the definitions of the paper's numbers say which.
+ghost use mathlib.Core.Path.{_≡_};
+ghost use lib.ListN.{length};
+ghost use Rattle.rulebook.specs.PaperNumbers.{refusalNumber, certificateKind, voteKind, startPanel, stepPanel, writePanel, checkPanel};
+ghost use Rattle.rulebook.specs.Checker.{checkCertificate, checkProof};
+ghost use Rattle.rulebook.specs.WellFormed.{outboxWords};
+ghost use Rattle.record.specs.Layout.{recordWords};
+ghost use Rattle.writers.specs.Writing.{certificateOn, proofOn};
+ghost use Rattle.rulebook.specs.declared.Input.the-variants as input;
+ghost use Rattle.quointrowel.specs.Face.{Beside, acceptedValues, voteInput, blockInput, timeoutInput, Started, Stepped, Wrote, Checked};
+use checker::check_certificate;
+use checker::check_proof;
+use kinds::kind_number;
+use kinds::kind_of;
+use node::step;
+use record::record_words;
+use rulebook::Accepted;
+use rulebook::Block;
+use rulebook::CertificateKind;
+use rulebook::CheckAnswer;
+use rulebook::Input;
+use rulebook::Node;
+use rulebook::Refusal;
+use rulebook::Slot;
+use rulebook::StartAnswer;
+use rulebook::StepAnswer;
+use rulebook::Vote;
+use rulebook::VoteKind;
+use rulebook::WriteAnswer;
+use soundness::start;
+use writers::write_certificate;
+use writers::write_proof;
+
+// "Numbers on the panel".
+fn refusal_number(r: Refusal) -> u64
+    ensures { λ n. ⌜ n ≡ refusalNumber r ⌝ }
+{
+    match r {
+        Refusal::BadSizes => 1,
+        Refusal::BadNode => 2,
+        Refusal::BadSlot => 3,
+        Refusal::BadKind => 4,
+        Refusal::BadBlock => 5,
+        Refusal::OwnName => 6,
+        Refusal::AlreadyKept => 7,
+        Refusal::OtherStands => 8,
+        Refusal::NoRoom => 9,
+        Refusal::NotArmed => 10,
+        Refusal::BadParent => 11,
+        Refusal::BadLength => 12,
+        Refusal::BadNumber => 13,
+        Refusal::BadSigners => 14,
+        Refusal::TooLight => 15,
+        Refusal::NotAProof => 16,
+        Refusal::BadRecord => 17,
+        Refusal::NotHeld => 18,
+    }
+}
+
+// The kind of vote that a number stands for.
+fn vote_kind(n: u64) -> VoteKind
+    ensures { λ r. ⌜ r ≡ voteKind n ⌝ }
+{
+    match n {
+        1 => VoteKind::Notar,
+        2 => VoteKind::NotarFallback,
+        3 => VoteKind::Skip,
+        4 => VoteKind::SkipFallback,
+        5 => VoteKind::Final,
+        _ => VoteKind::Other,
+    }
+}
+
+// What start answers, as a number.
+fn start_number(a: StartAnswer) -> u64
+    ensures { λ r. ⌜ r ≡ startPanel a .number ⌝ }
+{
+    match a {
+        StartAnswer::Started => 0,
+        StartAnswer::Refused(r) => refusal_number(r),
+    }
+}
+
+// What a step answers, as a number.
+fn step_number(a: StepAnswer) -> u64
+    ensures { λ r. ⌜ r ≡ stepPanel a .number ⌝ }
+{
+    match a {
+        StepAnswer::Done(_) => 0,
+        StepAnswer::Refused(r) => refusal_number(r),
+    }
+}
+
+// How many records a step made, 0 beside a refusal.
+fn records_made(a: StepAnswer) -> usize
+    ensures { λ r. ⌜ Beside r (stepPanel a .values) ⌝ }
+{
+    match a {
+        StepAnswer::Done(n) => n,
+        StepAnswer::Refused(_) => 0,
+    }
+}
+
+// What a writer answers, as a number.
+fn write_number(a: WriteAnswer) -> u64
+    ensures { λ r. ⌜ r ≡ writePanel a .number ⌝ }
+{
+    match a {
+        WriteAnswer::Written(_) => 0,
+        WriteAnswer::Refused(r) => refusal_number(r),
+    }
+}
+
+// How many bytes a writer wrote, 0 beside a refusal.
+fn bytes_written(a: WriteAnswer) -> usize
+    ensures { λ r. ⌜ Beside r (writePanel a .values) ⌝ }
+{
+    match a {
+        WriteAnswer::Written(n) => n,
+        WriteAnswer::Refused(_) => 0,
+    }
+}
+
+// What the checker answers, as a number.
+fn check_number(a: CheckAnswer) -> u64
+    ensures { λ r. ⌜ r ≡ checkPanel a .number ⌝ }
+{
+    match a {
+        CheckAnswer::Accepted(_) => 0,
+        CheckAnswer::Refused(r) => refusal_number(r),
+    }
+}
+
+// Kind, slot, block, signer count and weight of what was checked, zeros beside a refusal.
+fn check_values(a: CheckAnswer) -> [u64; 5]
+    ensures { λ r. ⌜ r ≡ checkPanel a .values ⌝ }
+{
+    match a {
+        CheckAnswer::Accepted(x) => accepted_values(x),
+        CheckAnswer::Refused(_) => [0, 0, 0, 0, 0],
+    }
+}
+
+// The five values of an accepted check.
+fn accepted_values(x: Accepted) -> [u64; 5]
+    ensures { λ r. ⌜ r ≡ acceptedValues x ⌝ }
+{
+    let k = x.kind;
+    let s = x.slot;
+    let w = x.weight;
+    [kind_number(k), s.0 as u64, x.block, x.signers, w.0]
+}
+
+// How many words a record has.
+#[no_mangle]
+pub extern "C" fn qr_record_words() -> usize
+    ensures { λ r. ⌜ r ≡ recordWords ⌝ }
+{
+    record_words()
+}
+
+// How many words an outbox has to have.
+#[no_mangle]
+pub extern "C" fn qr_outbox_words() -> usize
+    ensures { λ r. ⌜ r ≡ outboxWords ⌝ }
+{
+    384
+}
+
+// Makes the record's words a fresh node.
+#[no_mangle]
+pub extern "C" fn qr_start(rec: &mut [u64], stakes: &[u64], own: usize, genesis: u64) -> u64
+    ensures { λ r. ⌜ Started (now (rec .entry)) (now (stakes .entry)) own genesis r (now (rec .exit)) ⌝ }
+{
+    start_number(start(rec, stakes, Node(own), genesis))
+}
+
+// Gives the node another node's vote.
+#[no_mangle]
+pub extern "C" fn qr_vote(
+    rec: &mut [u64],
+    outbox: &mut [u64],
+    made: &mut usize,
+    kind: u64,
+    node: usize,
+    slot: usize,
+    block: u64,
+) -> u64
+    ensures { λ r. ⌜ Stepped (now (rec .entry)) (now (outbox .entry)) (voteInput kind node slot block) r (now (made .exit)) (now (rec .exit)) (now (outbox .exit)) ⌝ }
+{
+    let v = Vote {
+        kind: vote_kind(kind),
+        node: Node(node),
+        slot: Slot(slot),
+        block,
+    };
+    let a = step(rec, outbox, Input::Vote(v));
+    *made = records_made(a);
+    step_number(a)
+}
+
+// Announces a block with its parent to the node.
+#[no_mangle]
+pub extern "C" fn qr_block(
+    rec: &mut [u64],
+    outbox: &mut [u64],
+    made: &mut usize,
+    slot: usize,
+    number: u64,
+    parentslot: usize,
+    parent: u64,
+) -> u64
+    ensures { λ r. ⌜ Stepped (now (rec .entry)) (now (outbox .entry)) (blockInput slot number parentslot parent) r (now (made .exit)) (now (rec .exit)) (now (outbox .exit)) ⌝ }
+{
+    let b = Block {
+        number,
+        parentslot: Slot(parentslot),
+        parent,
+    };
+    let a = step(rec, outbox, Input::Block(Slot(slot), b));
+    *made = records_made(a);
+    step_number(a)
+}
+
+// Tells the node that a slot's time is out.
+#[no_mangle]
+pub extern "C" fn qr_timeout(
+    rec: &mut [u64],
+    outbox: &mut [u64],
+    made: &mut usize,
+    slot: usize,
+) -> u64
+    ensures { λ r. ⌜ Stepped (now (rec .entry)) (now (outbox .entry)) (timeoutInput slot) r (now (made .exit)) (now (rec .exit)) (now (outbox .exit)) ⌝ }
+{
+    let a = step(rec, outbox, Input::Timeout(Slot(slot)));
+    *made = records_made(a);
+    step_number(a)
+}
+
+// Has the node run its rules and nothing else.
+#[no_mangle]
+pub extern "C" fn qr_look(rec: &mut [u64], outbox: &mut [u64], made: &mut usize) -> u64
+    ensures { λ r. ⌜ Stepped (now (rec .entry)) (now (outbox .entry)) input.Look r (now (made .exit)) (now (rec .exit)) (now (outbox .exit)) ⌝ }
+{
+    let a = step(rec, outbox, Input::Look);
+    *made = records_made(a);
+    step_number(a)
+}
+
+// Writes a certificate of a kind for a slot and a block to the buffer's front.
+#[no_mangle]
+pub extern "C" fn qr_write_certificate(
+    rec: &[u64],
+    buffer: &mut [u8],
+    written: &mut usize,
+    kind: u64,
+    slot: usize,
+    block: u64,
+) -> u64
+    ensures { λ r. ⌜ Wrote (certificateOn (now (rec .entry)) (length (now (buffer .entry))) (certificateKind kind) slot block) (now (buffer .entry)) r (now (written .exit)) (now (buffer .exit)) ⌝ }
+{
+    let a = write_certificate(rec, buffer, kind_of(kind), Slot(slot), block);
+    *written = bytes_written(a);
+    write_number(a)
+}
+
+// Writes a finality proof for a slot and a block to the buffer's front.
+#[no_mangle]
+pub extern "C" fn qr_write_proof(
+    rec: &[u64],
+    buffer: &mut [u8],
+    written: &mut usize,
+    slot: usize,
+    block: u64,
+) -> u64
+    ensures { λ r. ⌜ Wrote (proofOn (now (rec .entry)) (length (now (buffer .entry))) slot block) (now (buffer .entry)) r (now (written .exit)) (now (buffer .exit)) ⌝ }
+{
+    let a = write_proof(rec, buffer, Slot(slot), block);
+    *written = bytes_written(a);
+    write_number(a)
+}
+
+// Checks a packet that is to be one certificate.
+#[no_mangle]
+pub extern "C" fn qr_check_certificate(stakes: &[u64], packet: &[u8], values: &mut [u64; 5]) -> u64
+    ensures { λ r. ⌜ Checked (checkCertificate (now (stakes .entry)) (now (packet .entry))) r (now (values .exit)) ⌝ }
+{
+    let a = check_certificate(stakes, packet);
+    *values = check_values(a);
+    check_number(a)
+}
+
+// Checks a packet that is to be a finality proof.
+#[no_mangle]
+pub extern "C" fn qr_check_proof(stakes: &[u64], packet: &[u8], values: &mut [u64; 5]) -> u64
+    ensures { λ r. ⌜ Checked (checkProof (now (stakes .entry)) (now (packet .entry))) r (now (values .exit)) ⌝ }
+{
+    let a = check_proof(stakes, packet);
+    *values = check_values(a);
+    check_number(a)
+}

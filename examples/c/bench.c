@@ -1,0 +1,49 @@
+/* Bench cases B1 and B9 of the scope document, through the C face: one node of stake 5, one block, its finality proof. */
+#include <inttypes.h>
+#include <stdio.h>
+#include <stdlib.h>
+
+#include "quointrowel.h"
+
+static void show_records(uint64_t number, const uint64_t *outbox, size_t made)
+{
+    printf("B1: %" PRIu64 ", %zu records:", number, made);
+    for (size_t i = 0; i < made; i++)
+        printf(" (%" PRIu64 ",%" PRIu64 ",%" PRIu64 ")", outbox[3 * i], outbox[3 * i + 1], outbox[3 * i + 2]);
+    printf("\n");
+}
+
+static void show_check(const char *what, uint64_t number, const uint64_t values[5])
+{
+    printf("B9: %s: %" PRIu64 ", kind %" PRIu64 " slot %" PRIu64 " block %" PRIu64 " signers %" PRIu64 " weight %" PRIu64 "\n", what,
+           number, values[0], values[1], values[2], values[3], values[4]);
+}
+
+int main(void)
+{
+    const uint64_t stakes[1] = {5};
+    const uint8_t long_proof[10] = {0x02, 0x01, 0x07, 0x01, 0x00, 0x05, 0x01, 0x00, 0x01, 0x00};
+    uint64_t values[5];
+    uint8_t packet[64];
+    size_t made, written;
+    uint64_t *record = calloc(qr_record_words(), sizeof *record);
+    uint64_t *outbox = calloc(qr_outbox_words(), sizeof *outbox);
+    if (!record || !outbox)
+        return 1;
+
+    if (qr_start(record, qr_record_words(), stakes, 1, 0, 1) != QR_DONE)
+        return 1;
+    uint64_t number = qr_block(record, qr_record_words(), outbox, qr_outbox_words(), &made, 1, 7, 0, 1);
+    show_records(number, outbox, made);
+
+    number = qr_write_proof(record, qr_record_words(), packet, sizeof packet, &written, 1, 7);
+    printf("B9: %" PRIu64 ", proof of %zu bytes:", number, written);
+    for (size_t i = 0; i < written; i++)
+        printf(" %02X", packet[i]);
+    printf("\n");
+    show_check("that proof", qr_check_proof(stakes, 1, packet, written, values), values);
+    show_check("kinds 2 and 5", qr_check_proof(stakes, 1, long_proof, sizeof long_proof, values), values);
+    free(record);
+    free(outbox);
+    return 0;
+}

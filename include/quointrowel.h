@@ -1,0 +1,111 @@
+/*
+ * Quointrowel: a ledger node's pool and voter, its certificate writer and its checker.
+ *
+ * Memory. The library keeps nothing between calls and takes no memory of its own: everything is lent by the host for
+ * the time of one call. A slice is two arguments, a pointer to its first element and its length in elements; an empty
+ * slice may have any pointer that is not used. Pointers are not null otherwise and are aligned for their type. What a
+ * call may change (every pointer without const) must not overlap anything else that is lent to the same call. Calls on
+ * different records may run at the same time.
+ *
+ * Node. A node is its record: qr_record_words() words, owned by the host, which may copy it, keep it and lend it again.
+ * qr_start makes lent words a fresh node. Words that no call of this library left are looked through at every call and
+ * refused with QR_BAD_RECORD where they are no record; a record that this library left is never refused so.
+ *
+ * Answers. Every operation answers a number: 0 where it is done, else why not (enum qr_number). A refusal changes none
+ * of the record, the outbox and the buffer, and puts zeros into the places for the values beside it. A number that is
+ * out of range, a slot of 99 or a kind of 7, is not a fault of the host: it has its own refusal.
+ *
+ * The archive is libquointrowel.a, made by `rt staticlib quointrowel`, for x86-64. It needs no other library.
+ */
+#ifndef QUOINTROWEL_H
+#define QUOINTROWEL_H
+
+#include <stddef.h>
+#include <stdint.h>
+
+#ifdef __cplusplus
+extern "C" {
+#endif
+
+enum qr_number {
+    QR_DONE = 0,
+    QR_BAD_SIZES = 1,     /* stake table, own number or genesis out of range */
+    QR_BAD_NODE = 2,      /* node number not in the table */
+    QR_BAD_SLOT = 3,      /* slot not 1 to 16 */
+    QR_BAD_KIND = 4,      /* kind not 1 to 5 */
+    QR_BAD_BLOCK = 5,     /* block 0 where one is needed, or not 0 where none is */
+    QR_OWN_NAME = 6,      /* vote in the own node's name from outside */
+    QR_ALREADY_KEPT = 7,  /* that very vote, block with parent, or timeout is kept */
+    QR_OTHER_STANDS = 8,  /* another stands in its place */
+    QR_NO_ROOM = 9,       /* outbox below 384 words; buffer below 32 or 64 bytes */
+    QR_NOT_ARMED = 10,    /* timeout for a window that is not armed */
+    QR_BAD_PARENT = 11,   /* parent slot not below the slot, or slot 0 without genesis */
+    QR_BAD_LENGTH = 12,   /* packet ends early, or bytes remain */
+    QR_BAD_NUMBER = 13,   /* number not shortest, or above 64 bits */
+    QR_BAD_SIGNERS = 14,  /* signer beyond the table, in both masks, or B where 0 is due */
+    QR_TOO_LIGHT = 15,    /* weight below the threshold */
+    QR_NOT_A_PROOF = 16,  /* not one of the two proof forms */
+    QR_BAD_RECORD = 17,   /* the words are no node's record */
+    QR_NOT_HELD = 18      /* certificate or proof asked for is not held */
+};
+
+/* Words of a record. */
+size_t qr_record_words(void);
+
+/* Words that an outbox has to have: 128 records of three. A longer one is fine. */
+size_t qr_outbox_words(void);
+
+/*
+ * Makes the record's words a fresh node: stakes of nodes 0, 1 .. (1 to 64 of them, each at least 1, together at most
+ * 2^48), the own node's number, genesis's number (not 0). What stood in the words does not matter. Answers 17 where
+ * they are not qr_record_words() many, else 1 where something is out of range; then the words stay.
+ */
+uint64_t qr_start(uint64_t *record, size_t record_words, const uint64_t *stakes, size_t stake_count, size_t own,
+                  uint64_t genesis);
+
+/*
+ * The four inputs of a node. Each changes the record, writes the records that it makes to the outbox from its front,
+ * three words each (kind, slot, block), and puts their number into *made; words of the outbox past them stay. Kinds 1 to
+ * 5 are votes that the node has cast, which the host sends out; 6 says that a block is final, 7 that a window is armed
+ * and its timeouts begin.
+ */
+
+/* Another node's vote, its signature verified by the host. Kinds 3 to 5 carry block 0. Refusals: 17, 9, 4, 3, 2, 6, 5, 7, 8. */
+uint64_t qr_vote(uint64_t *record, size_t record_words, uint64_t *outbox, size_t outbox_words, size_t *made, uint64_t kind,
+                 size_t node, size_t slot, uint64_t block);
+
+/* A block with its parent. Refusals: 17, 9, 3, 5, 11, 7, 8. */
+uint64_t qr_block(uint64_t *record, size_t record_words, uint64_t *outbox, size_t outbox_words, size_t *made, size_t slot,
+                  uint64_t number, size_t parent_slot, uint64_t parent);
+
+/* A slot's time is out. Refusals: 17, 9, 3, 10, 7. */
+uint64_t qr_timeout(uint64_t *record, size_t record_words, uint64_t *outbox, size_t outbox_words, size_t *made, size_t slot);
+
+/* Only runs the rules. Refusals: 17, 9. */
+uint64_t qr_look(uint64_t *record, size_t record_words, uint64_t *outbox, size_t outbox_words, size_t *made);
+
+/*
+ * Write a packet to the buffer's front and put the number of its bytes into *written; bytes past them and the record
+ * stay. A certificate's buffer has at least 32 bytes, a proof's 64. Refusals: 17, 9, 4, 3, 5, 18, those that apply.
+ */
+uint64_t qr_write_certificate(const uint64_t *record, size_t record_words, uint8_t *buffer, size_t buffer_bytes,
+                              size_t *written, uint64_t kind, size_t slot, uint64_t block);
+
+uint64_t qr_write_proof(const uint64_t *record, size_t record_words, uint8_t *buffer, size_t buffer_bytes, size_t *written,
+                        size_t slot, uint64_t block);
+
+/*
+ * Check a packet against the stakes alone. values gets kind, slot, block, signer count and weight of the certificate, or
+ * of the proof's first; zeros beside a refusal. Refusals: 1, 12, 13, 4, 3, 5, 14, 15, and 16 for a proof.
+ */
+uint64_t qr_check_certificate(const uint64_t *stakes, size_t stake_count, const uint8_t *packet, size_t packet_bytes,
+                              uint64_t values[5]);
+
+uint64_t qr_check_proof(const uint64_t *stakes, size_t stake_count, const uint8_t *packet, size_t packet_bytes,
+                        uint64_t values[5]);
+
+#ifdef __cplusplus
+}
+#endif
+
+#endif
