@@ -4,9 +4,10 @@ ghost use mathlib.Core.Path.{_≡_};
 ghost use Prim.Native.Nat.{_≤_};
 ghost use Rattle.rulebook.specs.declared.CertificateKind.the-variants as certificate;
 ghost use Rattle.rulebook.specs.Tools.{anyOf};
-ghost use Rattle.rulebook.specs.Pool.{counts, weigh, weighs, signersOf, fifthsOf, held, names, parentHeld, skippedBetween, ready, someReady};
+ghost use Rattle.rulebook.specs.Pool.{counts, weigh, weighs, signersOf, held, names, parentHeld, skippedBetween, ready, someReady};
 ghost use Rattle.record.specs.Layout.{ledgerOf};
 ghost use Rattle.pool.specs.Weighing.{Weighing, Reaching, Between, Trying, namedHolds, someNamed};
+use kinds::threshold_of;
 use record::genesis;
 use record::has_fallback;
 use record::load_cell;
@@ -68,20 +69,6 @@ pub fn signers_of(kind: CertificateKind, b: u64) -> Who
         CertificateKind::Skip => Who::SkipOrFallback,
         CertificateKind::Final => Who::Final,
         CertificateKind::Other => Who::Final,
-    }
-}
-
-// What a certificate of a kind reaches.
-pub fn threshold_of(kind: CertificateKind) -> Threshold
-    ensures { λ r. ⌜ r .0 ≡ fifthsOf kind ⌝ }
-{
-    match kind {
-        CertificateKind::FastFinal => Threshold::EIGHTY,
-        CertificateKind::Notar => Threshold::SIXTY,
-        CertificateKind::NotarFallback => Threshold::SIXTY,
-        CertificateKind::Skip => Threshold::SIXTY,
-        CertificateKind::Final => Threshold::SIXTY,
-        CertificateKind::Other => Threshold(5),
     }
 }
 

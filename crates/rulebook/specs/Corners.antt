@@ -64,7 +64,7 @@ slotsAscend =
     let l = after armed (votes 1 eight 3 11 ++ votes 1 eight 2 9) in
     equals (answers (putFinal (putFinal l 2 0) 3 0) (look ∷ [])) ((0 ∷ 6 ∷ 2 ∷ 9 ∷ 6 ∷ 3 ∷ 11 ∷ []) ∷ [])
 
--- D by two fifths alone and by one fifth with the skips; E by two fifths; each not at one less.
+-- D by two fifths alone and by one fifth with the skips, its skips before its fallback; E by two fifths; each not at one less.
 abbrev fallbacks : Bool
 fallbacks =
     let skipped = after armed (timeout 1 ∷ []) in
@@ -72,6 +72,8 @@ fallbacks =
     all (equals (answers skipped (votes 1 (6 ∷ 7 ∷ 8 ∷ 9 ∷ []) 1 8)) (silent 3 ++ ((0 ∷ 2 ∷ 1 ∷ 8 ∷ []) ∷ []))
     ∷ equals (answers skipped (votes 1 (6 ∷ 7 ∷ []) 1 8 ++ votes 3 (1 ∷ 2 ∷ 3 ∷ []) 1 0)) (silent 4 ++ ((0 ∷ 2 ∷ 1 ∷ 8 ∷ []) ∷ []))
     ∷ equals (answers skipped (votes 1 (6 ∷ []) 1 8 ++ votes 3 (1 ∷ 2 ∷ 3 ∷ 4 ∷ []) 1 0)) (silent 5)
+    ∷ equals (answers voted (votes 1 (6 ∷ 7 ∷ 8 ∷ 9 ∷ []) 1 8))
+    (silent 3 ++ ((0 ∷ 3 ∷ 2 ∷ 0 ∷ 3 ∷ 3 ∷ 0 ∷ 3 ∷ 4 ∷ 0 ∷ 2 ∷ 1 ∷ 8 ∷ []) ∷ []))
     ∷ equals (answers voted (votes 1 (1 ∷ 2 ∷ []) 1 7 ++ votes 3 (3 ∷ 4 ∷ []) 1 0 ++ votes 1 (5 ∷ []) 1 8 ++ votes 1 (6 ∷ []) 1 9))
     (silent 5 ++ ((0 ∷ 3 ∷ 2 ∷ 0 ∷ 3 ∷ 3 ∷ 0 ∷ 3 ∷ 4 ∷ 0 ∷ 4 ∷ 1 ∷ 0 ∷ []) ∷ [])) ∷ [])
 
