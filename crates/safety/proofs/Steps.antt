@@ -19,9 +19,9 @@ use Rattle.rulebook.specs.declared.Verdict.the-variants.{Fine, Refused}
 use Rattle.rulebook.specs.PaperNumbers.{voteNumber}
 use Rattle.rulebook.specs.Weights.{slotOk, firstOf, windowOf, mostNodes, lastSlot}
 use Rattle.rulebook.specs.Ledger.{Ledger, Row, none, noInitial, ownCell, rowAt, cellAt, putRow, putArmed}
-use Rattle.rulebook.specs.Pool.{hasFallback, counts, weigh, weighs, signersOf, fifthsOf, held, names}
+use Rattle.rulebook.specs.Pool.{counts, weigh, weighs, signersOf, fifthsOf, held, names}
 use Rattle.rulebook.specs.Votes.{placeIf, placeOf, storeVote}
-use Rattle.rulebook.specs.Rules.{Record, State, stateOf, recordOf, report, cast, castSkip, castSkips, ruleA, ruleB, mayFinal, ruleC, fallbackWeights, mayFallback, fallsBack, fallbackBlock, castFallback, ruleD, maySkipFallback, castSkipFallback, ruleE, ruleF}
+use Rattle.rulebook.specs.Rules.{Record, State, stateOf, recordOf, report, cast, castSkip, castSkips, ruleA, ruleB, ruleC, fallbackWeights, fallsBack, fallbackBlock, castFallback, ruleD, castSkipFallback, ruleE, ruleF}
 use Rattle.rulebook.specs.Run.{mostRecords, ruleAt, firstRule, firstSlot, scan, runFor, run}
 use Rattle.rulebook.specs.Inputs.{refuseIf, isOther, misfits, placeVerdict, voteVerdict, blockVerdict, timeoutVerdict, verdict, timeOut, intake, fedWith, refusedWith, fedOn, feed}
 use Rattle.rulebook.specs.WellFormed.{Shaped}
@@ -32,7 +32,7 @@ use Rattle.safety.proofs.Tests.{and-T, T-and, not-not}
 use Rattle.safety.proofs.Weighing.{reaches-less}
 use Rattle.safety.proofs.Cells.{is-notar}
 use Rattle.safety.proofs.Along.{Inv, same-refl, move-inv, moves-grow, others-grow}
-use Rattle.safety.proofs.Guards.{given-by, given-T, lowest-passes, fallback-others, skip-others, held-certified}
+use Rattle.safety.proofs.Guards.{given-by, given-T, lowest-passes, final-guard, fallback-guard, skipFallback-guard, fallback-others, skip-others, held-certified}
 use Rattle.safety.proofs.Stores.{row-shaped, row-cells, armed-shaped, store-shaped, store-stored}
 
 -- A state on the way from o₀.
@@ -113,14 +113,13 @@ module _ (me : ℕ) (i : Input) (me64 : me < mostNodes) where
         cast-going o s (notar b) h (T-and (not (none b)) (noInitial (cellAt (o .ledger) s me)) (x .1) (rw (mine o s g) at (x .0))) anyNotar g
 
     ruleC-going : (o : State) (s : ℕ) → s < suc lastSlot → Going me i o₀ o → Going me i o₀ (ruleC o s)
-    unfolding ruleC mayFinal held weighs weigh counts signersOf fifthsOf
+    unfolding ruleC held weighs weigh counts signersOf fifthsOf
     ruleC-going o s h g =
         let c = ownCell (o .ledger) s in
         given-by (Going me i o₀) _ _ _ g λ t. given-by (Going me i o₀) _ _ _ g λ u.
-        let x = and-T (not (none (c .notar)) && none (c .finalvote)) (none (c .fallback1) && none (c .skipfallback)) t in
-        let y = and-T (not (none (c .notar))) (none (c .finalvote)) (x .0) in
+        let x = final-guard c t in
         cast-going o s final h tt
-        (toFinal (c .notar) (rw (← mine o s g) (is-notar c (c .notar) (y .0) (eqb-refl (c .notar)))) (rw (mine o s g) at (x .1)) (held-certified (o .ledger) s (c .notar) (y .0) u)) g
+        (toFinal (c .notar) (rw (← mine o s g) (is-notar c (c .notar) (x .0) (eqb-refl (c .notar)))) (rw (mine o s g) at (x .1)) (held-certified (o .ledger) s (c .notar) (x .0) u)) g
 
     ruleF-going : (o : State) (s : ℕ) → s < suc lastSlot → Going me i o₀ o → Going me i o₀ (ruleF o s)
     unfolding ruleF
@@ -142,16 +141,14 @@ module _ (me : ℕ) (i : Input) (me64 : me < mostNodes) where
     falls-weights l s b t = given-T _ _ t .1
 
     fallback-going : (o : State) (s b : ℕ) → s < suc lastSlot → T (not (none b)) → T (fallbackWeights (o .ledger) s b) → Going me i o₀ o → Going me i o₀ (castFallback o s b)
-    unfolding castFallback mayFallback
+    unfolding castFallback
     fallback-going o s b h z t g =
         let p = castSkips o s in
         let gp = skips-going o₀ o s h g in
-        let c = ownCell (p .ledger) s in
         given-by (Going me i o₀) _ _ _ gp λ u.
-        let x = and-T (none (c .finalvote)) (not (hasFallback b c) && none (c .fallback3)) u in
-        let y = and-T (not (hasFallback b c)) (none (c .fallback3)) (x .1) in
+        let x = fallback-guard (ownCell (p .ledger) s) b u in
         cast-going o₀ p s (notarFallback b) h
-        (T-and (not (none b)) (none (cellAt (p .ledger) s me .fallback3)) z (rw (mine o₀ p s gp) at (y .1)))
+        (T-and (not (none b)) (none (cellAt (p .ledger) s me .fallback3)) z (rw (mine o₀ p s gp) at (x .1)))
         (toFallback (rw (mine o₀ p s gp) at (x .0)) (λ d ne. others-after fallbackFifths (omega arith) o s d h g (fallback-others (o .ledger) s b (g .inv .neat s) z t d ne))) gp
 
     ruleD-going : (o : State) (s : ℕ) → s < suc lastSlot → Going me i o₀ o → Going me i o₀ (ruleD o s)
@@ -162,14 +159,13 @@ module _ (me : ℕ) (i : Input) (me64 : me < mostNodes) where
         (falls-weights (o .ledger) s (fallbackBlock (o .ledger) s) (lowest-passes (fallsBack (o .ledger) s) (names (o .ledger) s) u)) g
 
     ruleE-going : (o : State) (s : ℕ) → s < suc lastSlot → Going me i o₀ o → Going me i o₀ (ruleE o s)
-    unfolding ruleE castSkipFallback maySkipFallback
+    unfolding ruleE castSkipFallback
     ruleE-going o s h g =
         let p = castSkips o s in
         let gp = skips-going o₀ o s h g in
-        let c = ownCell (p .ledger) s in
         given-by (Going me i o₀) _ _ _ g λ t. given-by (Going me i o₀) _ _ _ g λ u. given-by (Going me i o₀) _ _ _ gp λ w.
         cast-going o₀ p s skipFallback h tt
-        (toSkipFallback (rw (mine o₀ p s gp) at (and-T (none (c .finalvote)) (none (c .skipfallback)) w .0))
+        (toSkipFallback (rw (mine o₀ p s gp) at (skipFallback-guard (ownCell (p .ledger) s) w))
         (λ d. others-after skipFallbackFifths (omega arith) o s d h g (skip-others (o .ledger) s (g .inv .neat s) u d))) gp
 
     rule-going : (r : ℕ) (o : State) (s : ℕ) → s < suc lastSlot → Going me i o₀ o → Going me i o₀ (ruleAt r o s)
