@@ -40,7 +40,7 @@ pub fn compare(task: &Task) -> bool {
     let last = task.seed.saturating_add(task.count);
     let mut next = task.seed;
     let (mut scripts, mut answers) = (0, 0);
-    while next < last && deadline.is_none_or(|d| Instant::now() < d) {
+    while next < last && deadline.map_or(true, |d| Instant::now() < d) {
         let batch = fill_batch(next, last);
         next += batch.seeds.len() as u64;
         match compare_batch(task, &batch) {
@@ -65,12 +65,13 @@ fn fill_batch(first: u64, last: u64) -> Batch {
         if alone || batch.seeds.len() == LARGEST_BATCH {
             break;
         }
-        if !batch.text.is_empty() && !batch.text.ends_with('\n') {
-            batch.text.push('\n');
-        }
         batch.first_lines.push(lines(batch.text.as_bytes()).len());
         batch.text += &script.text;
         batch.seeds.push(seed);
+        // A missing end is given to the program as it is, and ends the run.
+        if !batch.text.ends_with('\n') {
+            break;
+        }
     }
     batch
 }
@@ -90,8 +91,9 @@ struct Difference {
 /// The same difference from a run of the one script, if it shows there too:
 /// that is easier to follow.
 fn alone_if_possible(task: &Task, batch: &Batch, mut difference: Difference) -> Difference {
-    let Some(seed) = difference.seed else {
-        return difference;
+    let seed = match difference.seed {
+        Some(seed) => seed,
+        None => return difference,
     };
     if let Err(alone) = compare_batch(task, &fill_batch(seed, seed + 1)) {
         return alone;

@@ -9,7 +9,8 @@ use std::io::{self, Write};
 
 #[derive(Default)]
 pub struct Cover {
-    /// By command word and answer: a refusal number, 0 or `?`.
+    /// By command word and answer: a refusal number, 0 or `?`. Blank lines and
+    /// comments are here only where they are too long to be skipped.
     answers: BTreeMap<String, BTreeMap<String, u64>>,
     records: BTreeMap<String, u64>,
     notes: BTreeMap<String, u64>,
@@ -55,22 +56,30 @@ impl Cover {
         self.scripts += 1;
         self.longest = self.longest.max(script.len());
         for line in script {
-            let Some(answer) = panel.line(line) else {
-                continue;
-            };
-            self.commands += 1;
-            self.take_answer(&String::from_utf8_lossy(line), &answer);
-            if let Some(node) = &mut panel.node {
-                for (what, times) in std::mem::take(&mut node.notes) {
-                    *self.notes.entry(what.to_string()).or_insert(0) += times;
-                }
+            if let Some(answer) = panel.line(line) {
+                self.commands += 1;
+                self.take_answer(&String::from_utf8_lossy(line), &answer);
+                self.take_notes(&mut panel);
+            }
+        }
+    }
+
+    fn take_notes(&mut self, panel: &mut Panel) {
+        if let Some(node) = &mut panel.node {
+            for (what, times) in std::mem::take(&mut node.notes) {
+                *self.notes.entry(what.to_string()).or_insert(0) += times;
             }
         }
     }
 
     fn take_answer(&mut self, line: &str, answer: &[String]) {
         let words: Vec<&str> = line.split_ascii_whitespace().collect();
-        let command = if COMMANDS.contains(&words[0]) { words[0] } else { "(other)" };
+        let command = match words.first() {
+            Some(word) if COMMANDS.contains(word) => word,
+            Some(_) if line.starts_with('#') => "(comment)",
+            Some(_) => "(other)",
+            None => "(blank)",
+        };
         let answered: Vec<&str> = answer.first().map_or(vec![], |line| line.split(' ').collect());
         // `votes` has no number of its own: its lines are counted as 0.
         let number = match (command, answered.as_slice()) {

@@ -523,8 +523,9 @@ impl Node {
             return false;
         }
         let parents = self.ready_parents(slot);
-        let Some(&(nearest, _)) = parents.first() else {
-            return false;
+        let nearest = match parents.first() {
+            Some(&(slot, _)) => slot,
+            None => return false,
         };
         self.note(if nearest + 1 == slot {
             "A with a parent next door"
@@ -538,8 +539,9 @@ impl Node {
 
     /// B: notarize the kept block.
     fn rule_b(&mut self, slot: u64) -> bool {
-        let Some(block) = self.kept_block(slot) else {
-            return false;
+        let block = match self.kept_block(slot) {
+            Some(block) => block,
+            None => return false,
         };
         if self.own_cell(slot).initial.is_some() || !self.parent_allows(slot, block) {
             return false;
@@ -564,8 +566,9 @@ impl Node {
     /// C: vote for finality of the own notarized block.
     fn rule_c(&mut self, slot: u64) -> bool {
         let own = self.own_cell(slot);
-        let Some(block) = own.notar_block() else {
-            return false;
+        let block = match own.notar_block() {
+            Some(block) => block,
+            None => return false,
         };
         let fell_back = own.skip_fallback || !own.notar_fallbacks.is_empty();
         if fell_back || own.final_vote || !self.holds(slot, Cert::Notar(block)) {
@@ -642,8 +645,9 @@ impl Node {
         if self.finalized[slot as usize] {
             return false;
         }
-        let Some(block) = self.notar_blocks(slot).into_iter().find(|&b| self.is_final(slot, b)) else {
-            return false;
+        let block = match self.notar_blocks(slot).into_iter().find(|&b| self.is_final(slot, b)) {
+            Some(block) => block,
+            None => return false,
         };
         self.note(if self.holds(slot, Cert::FastFinal(block)) {
             "F by kind 1"

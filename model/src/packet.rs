@@ -19,9 +19,7 @@ pub fn put_number(packet: &mut Vec<u8>, mut number: u64) {
 pub fn take_number(packet: &mut &[u8]) -> Result<u64, Refusal> {
     let mut number = 0;
     for place in 0.. {
-        let Some((&byte, rest)) = packet.split_first() else {
-            return Err(Refusal::PacketLength);
-        };
+        let (&byte, rest) = packet.split_first().ok_or(Refusal::PacketLength)?;
         *packet = rest;
         // This also ends the loop: a tenth byte of 00 or 01 has no top bit.
         if place == TENTH && byte > 1 {

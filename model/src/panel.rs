@@ -33,12 +33,15 @@ enum Command {
 impl Panel {
     /// The answer's lines; None for a line that is skipped.
     pub fn line(&mut self, line: &[u8]) -> Option<Vec<String>> {
+        // A line that is too long is looked at no further, be it blank or a comment.
+        if line.len() > LONGEST_LINE {
+            return Some(vec![NOT_A_COMMAND.to_string()]);
+        }
         let words = words(line);
         if words.is_empty() || line.starts_with(b"#") {
             return None;
         }
-        let command = if line.len() > LONGEST_LINE { Err(Malformed) } else { parse(&words) };
-        Some(match command {
+        Some(match parse(&words) {
             Ok(command) => self.obey(command).unwrap_or_else(|refusal| vec![refusal.number().to_string()]),
             Err(Malformed) => vec![NOT_A_COMMAND.to_string()],
         })
@@ -80,7 +83,7 @@ impl Panel {
 pub fn lines(script: &[u8]) -> Vec<&[u8]> {
     let mut lines: Vec<&[u8]> = script.split(|&byte| byte == b'\n').collect();
     // What follows the last LF is a line only if it has bytes.
-    if lines.last().is_some_and(|last| last.is_empty()) {
+    if lines.last().map_or(false, |last| last.is_empty()) {
         lines.pop();
     }
     lines.into_iter().map(|line| line.strip_suffix(b"\r").unwrap_or(line)).collect()

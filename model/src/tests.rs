@@ -236,7 +236,7 @@ fn largest_total_does_not_overflow() {
     let half = 1 << 47;
     let stakes = Stakes::new(&[half, half]).unwrap();
     assert!(stakes.reaches(half, P40) && !stakes.reaches(half, P60));
-    let fifth = (1u64 << 48).div_ceil(5);
+    let fifth = ((1u64 << 48) + 4) / 5;
     assert!(stakes.reaches(fifth, P20) && !stakes.reaches(fifth - 1, P20));
 }
 
@@ -654,9 +654,31 @@ fn lines_that_are_not_commands() {
     ] {
         assert_eq!(run(line), ["?"], "{line}");
     }
-    let spaced = |length: usize| format!("vote 1{}1 1 7", " ".repeat(length - 11));
-    assert_eq!(run(&spaced(4096)), ["17"]);
-    assert_eq!(run(&spaced(4097)), ["?"]);
+}
+
+/// Counted without the line's end, and whatever the line holds.
+#[test]
+fn lines_over_the_buffer() {
+    let command = |length: usize| format!("vote 1{}1 1 7", " ".repeat(length - 11));
+    let blank = |length: usize| " ".repeat(length);
+    let comment = |length: usize| format!("#{}", "-".repeat(length - 1));
+    for end in ["", "\n", "\r", "\r\n"] {
+        assert_eq!(run(&(command(4096) + end)), ["17"], "{end:?}");
+        assert_eq!(run(&(blank(4096) + end)), [""; 0], "{end:?}");
+        assert_eq!(run(&(comment(4096) + end)), [""; 0], "{end:?}");
+        for length in [4097, 4098, 4099, 8193] {
+            for long in [command(length), blank(length), comment(length)] {
+                assert_eq!(run(&(long + end)), ["?"], "{length} {end:?}");
+            }
+        }
+    }
+    // One CR belongs to the line's end, a second one and one inside do not.
+    assert_eq!(run(&(blank(4096) + "\r\r\n")), ["?"]);
+    assert_eq!(run(&(comment(4096) + "\r\r\n")), ["?"]);
+    assert_eq!(run(&(blank(4097) + "\r \n")), ["?"]);
+    // Such a line changes nothing, and the next one is read as it stands.
+    let script = format!("start 0 1 5\n{}\nlook\n{}\nvotes\n{}", blank(4097), comment(9000), blank(4096));
+    assert_eq!(run(&script), ["0", "?", "0 1 7,1,0", "?"]);
 }
 
 // ---- the generator ----
@@ -727,6 +749,9 @@ fn five_hundred_scripts_reach_everything() {
             let times = seen.answers(command, &number.to_string());
             assert!(times >= 10, "{command} answered {number} only {times} times");
         }
+    }
+    for silent in ["(blank)", "(comment)"] {
+        assert!(seen.answers(silent, "?") >= 10, "few {silent} lines over the buffer");
     }
     for kind in 1..=7 {
         assert!(seen.records(kind) >= 50, "few records of kind {kind}");

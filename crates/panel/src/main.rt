@@ -36,13 +36,13 @@ fn is_comment(line: &[u8]) -> bool {
     line[0] == b'#'
 }
 
-// Answers a line, its carriage return gone.
+// Answers a line, its carriage return gone. A line that is too long gets ? whatever it holds, spaces alone or a comment too.
 fn answer(line: &[u8], rec: &mut [u64], outbox: &mut [u64]) {
-    if is_comment(line) {
-        return;
-    }
     if line.len() > LONGEST {
         say(b"?\n");
+        return;
+    }
+    if is_comment(line) {
         return;
     }
     obey(line, rec, outbox);

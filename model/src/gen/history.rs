@@ -131,7 +131,7 @@ pub fn history(w: &mut Writer) {
     let numbers = Numbers::any(&mut w.random, w.ring.genesis);
     let votes_a_slot = w.ring.nodes() * 3 / 2 + 2;
     let slots = (w.room() / votes_a_slot).clamp(1, LAST_SLOT as usize) as u64;
-    let windows = slots.div_ceil(WINDOW);
+    let windows = (slots + WINDOW - 1) / WINDOW;
     let first_window = w.random.below(4 - windows + 1);
     let first = first_window * WINDOW + 1;
     if first > 1 {

@@ -89,10 +89,11 @@ const ODD_BUT_GOOD: &[&str] = &[
 ];
 
 pub fn line(w: &mut Writer) {
-    match w.random.below(12) {
+    match w.random.below(14) {
         0 => long_vote(w),
         1 => long_check(w),
-        2 | 3 => {
+        2 | 3 => long_silence(w),
+        4 | 5 => {
             let line = w.random.pick(ODD_BUT_GOOD);
             w.raw(line);
         }
@@ -103,9 +104,18 @@ pub fn line(w: &mut Writer) {
     }
 }
 
-/// At the longest length and one past it.
+/// At the longest length and on both sides of it.
 fn some_length(w: &mut Writer) -> usize {
-    w.random.pick(&[LONGEST_LINE - 1, LONGEST_LINE, LONGEST_LINE + 1, LONGEST_LINE + 2, 2 * LONGEST_LINE + 1])
+    let past = w.random.pick(&[1, 2, 3, LONGEST_LINE + 1]);
+    w.random.pick(&[LONGEST_LINE - 1, LONGEST_LINE, LONGEST_LINE + past])
+}
+
+/// Spaces or a comment, skipped unless it is too long. A CR that is not at the
+/// line's end is no end.
+pub fn long_silence(w: &mut Writer) {
+    let (first, last) = (w.random.pick(&[" ", "#"]), w.random.pick(&["  ", "  ", "\r "]));
+    let spaces = some_length(w) - first.len() - last.len();
+    w.raw(&format!("{first}{}{last}", " ".repeat(spaces)));
 }
 
 fn long_vote(w: &mut Writer) {

@@ -51,6 +51,9 @@ fn begin(mut random: Random, ring: Ring, least: u64, most: u64) -> Writer {
 
 fn end(mut w: Writer) -> Script {
     w.say("votes");
+    if w.random.percent(20) {
+        malformed::long_silence(&mut w);
+    }
     w.into_script()
 }
 

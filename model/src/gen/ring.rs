@@ -114,7 +114,7 @@ impl Ring {
         let mut stakes: Vec<u64> = (0..nodes).map(|_| random.range(1, 5)).collect();
         let others: u64 = stakes[1..].iter().sum();
         if nodes > 1 {
-            let least = random.pick(&[others * 4, others * 4 - 1, (others * 3).div_ceil(2), others * 9]);
+            let least = random.pick(&[others * 4, others * 4 - 1, (others * 3 + 1) / 2, others * 9]);
             stakes[0] = least.max(1);
         }
         let mut ring = Ring::with(random, stakes);
@@ -217,7 +217,7 @@ fn near_thresholds(random: &mut Random, nodes: usize) -> Vec<u64> {
     let total = random.range(top / 2, top);
     let mut bounds = vec![0];
     for k in 1..5 {
-        bounds.push((k * total).div_ceil(5) + random.below(3) - 1);
+        bounds.push((k * total + 4) / 5 + random.below(3) - 1);
     }
     bounds.push(total);
     let mut stakes: Vec<u64> = bounds.windows(2).map(|w| w[1] - w[0]).collect();

@@ -3,7 +3,7 @@
 
 use super::ring::Ring;
 use crate::node::Node;
-use crate::panel::{Panel, LONGEST_LINE};
+use crate::panel::Panel;
 use crate::random::Random;
 
 pub struct Writer {
@@ -74,8 +74,7 @@ impl Writer {
     pub fn raw(&mut self, line: &str) -> Vec<String> {
         let answer = self.panel.line(line.as_bytes());
         self.text += line;
-        // Whether the CR counts towards the longest line is not asked here.
-        let crlf = line.len() < LONGEST_LINE / 2 && self.random.percent(self.style.crlf);
+        let crlf = self.random.percent(self.style.crlf);
         self.text += if crlf { "\r\n" } else { "\n" };
         let answer = answer.unwrap_or_default();
         self.commands += 1;
@@ -140,9 +139,12 @@ impl Writer {
     }
 
     pub fn into_script(mut self) -> super::Script {
-        if self.random.percent(20) {
-            let without_end = self.text.trim_end_matches(['\r', '\n']).len();
-            self.text.truncate(without_end);
+        // The last line may lack its end, or the half of a CRLF.
+        if self.random.percent(10) {
+            self.text.pop();
+            if self.text.ends_with('\r') && self.random.percent(50) {
+                self.text.pop();
+            }
         }
         super::Script { text: self.text, unstarted: self.unstarted }
     }
