@@ -24,7 +24,7 @@ use Rattle.rulebook.specs.Inputs.{Fed, startVerdict, verdict, intake, fedWith, 
 use Rattle.rulebook.specs.WellFormed.{outboxWords, step}
 use Rattle.rulebook.proofs.ToolLaws.{given-on, given-off, by-test}
 use Rattle.settling.specs.Facts.{Sound}
-use Rattle.settling.proofs.Verdicts.{refuse-fine}
+use Rattle.rulebook.proofs.RuleLaws.{refuse-fine}
 use Rattle.settling.proofs.FeedLaws.{step-short, step-fed}
 use Rattle.settling.proofs.Soundness.{feed-sound}
 use Rattle.settling.proofs.Start.{fresh-sound}

@@ -35,7 +35,7 @@ use Rattle.rulebook.proofs.MaskLaws.{mask-lt, masks-apart, masks-weight, masks-
 use Rattle.rulebook.proofs.WeightLaws.{weight-same}
 use Rattle.rulebook.proofs.NumberLaws.{Fits64, certificate-in}
 use Rattle.packets.specs.Promises.{parts, TableIs, acceptedFor, proofParts, proofKind, CertificateBack, ProofBack}
-use Rattle.packets.proofs.Accepts.{passed}
+use Rattle.rulebook.proofs.RuleLaws.{refuse-fine}
 use Rattle.packets.proofs.Spelling.{parts-one, parts-two}
 
 -- ---- a node counts by one of the two masks, and by one only
@@ -344,11 +344,11 @@ unfolding writeCertificate certificateVerdict
 certificate-back l stakes t room k s b n h e =
     let bytes = certificateBytes (certificateFor l k s b) in
     let v = wrote-fine (certificateVerdict l room k s b) bytes n e in
-    let p1 = passed (ltb room 32) refusal.NoRoom _ v in
-    let p2 = passed (isOtherKind k) refusal.BadKind _ (p1 .1) in
-    let p3 = passed (not (slotOk s)) refusal.BadSlot _ (p2 .1) in
-    let p4 = passed (blockMisfits k b) refusal.BadBlock _ (p3 .1) in
-    let p5 = passed (not (held l k s b)) refusal.NotHeld _ (p4 .1) in
+    let p1 = refuse-fine (ltb room 32) refusal.NoRoom _ v in
+    let p2 = refuse-fine (isOtherKind k) refusal.BadKind _ (p1 .1) in
+    let p3 = refuse-fine (not (slotOk s)) refusal.BadSlot _ (p2 .1) in
+    let p4 = refuse-fine (blockMisfits k b) refusal.BadBlock _ (p3 .1) in
+    let p5 = refuse-fine (not (held l k s b)) refusal.NotHeld _ (p4 .1) in
     subst (λ (x : List ℕ). (parts x ≡ certificateFor l k s b ∷ []) × (checkCertificate stakes x ≡ check.Accepted (acceptedFor l k s b)))
     (sym (wrote-bytes (certificateVerdict l room k s b) bytes v))
     (certificate-on l stakes t k s b h (p2 .0) (not-false (slotOk s) (p3 .0)) (p4 .0) (not-false (held l k s b) (p5 .0)))
@@ -366,10 +366,10 @@ proof-back l stakes t room s b n h e =
     let c2 = certificateFor l certificate.Notar s b in
     let c5 = certificateFor l certificate.Final s 0 in
     let v = wrote-fine (proofVerdict l room s b) (proofBytes l s b) n e in
-    let p1 = passed (ltb room 64) refusal.NoRoom _ v in
-    let p2 = passed (not (slotOk s)) refusal.BadSlot _ (p1 .1) in
-    let p3 = passed (none b) refusal.BadBlock _ (p2 .1) in
-    let p4 = passed (not (fast || slow)) refusal.NotHeld _ (p3 .1) in
+    let p1 = refuse-fine (ltb room 64) refusal.NoRoom _ v in
+    let p2 = refuse-fine (not (slotOk s)) refusal.BadSlot _ (p1 .1) in
+    let p3 = refuse-fine (none b) refusal.BadBlock _ (p2 .1) in
+    let p4 = refuse-fine (not (fast || slow)) refusal.NotHeld _ (p3 .1) in
     let so = not-false (slotOk s) (p2 .0) in
     subst (λ (x : List ℕ). ProofOn l stakes s b x (proofParts l s b) (proofKind l s b)) (sym (wrote-bytes (proofVerdict l room s b) (proofBytes l s b) v))
     (by-test fast

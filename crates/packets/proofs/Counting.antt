@@ -17,8 +17,9 @@ use Rattle.rulebook.specs.Packets.{bit}
 use Rattle.rulebook.specs.Checker.{isOtherKind, blockMisfits, withoutB, badSigners, signed, signedWeight, judgeKind, judge, acceptedOf}
 use Rattle.rulebook.proofs.ToolLaws.{or-none}
 use Rattle.rulebook.proofs.MaskLaws.{weight-disjoint, count-disjoint}
+use Rattle.rulebook.proofs.RuleLaws.{refuse-fine}
+use Rattle.rulebook.proofs.AcceptedLaws.{Proven, one, two, accepted-single, accepted-proof}
 use Rattle.packets.specs.Promises.{Counted, FirstCounted, CertificateCounted, ProofCounted}
-use Rattle.packets.proofs.Accepts.{Proven, one, two, passed, accepted-single, accepted-proof}
 
 -- A certificate that is judged fine has no node in both masks.
 apart : (stakes : List ℕ) (c : Certificate) → judge stakes c ≡ verdict.Fine → someTo (length stakes) (λ n. bit (c .maska) n && bit (c .maskb) n) ≡ false
@@ -26,10 +27,10 @@ unfolding judge judgeKind badSigners
 apart stakes c j =
     let n = length stakes in
     let k = certificateKind (c .kind) in
-    let p1 = passed (isOtherKind k) refusal.BadKind _ j in
-    let p2 = passed (not (slotOk (c .slot))) refusal.BadSlot _ (p1 .1) in
-    let p3 = passed (blockMisfits k (c .block)) refusal.BadBlock _ (p2 .1) in
-    let p4 = passed _ refusal.BadSigners _ (p3 .1) in
+    let p1 = refuse-fine (isOtherKind k) refusal.BadKind _ j in
+    let p2 = refuse-fine (not (slotOk (c .slot))) refusal.BadSlot _ (p1 .1) in
+    let p3 = refuse-fine (blockMisfits k (c .block)) refusal.BadBlock _ (p2 .1) in
+    let p4 = refuse-fine _ refusal.BadSigners _ (p3 .1) in
     let q = or-none (leb (2 ^ n) (c .maska) || leb (2 ^ n) (c .maskb)) (someTo n (λ i. bit (c .maska) i && bit (c .maskb) i) || (withoutB k && not (none (c .maskb)))) (p4 .0) in
     or-none (someTo n (λ i. bit (c .maska) i && bit (c .maskb) i)) (withoutB k && not (none (c .maskb))) (q .1) .0
 
@@ -48,9 +49,9 @@ counted stakes c j =
     }
 
 proven-counted : (stakes packet : List ℕ) (a : Accepted) → Proven stakes packet a → FirstCounted stakes packet a
-proven-counted stakes packet a (one c e j q) =
+proven-counted stakes packet a (one c e j k q) =
     record { first = c; next = length packet; read = e; counted = subst (Counted stakes c) q (counted stakes c j) }
-proven-counted stakes packet a (two c d n e j q f) =
+proven-counted stakes packet a (two c d n e j k f i l t q) =
     record { first = c; next = n; read = e; counted = subst (Counted stakes c) q (counted stakes c j) }
 
 pub certificate-counted : CertificateCounted

@@ -10,8 +10,8 @@ use Rattle.rulebook.specs.declared.Certificate.{Certificate}
 use Rattle.rulebook.specs.declared.Found.the-variants as found
 use Rattle.rulebook.specs.Packets.{certificateAt, certificateBytes}
 use Rattle.rulebook.proofs.NumberLaws.{certificate-read, certificate-whole}
+use Rattle.rulebook.proofs.AcceptedLaws.{Proven, one, two, accepted-single, accepted-proof, past-end}
 use Rattle.packets.specs.Promises.{Bytes, partFrom, parts, OneCertificate, OneProof}
-use Rattle.packets.proofs.Accepts.{Proven, one, two, accepted-single, accepted-proof, past-end}
 
 -- Certificates, one after the other.
 spelled : List Certificate → List ℕ
@@ -42,8 +42,8 @@ two-spelled packet c d n h e f =
     ∙ sym (ap spelled (parts-two packet c d n (length packet) e f))
 
 proven-spelled : (stakes packet : List ℕ) (a : Accepted) → Bytes packet → Proven stakes packet a → packet ≡ spelled (parts packet)
-proven-spelled stakes packet a h (one c e j q) = one-spelled packet c h e
-proven-spelled stakes packet a h (two c d n e j q f) = two-spelled packet c d n h e f
+proven-spelled stakes packet a h (one c e j k q) = one-spelled packet c h e
+proven-spelled stakes packet a h (two c d n e j k f i l t q) = two-spelled packet c d n h e f
 
 pub one-certificate : OneCertificate
 one-certificate stakes others p q a b hp hq ep eq same =

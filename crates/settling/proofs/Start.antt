@@ -19,7 +19,7 @@ use Rattle.rulebook.specs.WellFormed.{Shaped, inOrder, cellFits, cellBlank, cel
 use Rattle.rulebook.proofs.ToolLaws.{given-off, and-both, or-none, all-at, all-each, sum-same}
 use Rattle.settling.specs.Facts.{RowFacts, Formed, Sound}
 use Rattle.settling.specs.Steps.{after, life}
-use Rattle.settling.proofs.Verdicts.{refuse-fine}
+use Rattle.rulebook.proofs.RuleLaws.{refuse-fine}
 use Rattle.settling.proofs.FactLaws.{well-formed}
 use Rattle.settling.proofs.SpareLaws.{spare-most}
 use Rattle.settling.proofs.Life.{life-paid}
