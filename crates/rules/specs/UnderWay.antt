@@ -1,5 +1,4 @@
 -- What running the rules asks of the lent memory.
-use mathlib.Core.Path.{_≡_}
 use mathlib.Core.List.{List}
 use Prim.Native.Nat.{ℕ}
 use Rattle.stakes.specs.declared.StakeTable.{StakeTable}
@@ -16,8 +15,3 @@ pub record UnderWay (t : StakeTable) (ws out : List ℕ) (at : ℕ) : Type 0 whe
 pub record UnderWayAt (t : StakeTable) (ws out : List ℕ) (at s : ℕ) : Type 0 where
   pub live : LiveAt ws out at s
   pub table : Tabled (ledgerOf ws) t
-
--- Likewise, and there is a block to fall back to.
-pub record Falling (t : StakeTable) (ws out : List ℕ) (at s b : ℕ) : Type 0 where
-  pub under : UnderWayAt t ws out at s
-  pub block : b ≡ 0 → ⊥

@@ -7,9 +7,10 @@ ghost use Rattle.rulebook.specs.Rules.{windowOpen, ruleA, parentFits, ruleB, ru
 ghost use Rattle.rulebook.specs.Run.{ruleAt, scan, run};
 ghost use Rattle.record.specs.Layout.{InWindow, ledgerOf};
 ghost use Rattle.voter.specs.Outbox.{stateIn};
-ghost use Rattle.voter.specs.Voting.{Onward};
+ghost use Rattle.voter.specs.Voting.{LiveAt, Onward};
 ghost use Rattle.candidates.specs.Judging.{Judging};
-ghost use Rattle.rules.specs.UnderWay.{UnderWay, UnderWayAt, Falling};
+ghost use Rattle.rules.specs.Fallbacks.{addNotarFallback, addSkipFallback};
+ghost use Rattle.rules.specs.UnderWay.{UnderWay, UnderWayAt};
 use candidates::fallback_block;
 use candidates::final_candidate;
 use candidates::may_fallback;
@@ -107,23 +108,24 @@ fn rule_c(rec: &mut [u64], outbox: &mut [u64], at: usize, t: StakeTable, s: Slot
     at
 }
 
+// D's last cast: without an own final, notar-fallback b unless already cast or three were cast.
+fn add_notar_fallback(rec: &mut [u64], outbox: &mut [u64], at: usize, s: Slot, b: u64) -> usize
+    requires { ⌜ LiveAt (now rec) (now outbox) at (s .0) ⌝ }
+    ensures { λ r. ⌜ Onward (now (rec .entry)) (now (outbox .entry)) at (now (rec .exit)) (now (outbox .exit)) r (addNotarFallback (stateIn (now (rec .entry)) (now (outbox .entry)) at) (s .0) b) ⌝ }
+{
+    if may_fallback(own_cell(rec, s), b) {
+        return cast_vote(rec, outbox, at, s, VoteKind::NotarFallback, b);
+    }
+    at
+}
+
 // D's casts for its block: skips for the window, then the fallback.
-fn cast_fallback(
-    rec: &mut [u64],
-    outbox: &mut [u64],
-    at: usize,
-    t: StakeTable,
-    s: Slot,
-    b: u64,
-) -> usize
-    requires { ⌜ Falling t (now rec) (now outbox) at (s .0) b ⌝ }
+fn cast_fallback(rec: &mut [u64], outbox: &mut [u64], at: usize, s: Slot, b: u64) -> usize
+    requires { ⌜ LiveAt (now rec) (now outbox) at (s .0) ⌝ }
     ensures { λ r. ⌜ Onward (now (rec .entry)) (now (outbox .entry)) at (now (rec .exit)) (now (outbox .exit)) r (castFallback (stateIn (now (rec .entry)) (now (outbox .entry)) at) (s .0) b) ⌝ }
 {
-    let made = cast_skips(rec, outbox, at, s);
-    if may_fallback(own_cell(rec, s), b) {
-        return cast_vote(rec, outbox, made, s, VoteKind::NotarFallback, b);
-    }
-    made
+    let skipped = cast_skips(rec, outbox, at, s);
+    add_notar_fallback(rec, outbox, skipped, s, b)
 }
 
 // D. Own initial vote present, and some block falls back: casts for the lowest.
@@ -138,25 +140,27 @@ fn rule_d(rec: &mut [u64], outbox: &mut [u64], at: usize, t: StakeTable, s: Slot
     if b == 0 {
         return at;
     }
-    cast_fallback(rec, outbox, at, t, s, b)
+    cast_fallback(rec, outbox, at, s, b)
+}
+
+// E's last cast: without an own final, skip-fallback unless cast.
+fn add_skip_fallback(rec: &mut [u64], outbox: &mut [u64], at: usize, s: Slot) -> usize
+    requires { ⌜ LiveAt (now rec) (now outbox) at (s .0) ⌝ }
+    ensures { λ r. ⌜ Onward (now (rec .entry)) (now (outbox .entry)) at (now (rec .exit)) (now (outbox .exit)) r (addSkipFallback (stateIn (now (rec .entry)) (now (outbox .entry)) at) (s .0)) ⌝ }
+{
+    if may_skip_fallback(own_cell(rec, s)) {
+        return cast_vote(rec, outbox, at, s, VoteKind::SkipFallback, 0);
+    }
+    at
 }
 
 // E's casts: skips for the window, then the skip-fallback.
-fn cast_skip_fallback(
-    rec: &mut [u64],
-    outbox: &mut [u64],
-    at: usize,
-    t: StakeTable,
-    s: Slot,
-) -> usize
-    requires { ⌜ UnderWayAt t (now rec) (now outbox) at (s .0) ⌝ }
+fn cast_skip_fallback(rec: &mut [u64], outbox: &mut [u64], at: usize, s: Slot) -> usize
+    requires { ⌜ LiveAt (now rec) (now outbox) at (s .0) ⌝ }
     ensures { λ r. ⌜ Onward (now (rec .entry)) (now (outbox .entry)) at (now (rec .exit)) (now (outbox .exit)) r (castSkipFallback (stateIn (now (rec .entry)) (now (outbox .entry)) at) (s .0)) ⌝ }
 {
     let made = cast_skips(rec, outbox, at, s);
-    if may_skip_fallback(own_cell(rec, s)) {
-        return cast_vote(rec, outbox, made, s, VoteKind::SkipFallback, 0);
-    }
-    made
+    add_skip_fallback(rec, outbox, made, s)
 }
 
 // Rule E's first part: an own notar vote, and something that E would cast.
@@ -175,7 +179,7 @@ fn rule_e(rec: &mut [u64], outbox: &mut [u64], at: usize, t: StakeTable, s: Slot
 {
     if may_skip(rec, t, s) {
         if skip_weights(rec, t, s) {
-            return cast_skip_fallback(rec, outbox, at, t, s);
+            return cast_skip_fallback(rec, outbox, at, s);
         }
     }
     at

@@ -1,0 +1,55 @@
+-- The skip-fallback where the own votes let it; paid from the potential.
+use mathlib.Core.Path.{_∙_, ap, sym}
+use Prim.Native.Nat.{ℕ}
+use borrow.Author.Needs.{needs}
+use Rattle.rulebook.specs.Rules.{State, maySkipFallback}
+use Rattle.rulebook.specs.declared.Cell.{Cell}
+use Rattle.voter.proofs.LiveLaws.{live-placed, onward, onward-none}
+use Rattle.voter.proofs.OutboxLaws.{moved-is}
+use Rattle.voter.specs.Outbox.{stateIn}
+use Rattle.rules.proofs.RuleLaws.{skipFallback-on, skipFallback-off, skipFallback-comes}
+use Rattle.rules.proofs.add_skip_fallback.Statement.{statement}
+use Rattle.rules.proofs.add_skip_fallback.Tie as tie
+
+own-cell-requires : tie.Need-own-cell-requires
+own-cell-requires c κs = search needs
+
+may-skip-fallback-requires : tie.Need-may-skip-fallback-requires
+may-skip-fallback-requires c κs = search needs
+
+cast-vote-requires : tie.Need-cast-vote-requires
+cast-vote-requires c κs = search needs
+
+same-length : tie.Need-same-length
+same-length c = search needs
+
+same-length-2 : tie.Need-same-length-2
+same-length-2 c = search needs
+
+returns : tie.Need-returns
+returns c =
+    let a = c .before .before .before .before .before .before .before .before .before .before .before .before .before .args in let p = c .before .before .before .before .before .before .before .before .before .before .before .before .before .pre in let o : State = stateIn (a .rec .now) (a .outbox .now) (a .at) in let q = c .before .before .before .before .cast-vote in
+    let e = ap maySkipFallback (sym (c .before .before .before .before .before .before .before .before .before .own-cell .ensures)) ∙ sym (c .before .before .before .before .before .before .before .before .may-skip-fallback .ensures) ∙ c .before .before .before .before .before .before .before .if1 .taken in
+    onward (p .live) (q .kept .0) (q .kept .1 .0) (moved-is (q .ensures) (skipFallback-on o (a .s .0) e)) (skipFallback-comes o (a .s .0) (live-placed (p .live)) (p .low) (p .high))
+
+same-length-3 : tie.Need-same-length-3
+same-length-3 c = search needs
+
+returns-2 : tie.Need-returns-2
+returns-2 c =
+    let a = c .before .before .before .before .before .before .args in let p = c .before .before .before .before .before .before .pre in let o : State = stateIn (a .rec .now) (a .outbox .now) (a .at) in
+    let e = ap maySkipFallback (sym (c .before .before .own-cell .ensures)) ∙ sym (c .before .may-skip-fallback .ensures) ∙ c .if1 .left in
+    onward-none (p .live) (skipFallback-off o (a .s .0) e)
+
+pub add-skip-fallback-spec : {M : Type 1} → statement M
+add-skip-fallback-spec =
+    tie.close
+    (tie.spec
+    own-cell-requires
+    may-skip-fallback-requires
+    cast-vote-requires
+    same-length
+    same-length-2
+    returns
+    same-length-3
+    returns-2)
