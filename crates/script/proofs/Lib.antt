@@ -1,3 +1,5 @@
 -- Laws that the proofs of the readers cite.
 pub mod Stretches
 pub mod Digits
+pub mod Pairs
+pub mod Reading

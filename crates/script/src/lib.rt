@@ -3,9 +3,10 @@ ghost use mathlib.Core.Path.{_≡_};
 ghost use mathlib.Core.Bool.{_&&_};
 ghost use Prim.Native.Nat.{_+_, _*_, _≤_, _<_, min};
 ghost use lib.Dec.{eqb, leb, ltb};
-ghost use lib.ListN.{length};
+ghost use lib.ListN.{length, set};
 ghost use Rattle.script.specs.Words.{isSpace, isInk, Spanned, WordIn};
-ghost use Rattle.script.specs.Digits.{isDigit, fits64, decimalOf, hexDigit, hexPair, HexIn};
+ghost use Rattle.script.specs.Numbers.{NumbersIn};
+ghost use Rattle.script.specs.Digits.{isDigit, fits64, decimalOf, hexDigit, hexPair, isDash, pairsGood, spellsBytes, Pairs, putPairs, HexIn};
 
 // What a word says as a decimal number.
 pub enum Decimal {
@@ -125,7 +126,7 @@ pub fn read_decimal(word: &[u8]) -> Decimal
 
 // Puts a number to a place, where there is one.
 fn keep(out: &mut [u64], i: usize, v: u64)
-    ensures { λ _. ⌜ length (now (out .exit)) ≡ length (now (out .entry)) ⌝ }
+    ensures { λ _. ⌜ now (out .exit) ≡ set (now (out .entry)) i v ⌝ }
 {
     if i < out.len() {
         out[i] = v;
@@ -134,7 +135,7 @@ fn keep(out: &mut [u64], i: usize, v: u64)
 
 // Reads the words from a place on as numbers and puts the first of them into out, as far as it has room.
 pub fn read_numbers(line: &[u8], at: usize, out: &mut [u64]) -> Numbers
-    ensures { λ _. ⌜ length (now (out .exit)) ≡ length (now (out .entry)) ⌝ }
+    ensures { λ r. ⌜ NumbersIn (now (line .entry)) at (now (out .entry)) r (now (out .exit)) ⌝ }
 {
     let mut count = 0;
     let mut place = at;
@@ -186,17 +187,56 @@ fn hex_pair(word: &[u8], i: usize) -> u64
 }
 
 // Whether a word is the dash, which stands for the empty packet.
-fn is_dash(word: &[u8]) -> bool {
+fn is_dash(word: &[u8]) -> bool
+    ensures { λ r. ⌜ r ≡ isDash (now (word .entry)) ⌝ }
+{
     if word.len() != 1 {
         return false;
     }
     wide(word[0]) == 45
 }
 
+// Whether the first n pairs of a word are hex digits.
+fn all_pairs(word: &[u8], n: usize) -> bool
+    requires { ⌜ 2 * n ≤ length (now word) ⌝ }
+    ensures { λ r. ⌜ r ≡ pairsGood (now (word .entry)) n ⌝ }
+{
+    for i in 0..n {
+        if hex_pair(word, i) > 255 {
+            return false;
+        }
+    }
+    true
+}
+
+// Whether a word spells bytes in pairs of hex digits, and no more than there is room for.
+fn spells_bytes(word: &[u8], room: usize) -> bool
+    ensures { λ r. ⌜ r ≡ spellsBytes (now (word .entry)) room ⌝ }
+{
+    let n = word.len() / 2;
+    if word.len() % 2 != 0 {
+        return false;
+    }
+    if room < n {
+        return false;
+    }
+    all_pairs(word, n)
+}
+
+// Puts the bytes that the first n pairs of a word spell to the front of out.
+fn put_pairs(word: &[u8], n: usize, out: &mut [u8])
+    requires { ⌜ Pairs (now word) n (now out) ⌝ }
+    ensures { λ _. ⌜ now (out .exit) ≡ putPairs (now (word .entry)) n (now (out .entry)) ⌝ }
+{
+    for i in 0..n {
+        out[i] = hex_pair(word, i) as u8;
+    }
+}
+
 // Puts the bytes that a word spells in pairs of hex digits to the front of out; a dash spells none. An odd number of digits, a
-// byte that is no digit, and more bytes than out has are not good.
+// byte that is no digit, and more bytes than out has are not good, and leave out as it was.
 pub fn read_hex(word: &[u8], out: &mut [u8]) -> Hex
-    ensures { λ r. ⌜ HexIn r (now (out .exit)) ⌝ }
+    ensures { λ r. ⌜ HexIn (now (word .entry)) (now (out .entry)) r (now (out .exit)) ⌝ }
 {
     if is_dash(word) {
         return Hex {
@@ -204,29 +244,14 @@ pub fn read_hex(word: &[u8], out: &mut [u8]) -> Hex
             size: 0,
         };
     }
+    if !spells_bytes(word, out.len()) {
+        return Hex {
+            good: false,
+            size: 0,
+        };
+    }
     let n = word.len() / 2;
-    if word.len() % 2 != 0 {
-        return Hex {
-            good: false,
-            size: 0,
-        };
-    }
-    if out.len() < n {
-        return Hex {
-            good: false,
-            size: 0,
-        };
-    }
-    for i in 0..n {
-        let b = hex_pair(word, i);
-        if b > 255 {
-            return Hex {
-                good: false,
-                size: 0,
-            };
-        }
-        out[i] = b as u8;
-    }
+    put_pairs(word, n, out);
     Hex {
         good: true,
         size: n,

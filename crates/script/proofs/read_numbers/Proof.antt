@@ -1,21 +1,26 @@
--- The loop over words: each turn passes at least one byte, so there are no more numbers than bytes.
+-- The loop over words: what is read so far and the words ahead make the whole. Each turn passes at least one byte, so there are no
+-- more numbers than bytes.
 use lib.ListN.{length}
-use mathlib.Core.Path.{_≡_}
+use mathlib.Core.Path.{_≡_, refl, sym, _∙_}
 use Prim.Native.Nat.{_-_, _≤_}
+use native.Mathlib.Omega.{arith}
 use borrow.Author.Needs.{needs}
+use Rattle.script.specs.Numbers.{numbersFrom, numbersOf}
+use Rattle.script.proofs.Reading.{ahead, numbers-end, turn-none, turn-bad, turn-more, read-in, read-start}
 use Rattle.script.proofs.read_numbers.Statement.{statement}
 use Rattle.script.proofs.read_numbers.Tie as tie
 
 abbrev Inv-loop : tie.InvT-loop
 Inv-loop line at out₀ count₀ place₀ out count place =
-    (count ≤ place) × (length out ≡ length out₀)
+    (numbersOf line at out₀ ≡ numbersFrom (ahead line count) line place count out) × (count ≤ place) × (length out ≡ length out₀)
 
 abbrev μ-loop : tie.MeasureT-loop
 μ-loop line at out₀ count₀ place₀ out count place =
     length line - place
 
 loop-holds : tie.Need-loop-holds Inv-loop μ-loop
-loop-holds c = search needs
+loop-holds c =
+    (read-start _ _ _, omega arith, refl)
 
 word-at-requires : tie.Need-word-at-requires Inv-loop μ-loop
 word-at-requires c κs = search needs
@@ -24,7 +29,8 @@ same-length : tie.Need-same-length Inv-loop μ-loop
 same-length c = search needs
 
 returns : tie.Need-returns Inv-loop μ-loop
-returns c = search needs
+returns c =
+    read-in _ _ _ _ _ _ (c .before .before .before .loop .inv .0 ∙ turn-none _ _ _ _ (c .before .word-at .result) (c .before .word-at .ensures) (c .before .before .loop-test .taken) (omega (arith, c .before .before .before .loop .inv .1, c .before .before .loop-test .taken)) (c .if1 .taken)) (c .before .before .before .loop .inv .2)
 
 sub-read-decimal : tie.Need-sub-read-decimal Inv-loop μ-loop
 sub-read-decimal c = search needs
@@ -48,7 +54,8 @@ same-length-2 : tie.Need-same-length-2 Inv-loop μ-loop
 same-length-2 c = search needs
 
 returns-2 : tie.Need-returns-2 Inv-loop μ-loop
-returns-2 c = search needs
+returns-2 c =
+    read-in _ _ _ _ _ _ (c .before .before .before .before .before .before .before .loop .inv .0 ∙ turn-bad _ _ _ _ (c .before .before .before .before .before .word-at .result) (c .before .before .before .before .before .word-at .ensures) (c .before .before .before .before .before .before .loop-test .taken) (omega (arith, c .before .before .before .before .before .before .before .loop .inv .1, c .before .before .before .before .before .before .loop-test .taken)) (omega (arith, c .before .before .before .before .if1 .left)) (sym (c .enum-told .given .1) ∙ c .before .before .read-decimal .ensures)) (c .before .before .before .before .before .before .before .loop .inv .2)
 
 keep-requires : tie.Need-keep-requires Inv-loop μ-loop
 keep-requires c κs = search needs
@@ -60,13 +67,18 @@ loop-less : tie.Need-loop-less Inv-loop μ-loop
 loop-less c = search needs
 
 loop-again : tie.Need-loop-again Inv-loop μ-loop
-loop-again c = search needs
+loop-again c = (
+  c .before .before .before .before .before .before .before .before .before .before .before .before .loop .inv .0 ∙ turn-more _ _ _ _ (c .before .before .before .before .before .before .before .before .before .before .word-at .result) (c .before .before .before .before .before .before .before .before .before .before .word-at .ensures) (c .before .before .before .before .before .before .before .before .before .before .before .loop-test .taken) (omega (arith, c .before .before .before .before .before .before .before .before .before .before .before .before .loop .inv .1, c .before .before .before .before .before .before .before .before .before .before .before .loop-test .taken)) _ _ (omega (arith, c .before .before .before .before .before .before .before .before .before .if1 .left)) (sym (c .before .before .before .before .before .d .given .1) ∙ c .before .before .before .before .before .before .before .read-decimal .ensures) (c .before .before .keep .ensures),
+  omega (arith, c .before .before .before .before .before .before .before .before .before .if1 .left, c .before .before .before .before .before .before .before .before .before .before .word-at .ensures .from .low, c .before .before .before .before .before .before .before .before .before .before .before .before .loop .inv .1),
+  c .before .before .keep .kept .0 ∙ c .before .before .before .before .before .before .before .before .before .before .before .before .loop .inv .2,
+)
 
 same-length-3 : tie.Need-same-length-3 Inv-loop μ-loop
 same-length-3 c = search needs
 
 returns-3 : tie.Need-returns-3 Inv-loop μ-loop
-returns-3 c = search needs
+returns-3 c =
+    read-in _ _ _ _ _ _ (c .before .loop .inv .0 ∙ numbers-end _ _ _ _ _ (omega (arith, c .loop-test .left))) (c .before .loop .inv .2)
 
 pub read-numbers-spec : {M : Type 1} → statement M
 read-numbers-spec =
