@@ -1,7 +1,7 @@
 -- The search for the first rule that applies and the run, as the loops go through them over the lent memory. Assumes nothing.
 use mathlib.Core.Path.{_≡_, refl, sym, ap, _∙_, subst}
 use mathlib.Core.List.{List}
-use Prim.Native.Nat.{ℕ, suc, _+_, _*_, _≤_, _<_}
+use Prim.Native.Nat.{ℕ, _+_, _≤_, _<_}
 use native.Mathlib.Omega.{arith}
 use lib.ListN.{length}
 use Rattle.rulebook.specs.Weights.{lastSlot}
@@ -11,12 +11,12 @@ use Rattle.stakes.specs.declared.StakeTable.{StakeTable}
 use Rattle.record.specs.Layout.{ledgerOf}
 use Rattle.pool.specs.Weighing.{Tabled}
 use Rattle.settling.specs.Spare.{spare}
-use Rattle.settling.specs.Steps.{Placed, SameNode, Came, Passed, Running}
+use Rattle.settling.specs.Steps.{Passed, Running}
 use Rattle.settling.proofs.Spending.{rule-comes, scan-comes}
 use Rattle.settling.proofs.Search.{passed-start, passed-quiet, passed-slot, passed-found, passed-none}
 use Rattle.settling.proofs.Settling.{running-start, running-more, running-less, running-done}
-use Rattle.voter.specs.Outbox.{recordsIn, stateIn, Moved}
-use Rattle.voter.specs.Voting.{Live, LiveAt, Onward}
+use Rattle.voter.specs.Outbox.{stateIn, Moved}
+use Rattle.voter.specs.Voting.{Live, Onward}
 use Rattle.voter.proofs.OutboxLaws.{made-in}
 use Rattle.voter.proofs.LiveLaws.{live-placed, onward-none, onward-is, onward-then}
 use Rattle.rules.specs.UnderWay.{UnderWay, UnderWayAt}
@@ -132,6 +132,14 @@ module _ {ws out ws' out' : List ℕ} {at now s : ℕ} (h : Searching ws out at 
   -- All slots were searched.
   pub searching-end : 17 ≤ s → Onward ws out at ws' out' now (scan (stateIn ws out at))
   searching-end b = let e : s ≡ 17 = omega (arith, h .high) in none-found (h .held) (subst (λ (i : ℕ). Passed (stateIn ws out at) i 0) e (h .passed))
+
+-- A rule of the slot made a record: it is the first that applies.
+pub searching-found : {ws out ws' out' ws'' out'' left box : List ℕ} {at now now' made : ℕ} (s r : ℕ) → Searching ws out at ws' out' now s → Trying ws' out' now ws'' out'' now' s r
+    → Onward ws'' out'' now' left box made (ruleAt r (stateIn ws'' out'' now') s) → (made ≡ at → ⊥) → s < 17 → r < 6
+    → Onward ws out at left box made (scan (stateIn ws out at))
+searching-found s r h t took ne low few =
+    onward-then (λ (x : State). scan x) (h .held)
+    (rule-found s r (h .held .live) (h .low) (omega arith) (t .held) took (λ z. ne (z ∙ h .still)) few (t .passed))
 
 -- ---- the invariant of settling: the memory holds a state that the run goes through
 

@@ -1,6 +1,5 @@
 -- The fallback where the own votes let it; paid from the potential.
 use mathlib.Core.Path.{_∙_, ap, sym}
-use Prim.Native.Nat.{ℕ}
 use borrow.Author.Needs.{needs}
 use Rattle.rulebook.specs.Rules.{State, mayFallback}
 use Rattle.rulebook.specs.declared.Cell.{Cell}

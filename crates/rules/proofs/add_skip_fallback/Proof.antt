@@ -1,9 +1,7 @@
 -- The skip-fallback where the own votes let it; paid from the potential.
 use mathlib.Core.Path.{_∙_, ap, sym}
-use Prim.Native.Nat.{ℕ}
 use borrow.Author.Needs.{needs}
 use Rattle.rulebook.specs.Rules.{State, maySkipFallback}
-use Rattle.rulebook.specs.declared.Cell.{Cell}
 use Rattle.voter.proofs.LiveLaws.{live-placed, onward, onward-none}
 use Rattle.voter.proofs.OutboxLaws.{moved-is}
 use Rattle.voter.specs.Outbox.{stateIn}
