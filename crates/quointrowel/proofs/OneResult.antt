@@ -1,0 +1,34 @@
+-- Any two results that an operation of the face allows for one input are equal: the number, the values in the lent places, and all lent
+-- memory afterwards, beside a refusal too. Assumes nothing.
+use mathlib.Core.Path.{_≡_, sym, _∙_}
+use mathlib.Core.List.{List}
+use Prim.Native.Nat.{ℕ}
+use Rattle.rulebook.specs.declared.Input.{Input}
+use Rattle.rulebook.specs.declared.CheckAnswer.{CheckAnswer}
+use Rattle.rulebook.specs.Writers as writer
+use Rattle.quointrowel.specs.Face.{Beside, Started, Stepped, Wrote, Checked}
+
+-- One value beside one number.
+beside-one : {v v' : ℕ} {values : List ℕ} → Beside v values → Beside v' values → v ≡ v'
+beside-one a b = cc
+
+-- qr_start.
+pub started-one : {ws stakes left left' : List ℕ} {own genesis n n' : ℕ} → Started ws stakes own genesis n left → Started ws stakes own genesis n' left'
+    → (n ≡ n') × (left ≡ left')
+started-one a b = (a .numbered ∙ sym (b .numbered), a .words ∙ sym (b .words))
+
+-- qr_vote, qr_block, qr_timeout, qr_look.
+pub stepped-one : {ws out left left' box box' : List ℕ} {i : Input} {n n' made made' : ℕ} → Stepped ws out i n made left box → Stepped ws out i n' made' left' box'
+    → (n ≡ n') × (made ≡ made') × (left ≡ left') × (box ≡ box')
+stepped-one a b =
+    (a .numbered ∙ sym (b .numbered), beside-one (a .counted) (b .counted), a .words ∙ sym (b .words), a .outbox ∙ sym (b .outbox))
+
+-- qr_write_certificate, qr_write_proof.
+pub wrote-one : {w : writer.Wrote} {buffer after after' : List ℕ} {n n' count count' : ℕ} → Wrote w buffer n count after → Wrote w buffer n' count' after'
+    → (n ≡ n') × (count ≡ count') × (after ≡ after')
+wrote-one a b = (a .numbered ∙ sym (b .numbered), beside-one (a .counted) (b .counted), a .bytes ∙ sym (b .bytes))
+
+-- qr_check_certificate, qr_check_proof.
+pub checked-one : {answer : CheckAnswer} {n n' : ℕ} {values values' : List ℕ} → Checked answer n values → Checked answer n' values'
+    → (n ≡ n') × (values ≡ values')
+checked-one a b = (a .numbered ∙ sym (b .numbered), a .valued ∙ sym (b .valued))
