@@ -2,112 +2,54 @@
 // answer and the values beside it: kind, slot, block, signer count, weight.
 use checker::check_certificate;
 use checker::check_proof;
-use rulebook::CertificateKind;
+use kinds::kind_number;
+use kinds::refusal_number;
+use page::end_line;
+use page::say;
+use page::tell;
+use page::tell_bytes;
 use rulebook::CheckAnswer;
-use rulebook::Refusal;
-ghost use mathlib.Core.Path.{_≡_};
-ghost use Rattle.rulebook.specs.PaperNumbers.{certificateNumber, refusalNumber};
-
-// The document's number of a kind.
-fn kind_number(k: CertificateKind) -> u64
-    ensures { λ r. ⌜ r ≡ certificateNumber k ⌝ }
-{
-    match k {
-        CertificateKind::FastFinal => 1,
-        CertificateKind::Notar => 2,
-        CertificateKind::NotarFallback => 3,
-        CertificateKind::Skip => 4,
-        CertificateKind::Final => 5,
-        CertificateKind::Other => 0,
-    }
-}
-
-// The document's number of a refusal.
-fn refusal_number(r: Refusal) -> u64
-    ensures { λ n. ⌜ n ≡ refusalNumber r ⌝ }
-{
-    match r {
-        Refusal::BadSizes => 1,
-        Refusal::BadNode => 2,
-        Refusal::BadSlot => 3,
-        Refusal::BadKind => 4,
-        Refusal::BadBlock => 5,
-        Refusal::OwnName => 6,
-        Refusal::AlreadyKept => 7,
-        Refusal::OtherStands => 8,
-        Refusal::NoRoom => 9,
-        Refusal::NotArmed => 10,
-        Refusal::BadParent => 11,
-        Refusal::BadLength => 12,
-        Refusal::BadNumber => 13,
-        Refusal::BadSigners => 14,
-        Refusal::TooLight => 15,
-        Refusal::NotAProof => 16,
-        Refusal::BadRecord => 17,
-        Refusal::NotHeld => 18,
-    }
-}
-
-// Writes a text.
-fn text(s: &[u8]) {
-    io::write_all(1, s);
-}
-
-// A byte as a word.
-fn wide(x: u8) -> u64 {
-    x as u64
-}
-
-// Bytes as pairs of digits; none as a dash.
-fn show(s: &[u8]) {
-    if s.len() == 0 {
-        text(b"-");
-    }
-    for i in 0..s.len() {
-        io::print_hex(1, wide(s[i]), 2);
-    }
-}
 
 // A number behind a space.
 fn value(n: u64) {
-    text(b" ");
-    io::print_decimal(1, n);
+    say(b" ");
+    tell(n);
 }
 
 // The answer's number and the five values beside it; zeros beside a refusal.
-fn tell(answer: CheckAnswer) {
-    match answer {
-        CheckAnswer::Accepted(a) => {
-            let kind = a.kind;
+fn answer(a: CheckAnswer) {
+    match a {
+        CheckAnswer::Accepted(x) => {
+            let kind = x.kind;
             value(0);
             value(kind_number(kind));
-            value(a.slot.0 as u64);
-            value(a.block);
-            value(a.signers);
-            value(a.weight.0);
+            value(x.slot.0 as u64);
+            value(x.block);
+            value(x.signers);
+            value(x.weight.0);
         }
         CheckAnswer::Refused(r) => {
             value(refusal_number(r));
-            text(b" 0 0 0 0 0");
+            say(b" 0 0 0 0 0");
         }
     }
-    text(b"\n");
+    end_line();
 }
 
 // Checks a packet as one certificate and tells the answer.
 fn certificate(stakes: &[u64], packet: &[u8]) {
-    text(b"certificate ");
-    show(packet);
-    text(b":");
-    tell(check_certificate(stakes, packet));
+    say(b"certificate ");
+    tell_bytes(packet);
+    say(b":");
+    answer(check_certificate(stakes, packet));
 }
 
 // Checks a packet as a finality proof and tells the answer.
 fn proof(stakes: &[u64], packet: &[u8]) {
-    text(b"proof ");
-    show(packet);
-    text(b":");
-    tell(check_proof(stakes, packet));
+    say(b"proof ");
+    tell_bytes(packet);
+    say(b":");
+    answer(check_proof(stakes, packet));
 }
 
 // B9 and one certificate of each kind: one node has all the stake.

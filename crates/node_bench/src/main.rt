@@ -1,11 +1,11 @@
 // Runs the bench cases of document 01 through start, step and the writers: a line for each input with its number and its
-// records, and a line for each certificate or proof with its number and its bytes.
+// records, and a line for each certificate or proof with its number and its bytes. B8 is no input of a node: numbers_vectors has it.
+use kinds::refusal_number;
 use node::step;
 use rulebook::Block;
 use rulebook::CertificateKind;
 use rulebook::Input;
 use rulebook::Node;
-use rulebook::Refusal;
 use rulebook::Slot;
 use rulebook::StartAnswer;
 use rulebook::StepAnswer;
@@ -15,30 +15,6 @@ use rulebook::WriteAnswer;
 use soundness::start;
 use writers::write_certificate;
 use writers::write_proof;
-
-// The number of a refusal on the panel.
-fn refusal_number(r: Refusal) -> u64 {
-    match r {
-        Refusal::BadSizes => 1,
-        Refusal::BadNode => 2,
-        Refusal::BadSlot => 3,
-        Refusal::BadKind => 4,
-        Refusal::BadBlock => 5,
-        Refusal::OwnName => 6,
-        Refusal::AlreadyKept => 7,
-        Refusal::OtherStands => 8,
-        Refusal::NoRoom => 9,
-        Refusal::NotArmed => 10,
-        Refusal::BadParent => 11,
-        Refusal::BadLength => 12,
-        Refusal::BadNumber => 13,
-        Refusal::BadSigners => 14,
-        Refusal::TooLight => 15,
-        Refusal::NotAProof => 16,
-        Refusal::BadRecord => 17,
-        Refusal::NotHeld => 18,
-    }
-}
 
 // A blank and a number.
 fn number(n: u64) {
@@ -216,7 +192,28 @@ fn alone() {
     timeout(&mut rec, &mut outbox, 1);
 }
 
-// B3 and B4: six of ten is kind 2 and five not, eight is kind 1; four skips against an own final. B7: kinds 2 and 4 both held.
+// A notar vote more for block 7 in slot 1, then kinds 2 and 1 asked for.
+fn one_more(rec: &mut [u64], outbox: &mut [u64], node: usize) {
+    vote(rec, outbox, VoteKind::Notar, node, 1, 7);
+    certificate(rec, CertificateKind::Notar, 1, 7);
+    certificate(rec, CertificateKind::FastFinal, 1, 7);
+}
+
+// B3: five to nine notar votes of stake 1, the node's own not among them.
+fn thresholds(what: &[u8], stakes: &[u64]) {
+    let mut rec = [0u64; 7773];
+    let mut outbox = [0u64; 384];
+    begin(what, &mut rec, stakes, 0);
+    pair(&mut rec, &mut outbox, VoteKind::Notar, 1, 2, 1, 7);
+    pair(&mut rec, &mut outbox, VoteKind::Notar, 3, 4, 1, 7);
+    one_more(&mut rec, &mut outbox, 5);
+    one_more(&mut rec, &mut outbox, 6);
+    one_more(&mut rec, &mut outbox, 7);
+    one_more(&mut rec, &mut outbox, 8);
+    one_more(&mut rec, &mut outbox, 9);
+}
+
+// B4: the own final at the sixth vote, and four skips against it. B7: kinds 2 and 4 both held.
 fn final_and_skips() {
     let mut rec = [0u64; 7773];
     let mut outbox = [0u64; 384];
@@ -330,7 +327,11 @@ fn refusals() {
 fn main() {
     let mut rec = [0u64; 7773];
     let mut outbox = [0u64; 384];
+    let ten = [1u64; 10];
+    let eleven = [1u64; 11];
     alone();
+    thresholds(b"B3, T = 10", &ten);
+    thresholds(b"B3, T = 11", &eleven);
     final_and_skips();
     fallbacks();
     once();

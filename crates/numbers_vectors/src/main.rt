@@ -1,59 +1,44 @@
 // B8 and further numbers, read and written: one line each, compared with the stored output.
 use numbers::read_number;
 use numbers::write_number;
+use page::end_line;
+use page::say;
+use page::tell;
+use page::tell_bytes;
+use page::tell_size;
 use rulebook::Reading;
-
-// Writes a text.
-fn text(s: &[u8]) {
-    io::write_all(1, s);
-}
-
-// A byte as a word.
-fn wide(x: u8) -> u64 {
-    x as u64
-}
-
-// Bytes as pairs of digits; none as a dash.
-fn show(s: &[u8]) {
-    if s.len() == 0 {
-        text(b"-");
-    }
-    for i in 0..s.len() {
-        io::print_hex(1, wide(s[i]), 2);
-    }
-}
 
 // Reads the number at a place and tells it with the place after it, or the number that document 01 gives.
 fn read(bytes: &[u8], at: usize) {
-    text(b"read ");
-    show(bytes);
-    text(b" at ");
-    io::print_decimal(1, at as u64);
-    text(b": ");
+    say(b"read ");
+    tell_bytes(bytes);
+    say(b" at ");
+    tell_size(at);
+    say(b": ");
     let found = read_number(bytes, at);
     match found {
         Reading::Number(v, next) => {
-            io::print_decimal(1, v);
-            text(b", next ");
-            io::print_decimal(1, next as u64);
+            tell(v);
+            say(b", next ");
+            tell_size(next);
         }
-        Reading::Early => text(b"12"),
-        Reading::Malformed => text(b"13"),
+        Reading::Early => say(b"12"),
+        Reading::Malformed => say(b"13"),
     }
-    text(b"\n");
+    end_line();
 }
 
 // Writes a number from place 3 of 16 bytes on and tells all of them, with the place after it.
 fn write(v: u64) {
     let mut buffer = [0xEEu8; 16];
     let next = write_number(&mut buffer, 3, v);
-    text(b"write ");
-    io::print_decimal(1, v);
-    text(b": ");
-    show(&buffer);
-    text(b", next ");
-    io::print_decimal(1, next as u64);
-    text(b"\n");
+    say(b"write ");
+    tell(v);
+    say(b": ");
+    tell_bytes(&buffer);
+    say(b", next ");
+    tell_size(next);
+    end_line();
 }
 
 // One to five bytes: the least and the largest of each length.

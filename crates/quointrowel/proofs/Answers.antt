@@ -1,5 +1,5 @@
 -- An operation's own contract, said through the paper's numbers. Assumes nothing.
-use mathlib.Core.Path.{_≡_, refl, sym, ap, _∙_}
+use mathlib.Core.Path.{_≡_, ap, _∙_}
 use mathlib.Core.List.{List}
 use Prim.Native.Nat.{ℕ}
 use Rattle.rulebook.specs.declared.StartAnswer.{StartAnswer}
@@ -7,15 +7,11 @@ use Rattle.rulebook.specs.declared.StepAnswer.{StepAnswer}
 use Rattle.rulebook.specs.declared.Input.{Input}
 use Rattle.rulebook.specs.declared.WriteAnswer.{WriteAnswer}
 use Rattle.rulebook.specs.declared.CheckAnswer.{CheckAnswer}
-use Rattle.rulebook.specs.PaperNumbers.{voteKind, startPanel, stepPanel, writePanel, checkPanel}
+use Rattle.rulebook.specs.PaperNumbers.{startPanel, stepPanel, writePanel, checkPanel}
 use Rattle.rulebook.specs.Writers as writer
 use Rattle.node.specs.Stepping.{StepOf}
 use Rattle.soundness.specs.Starting.{StartOf}
 use Rattle.writers.specs.Writing.{Writes}
-use lib.Dec.{eqb}
-use borrow.Author.Tests.{ne-eqb}
-use Rattle.rulebook.specs.Tools.{choose}
-use Rattle.rulebook.specs.declared.VoteKind.the-variants as vote
 use Rattle.quointrowel.specs.Face.{Beside, Started, Stepped, Wrote, Checked}
 
 pub started : (ws stakes : List ℕ) (own genesis : ℕ) (a : StartAnswer) (n : ℕ) (left : List ℕ) → StartOf ws stakes own genesis a left
@@ -48,8 +44,3 @@ checked b a n vs s e d =
       numbered = e ∙ ap (λ (x : CheckAnswer). checkPanel x .number) s;
       valued = d ∙ ap (λ (x : CheckAnswer). checkPanel x .values) s;
     }
-
--- Any number but 1 to 5 is no kind of vote.
-pub vote-other : (n : ℕ) → (n ≡ 1 → ⊥) → (n ≡ 2 → ⊥) → (n ≡ 3 → ⊥) → (n ≡ 4 → ⊥) → (n ≡ 5 → ⊥) → voteKind n ≡ vote.Other
-unfolding voteKind choose
-vote-other n a b c d e = simp (ne-eqb n 1 a, ne-eqb n 2 b, ne-eqb n 3 c, ne-eqb n 4 d, ne-eqb n 5 e)

@@ -2,7 +2,7 @@
 // panel and puts the values beside it into lent places; the definitions of the paper's numbers say which.
 ghost use mathlib.Core.Path.{_≡_};
 ghost use lib.ListN.{length};
-ghost use Rattle.rulebook.specs.PaperNumbers.{refusalNumber, certificateKind, voteKind, startPanel, stepPanel, writePanel, checkPanel};
+ghost use Rattle.rulebook.specs.PaperNumbers.{certificateKind, startPanel, stepPanel, writePanel, checkPanel};
 ghost use Rattle.rulebook.specs.Checker.{checkCertificate, checkProof};
 ghost use Rattle.rulebook.specs.WellFormed.{outboxWords};
 ghost use Rattle.record.specs.Layout.{recordWords};
@@ -13,64 +13,23 @@ use checker::check_certificate;
 use checker::check_proof;
 use kinds::kind_number;
 use kinds::kind_of;
+use kinds::refusal_number;
+use kinds::vote_kind;
 use node::step;
 use record::record_words;
 use rulebook::Accepted;
 use rulebook::Block;
-use rulebook::CertificateKind;
 use rulebook::CheckAnswer;
 use rulebook::Input;
 use rulebook::Node;
-use rulebook::Refusal;
 use rulebook::Slot;
 use rulebook::StartAnswer;
 use rulebook::StepAnswer;
 use rulebook::Vote;
-use rulebook::VoteKind;
 use rulebook::WriteAnswer;
 use soundness::start;
 use writers::write_certificate;
 use writers::write_proof;
-
-// "Numbers on the panel".
-fn refusal_number(r: Refusal) -> u64
-    ensures { λ n. ⌜ n ≡ refusalNumber r ⌝ }
-{
-    match r {
-        Refusal::BadSizes => 1,
-        Refusal::BadNode => 2,
-        Refusal::BadSlot => 3,
-        Refusal::BadKind => 4,
-        Refusal::BadBlock => 5,
-        Refusal::OwnName => 6,
-        Refusal::AlreadyKept => 7,
-        Refusal::OtherStands => 8,
-        Refusal::NoRoom => 9,
-        Refusal::NotArmed => 10,
-        Refusal::BadParent => 11,
-        Refusal::BadLength => 12,
-        Refusal::BadNumber => 13,
-        Refusal::BadSigners => 14,
-        Refusal::TooLight => 15,
-        Refusal::NotAProof => 16,
-        Refusal::BadRecord => 17,
-        Refusal::NotHeld => 18,
-    }
-}
-
-// The kind of vote that a number stands for.
-fn vote_kind(n: u64) -> VoteKind
-    ensures { λ r. ⌜ r ≡ voteKind n ⌝ }
-{
-    match n {
-        1 => VoteKind::Notar,
-        2 => VoteKind::NotarFallback,
-        3 => VoteKind::Skip,
-        4 => VoteKind::SkipFallback,
-        5 => VoteKind::Final,
-        _ => VoteKind::Other,
-    }
-}
 
 // What start answers, as a number.
 fn start_number(a: StartAnswer) -> u64

@@ -1,19 +1,17 @@
 -- A call goes on: what is paid from the potential keeps the outbox's room, and parts of a call follow each other. Assumes nothing.
-use mathlib.Core.Path.{_≡_, refl, sym, ap, _∙_}
-use mathlib.Core.List.{List, [], _∷_}
-use Prim.Native.Nat.{ℕ, suc, _+_, _*_, _≤_, _<_}
+use mathlib.Core.Path.{_≡_, ap, _∙_}
+use mathlib.Core.List.{List}
+use Prim.Native.Nat.{ℕ}
 use native.Mathlib.Omega.{arith}
 use lib.ListN.{length}
-use Rattle.rulebook.specs.Weights.{mostNodes, lastSlot}
 use Rattle.rulebook.specs.Ledger.{Ledger}
-use Rattle.rulebook.specs.Rules.{Record, State}
-use Rattle.rulebook.specs.Run.{made}
-use Rattle.record.specs.Layout.{recordWords, ledgerOf}
+use Rattle.rulebook.specs.Rules.{State}
+use Rattle.record.specs.Layout.{ledgerOf}
 use Rattle.record.proofs.Reading.{ledger-shaped}
 use Rattle.settling.specs.Spare.{spare}
 use Rattle.settling.specs.Steps.{Placed, SameNode, Came}
 use Rattle.settling.proofs.Spending.{same-node}
-use Rattle.voter.specs.Outbox.{recordsIn, stateIn, Moved}
+use Rattle.voter.specs.Outbox.{stateIn, Moved}
 use Rattle.voter.specs.Voting.{Castable, Live, LiveAt, Onward}
 use Rattle.voter.proofs.OutboxLaws.{made-in, moved-none, moved-is, moved-then}
 

@@ -2,31 +2,17 @@
 ghost use mathlib.Core.Path.{_≡_};
 ghost use Prim.Native.Nat.{_+_, _*_, _<_};
 ghost use lib.ListN.{length};
-ghost use Rattle.rulebook.specs.PaperNumbers.{voteNumber};
 ghost use Rattle.rulebook.specs.Ledger.{noInitial};
 ghost use Rattle.rulebook.specs.Rules.{cast, castSkip, castSkips};
 ghost use Rattle.voter.specs.Outbox.{stateIn, Told, Moved};
 ghost use Rattle.voter.specs.Voting.{Castable, LiveAt, Onward};
+use kinds::vote_number;
 use record::own;
 use record::own_cell;
 use record::store_vote;
 use rulebook::Cell;
 use rulebook::Slot;
 use rulebook::VoteKind;
-
-// The number that stands for a kind of vote in a record.
-pub fn vote_number(k: VoteKind) -> u64
-    ensures { λ r. ⌜ r ≡ voteNumber k ⌝ }
-{
-    match k {
-        VoteKind::Notar => 1,
-        VoteKind::NotarFallback => 2,
-        VoteKind::Skip => 3,
-        VoteKind::SkipFallback => 4,
-        VoteKind::Final => 5,
-        VoteKind::Other => 0,
-    }
-}
 
 // Writes one record behind the first `at`; answers how many there are then.
 pub fn tell(outbox: &mut [u64], at: usize, kind: u64, s: Slot, block: u64) -> usize
