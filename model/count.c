@@ -1,4 +1,4 @@
-/* Counts executed instructions by function: a plugin for Debian's qemu-user, which knows the symbols of the program it runs.
+/* Counts executed instructions by function: a plugin for qemu-user of Debian 12, which knows the symbols of the program it runs.
    Writes lines "instructions name" to the file that COUNTS names; "-" is what has no symbol: the C library and the loader. */
 #include <inttypes.h>
 #include <stdio.h>
