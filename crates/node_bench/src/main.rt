@@ -2,6 +2,10 @@
 // records, and a line for each certificate or proof with its number and its bytes. B8 is no input of a node: numbers_vectors has it.
 use kinds::refusal_number;
 use node::step;
+use page::end_line;
+use page::say;
+use page::tell;
+use page::tell_bytes;
 use rulebook::Block;
 use rulebook::CertificateKind;
 use rulebook::Input;
@@ -18,12 +22,8 @@ use writers::write_proof;
 
 // A blank and a number.
 fn number(n: u64) {
-    io::write_all(1, b" ");
-    io::print_decimal(1, n);
-}
-
-fn end() {
-    io::write_all(1, b"\n");
+    say(b" ");
+    tell(n);
 }
 
 // A word of the outbox.
@@ -33,13 +33,13 @@ fn word(outbox: &[u64], i: usize) -> u64 {
 
 // A record by the places of its three words.
 fn record(outbox: &[u64], kind: usize, slot: usize, block: usize) {
-    io::write_all(1, b" (");
-    io::print_decimal(1, word(outbox, kind));
-    io::write_all(1, b",");
-    io::print_decimal(1, word(outbox, slot));
-    io::write_all(1, b",");
-    io::print_decimal(1, word(outbox, block));
-    io::write_all(1, b")");
+    say(b" (");
+    tell(word(outbox, kind));
+    say(b",");
+    tell(word(outbox, slot));
+    say(b",");
+    tell(word(outbox, block));
+    say(b")");
 }
 
 // Up to six records.
@@ -60,13 +60,13 @@ fn records(outbox: &[u64], n: usize) {
         record(outbox, 12, 13, 14);
     }
     if 5 < n {
-        io::write_all(1, b" and more");
+        say(b" and more");
     }
 }
 
 // One input, with what is answered.
 fn give(what: &[u8], rec: &mut [u64], outbox: &mut [u64], i: Input) {
-    io::write_all(1, what);
+    say(what);
     match step(rec, outbox, i) {
         StepAnswer::Done(n) => {
             number(0);
@@ -74,7 +74,7 @@ fn give(what: &[u8], rec: &mut [u64], outbox: &mut [u64], i: Input) {
         }
         StepAnswer::Refused(r) => number(refusal_number(r)),
     }
-    end();
+    end_line();
 }
 
 fn vote(rec: &mut [u64], outbox: &mut [u64], kind: VoteKind, node: usize, slot: usize, block: u64) {
@@ -120,59 +120,44 @@ fn look(rec: &mut [u64], outbox: &mut [u64]) {
 
 // A fresh node, with what start answers.
 fn begin(what: &[u8], rec: &mut [u64], stakes: &[u64], own: usize) {
-    io::write_all(1, what);
+    say(what);
     match start(rec, stakes, Node(own), 1) {
         StartAnswer::Started => number(0),
         StartAnswer::Refused(r) => number(refusal_number(r)),
     }
-    end();
+    end_line();
 }
 
-// A byte of a buffer, where so many were written.
-fn byte(buffer: &[u8], n: usize, i: usize) {
-    if i < n {
-        if i < buffer.len() {
-            io::write_all(1, b" ");
-            io::print_hex(1, wide(buffer[i]), 2);
-        }
+// The bytes at a buffer's front.
+fn tell_front(buffer: &[u8], size: usize) {
+    if size <= buffer.len() {
+        tell_bytes(&buffer[0..size]);
     }
 }
 
-fn wide(x: u8) -> u64 {
-    x as u64
-}
-
-// What a writer answered: up to ten bytes.
+// What a writer answered: its number, and the bytes that it wrote.
 fn written(buffer: &[u8], answer: WriteAnswer) {
     match answer {
         WriteAnswer::Written(n) => {
             number(0);
-            byte(buffer, n, 0);
-            byte(buffer, n, 1);
-            byte(buffer, n, 2);
-            byte(buffer, n, 3);
-            byte(buffer, n, 4);
-            byte(buffer, n, 5);
-            byte(buffer, n, 6);
-            byte(buffer, n, 7);
-            byte(buffer, n, 8);
-            byte(buffer, n, 9);
+            say(b" ");
+            tell_front(buffer, n);
         }
         WriteAnswer::Refused(r) => number(refusal_number(r)),
     }
-    end();
+    end_line();
 }
 
 fn certificate(rec: &[u64], kind: CertificateKind, slot: usize, block: u64) {
     let mut buffer = [0u8; 64];
-    io::write_all(1, b"  certificate");
+    say(b"  certificate");
     let answer = write_certificate(rec, &mut buffer, kind, Slot(slot), block);
     written(&buffer, answer);
 }
 
 fn proof(rec: &[u64], slot: usize, block: u64) {
     let mut buffer = [0u8; 64];
-    io::write_all(1, b"  proof");
+    say(b"  proof");
     let answer = write_proof(rec, &mut buffer, Slot(slot), block);
     written(&buffer, answer);
 }
@@ -228,7 +213,7 @@ fn final_and_skips() {
     pair(&mut rec, &mut outbox, VoteKind::Skip, 6, 7, 1, 0);
     pair(&mut rec, &mut outbox, VoteKind::Skip, 8, 9, 1, 0);
     certificate(&rec, CertificateKind::Skip, 1, 0);
-    io::write_all(1, b"B7\n");
+    say(b"B7\n");
     pair(&mut rec, &mut outbox, VoteKind::SkipFallback, 1, 2, 1, 0);
     certificate(&rec, CertificateKind::Notar, 1, 7);
     certificate(&rec, CertificateKind::Skip, 1, 0);
