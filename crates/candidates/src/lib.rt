@@ -7,8 +7,9 @@ ghost use Rattle.rulebook.specs.Tools.{lower, lowest, largest};
 ghost use Rattle.rulebook.specs.Pool.{weigh, names};
 ghost use Rattle.rulebook.specs.Rules.{windowOpen, mayFinal, fallbackWeights, mayFallback, fallsBack, fallbackBlock, skipWeights, maySkipFallback, isFinal};
 ghost use Rattle.record.specs.Layout.{ledgerOf};
-ghost use Rattle.pool.specs.Weighing.{Weighing};
-ghost use Rattle.candidates.specs.Judging.{Windowed, Judging};
+ghost use Rattle.pool.specs.Weighing.{Weighing, Passed};
+ghost use Rattle.candidates.specs.Judging.{Windowed, Judging, isNew};
+use pool::counted_before;
 use pool::held;
 use pool::weigh;
 use record::has_fallback;
@@ -105,22 +106,31 @@ fn lower(passes: bool, b: u64, m: u64) -> u64
     b
 }
 
-// D's block: the lowest that D applies to, 0 where there is none. Only a block with a notar vote can be it, and one that
-// every node voted for is weighed once.
+// Whether there is a b and no node before n has a notar vote for it.
+fn is_new(rec: &[u64], s: Slot, n: Node, b: u64) -> bool
+    requires { ⌜ Passed (now rec) (s .0) (n .0) ⌝ }
+    ensures { λ r. ⌜ r ≡ isNew (ledgerOf (now (rec .entry))) (s .0) (n .0) b ⌝ }
+{
+    if b == 0 {
+        return false;
+    }
+    !counted_before(rec, s, n, Who::Notar(b))
+}
+
+// D's block: the lowest that D applies to, 0 where there is none. Only a block with a notar vote can be it, and each is
+// weighed once.
 pub fn fallback_block(rec: &[u64], t: StakeTable, s: Slot) -> u64
     requires { ⌜ Judging (now rec) t (s .0) ⌝ }
     ensures { λ r. ⌜ r ≡ fallbackBlock (ledgerOf (now (rec .entry))) (s .0) ⌝ }
 {
     let count = t.count;
     let mut best: u64 = 0;
-    let mut tried: u64 = 0;
     for n in 0..count {
         let c = load_cell(rec, s, Node(n));
         let b = c.notar;
-        if (b != 0) & (b != tried) {
+        if is_new(rec, s, Node(n), b) {
             best = lower(falls_back(rec, t, s, b), b, best);
         }
-        tried = b;
     }
     best
 }
@@ -147,14 +157,12 @@ pub fn final_candidate(rec: &[u64], t: StakeTable, s: Slot) -> u64
 {
     let count = t.count;
     let mut best: u64 = 0;
-    let mut tried: u64 = 0;
     for n in 0..count {
         let c = load_cell(rec, s, Node(n));
         let b = c.notar;
-        if (b != 0) & (b != tried) {
+        if is_new(rec, s, Node(n), b) {
             best = lower(is_final(rec, t, s, b), b, best);
         }
-        tried = b;
     }
     best
 }
@@ -176,14 +184,12 @@ pub fn largest_notar(rec: &[u64], t: StakeTable, s: Slot) -> Weight
 {
     let count = t.count;
     let mut most = Weight(0);
-    let mut tried: u64 = 0;
     for n in 0..count {
         let c = load_cell(rec, s, Node(n));
         let b = c.notar;
-        if (b != 0) & (b != tried) {
+        if is_new(rec, s, Node(n), b) {
             most = larger(weigh(rec, t, s, Who::Notar(b)), most);
         }
-        tried = b;
     }
     most
 }
