@@ -5,7 +5,7 @@ use node::step;
 use page::end_line;
 use page::say;
 use page::tell;
-use page::tell_bytes;
+use page::tell_front;
 use rulebook::Block;
 use rulebook::CertificateKind;
 use rulebook::Input;
@@ -126,13 +126,6 @@ fn begin(what: &[u8], rec: &mut [u64], stakes: &[u64], own: usize) {
         StartAnswer::Refused(r) => number(refusal_number(r)),
     }
     end_line();
-}
-
-// The bytes at a buffer's front.
-fn tell_front(buffer: &[u8], size: usize) {
-    if size <= buffer.len() {
-        tell_bytes(&buffer[0..size]);
-    }
 }
 
 // What a writer answered: its number, and the bytes that it wrote.

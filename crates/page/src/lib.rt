@@ -47,3 +47,10 @@ pub fn tell_bytes(bytes: &[u8]) {
         tell_byte(bytes[i]);
     }
 }
+
+// The bytes at a buffer's front.
+pub fn tell_front(buffer: &[u8], size: usize) {
+    if size <= buffer.len() {
+        tell_bytes(&buffer[0..size]);
+    }
+}

@@ -2,7 +2,7 @@
 use page::end_line;
 use page::say;
 use page::tell;
-use page::tell_bytes;
+use page::tell_front;
 use page::tell_size;
 
 // A line that is no command.
@@ -54,13 +54,6 @@ pub fn packet(n: u64, written: usize, buffer: &[u8]) {
     say(b" ");
     tell_front(buffer, written);
     end_line();
-}
-
-// The bytes at a buffer's front.
-fn tell_front(buffer: &[u8], size: usize) {
-    if size <= buffer.len() {
-        tell_bytes(&buffer[0..size]);
-    }
 }
 
 // The checker's answer: its number, or 0 with the five values.
