@@ -2,114 +2,34 @@
 // panel and puts the values beside it into lent places; the definitions of the paper's numbers say which.
 ghost use mathlib.Core.Path.{_≡_};
 ghost use lib.ListN.{length};
-ghost use Rattle.rulebook.specs.PaperNumbers.{certificateKind, startPanel, stepPanel, writePanel, checkPanel};
+ghost use Rattle.rulebook.specs.PaperNumbers.{certificateKind};
 ghost use Rattle.rulebook.specs.Checker.{checkCertificate, checkProof};
 ghost use Rattle.rulebook.specs.WellFormed.{outboxWords};
 ghost use Rattle.record.specs.Layout.{recordWords};
 ghost use Rattle.writers.specs.Writing.{certificateOn, proofOn};
 ghost use Rattle.rulebook.specs.declared.Input.the-variants as input;
-ghost use Rattle.quointrowel.specs.Face.{Beside, acceptedValues, voteInput, blockInput, timeoutInput, Started, Stepped, Wrote, Checked};
+ghost use Rattle.answers.specs.Face.{voteInput, blockInput, timeoutInput, Started, Stepped, Wrote, Checked};
+use answers::bytes_written;
+use answers::check_number;
+use answers::check_values;
+use answers::records_made;
+use answers::start_number;
+use answers::step_number;
+use answers::write_number;
 use checker::check_certificate;
 use checker::check_proof;
-use kinds::kind_number;
 use kinds::kind_of;
-use kinds::refusal_number;
 use kinds::vote_kind;
 use node::step;
 use record::record_words;
-use rulebook::Accepted;
 use rulebook::Block;
-use rulebook::CheckAnswer;
 use rulebook::Input;
 use rulebook::Node;
 use rulebook::Slot;
-use rulebook::StartAnswer;
-use rulebook::StepAnswer;
 use rulebook::Vote;
-use rulebook::WriteAnswer;
 use soundness::start;
 use writers::write_certificate;
 use writers::write_proof;
-
-// What start answers, as a number.
-fn start_number(a: StartAnswer) -> u64
-    ensures { λ r. ⌜ r ≡ startPanel a .number ⌝ }
-{
-    match a {
-        StartAnswer::Started => 0,
-        StartAnswer::Refused(r) => refusal_number(r),
-    }
-}
-
-// What a step answers, as a number.
-fn step_number(a: StepAnswer) -> u64
-    ensures { λ r. ⌜ r ≡ stepPanel a .number ⌝ }
-{
-    match a {
-        StepAnswer::Done(_) => 0,
-        StepAnswer::Refused(r) => refusal_number(r),
-    }
-}
-
-// How many records a step made, 0 beside a refusal.
-fn records_made(a: StepAnswer) -> usize
-    ensures { λ r. ⌜ Beside r (stepPanel a .values) ⌝ }
-{
-    match a {
-        StepAnswer::Done(n) => n,
-        StepAnswer::Refused(_) => 0,
-    }
-}
-
-// What a writer answers, as a number.
-fn write_number(a: WriteAnswer) -> u64
-    ensures { λ r. ⌜ r ≡ writePanel a .number ⌝ }
-{
-    match a {
-        WriteAnswer::Written(_) => 0,
-        WriteAnswer::Refused(r) => refusal_number(r),
-    }
-}
-
-// How many bytes a writer wrote, 0 beside a refusal.
-fn bytes_written(a: WriteAnswer) -> usize
-    ensures { λ r. ⌜ Beside r (writePanel a .values) ⌝ }
-{
-    match a {
-        WriteAnswer::Written(n) => n,
-        WriteAnswer::Refused(_) => 0,
-    }
-}
-
-// What the checker answers, as a number.
-fn check_number(a: CheckAnswer) -> u64
-    ensures { λ r. ⌜ r ≡ checkPanel a .number ⌝ }
-{
-    match a {
-        CheckAnswer::Accepted(_) => 0,
-        CheckAnswer::Refused(r) => refusal_number(r),
-    }
-}
-
-// Kind, slot, block, signer count and weight of what was checked, zeros beside a refusal.
-fn check_values(a: CheckAnswer) -> [u64; 5]
-    ensures { λ r. ⌜ r ≡ checkPanel a .values ⌝ }
-{
-    match a {
-        CheckAnswer::Accepted(x) => accepted_values(x),
-        CheckAnswer::Refused(_) => [0, 0, 0, 0, 0],
-    }
-}
-
-// The five values of an accepted check.
-fn accepted_values(x: Accepted) -> [u64; 5]
-    ensures { λ r. ⌜ r ≡ acceptedValues x ⌝ }
-{
-    let k = x.kind;
-    let s = x.slot;
-    let w = x.weight;
-    [kind_number(k), s.0 as u64, x.block, x.signers, w.0]
-}
 
 // How many words a record has.
 #[no_mangle]

@@ -1,6 +1,6 @@
 -- The step's own contract through the paper's numbers.
 use borrow.Author.Needs.{needs}
-use Rattle.quointrowel.proofs.Answers.{stepped}
+use Rattle.answers.proofs.Answers.{stepped}
 use Rattle.quointrowel.proofs.qr_block.Statement.{statement}
 use Rattle.quointrowel.proofs.qr_block.Tie as tie
 

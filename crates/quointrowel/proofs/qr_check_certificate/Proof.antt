@@ -1,6 +1,6 @@
 -- The checker's own contract through the paper's numbers.
 use borrow.Author.Needs.{needs}
-use Rattle.quointrowel.proofs.Answers.{checked}
+use Rattle.answers.proofs.Answers.{checked}
 use Rattle.quointrowel.proofs.qr_check_certificate.Statement.{statement}
 use Rattle.quointrowel.proofs.qr_check_certificate.Tie as tie
 

@@ -1,5 +1,5 @@
 -- Start's own contract through the paper's numbers.
-use Rattle.quointrowel.proofs.Answers.{started}
+use Rattle.answers.proofs.Answers.{started}
 use borrow.Author.Needs.{needs}
 use Rattle.quointrowel.proofs.qr_start.Statement.{statement}
 use Rattle.quointrowel.proofs.qr_start.Tie as tie

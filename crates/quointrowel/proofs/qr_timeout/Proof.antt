@@ -1,6 +1,6 @@
 -- The step's own contract through the paper's numbers.
 use borrow.Author.Needs.{needs}
-use Rattle.quointrowel.proofs.Answers.{stepped}
+use Rattle.answers.proofs.Answers.{stepped}
 use Rattle.quointrowel.proofs.qr_timeout.Statement.{statement}
 use Rattle.quointrowel.proofs.qr_timeout.Tie as tie
 

@@ -1,5 +1,5 @@
 -- The step's own contract through the paper's numbers.
-use Rattle.quointrowel.proofs.Answers.{stepped}
+use Rattle.answers.proofs.Answers.{stepped}
 use borrow.Author.Needs.{needs}
 use Rattle.quointrowel.proofs.qr_vote.Statement.{statement}
 use Rattle.quointrowel.proofs.qr_vote.Tie as tie

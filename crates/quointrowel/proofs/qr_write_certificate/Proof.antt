@@ -1,5 +1,5 @@
 -- The writer's own contract through the paper's numbers.
-use Rattle.quointrowel.proofs.Answers.{wrote}
+use Rattle.answers.proofs.Answers.{wrote}
 use borrow.Author.Needs.{needs}
 use Rattle.quointrowel.proofs.qr_write_certificate.Statement.{statement}
 use Rattle.quointrowel.proofs.qr_write_certificate.Tie as tie

@@ -12,7 +12,7 @@ use Rattle.rulebook.specs.Writers as writer
 use Rattle.node.specs.Stepping.{StepOf}
 use Rattle.soundness.specs.Starting.{StartOf}
 use Rattle.writers.specs.Writing.{Writes}
-use Rattle.quointrowel.specs.Face.{Beside, Started, Stepped, Wrote, Checked}
+use Rattle.answers.specs.Face.{Beside, Started, Stepped, Wrote, Checked}
 
 pub started : (ws stakes : List ℕ) (own genesis : ℕ) (a : StartAnswer) (n : ℕ) (left : List ℕ) → StartOf ws stakes own genesis a left
     → n ≡ startPanel a .number → Started ws stakes own genesis n left

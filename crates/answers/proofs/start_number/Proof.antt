@@ -1,8 +1,8 @@
 -- The number of each answer.
-use Rattle.rulebook.specs.PaperNumbers.{stepPanel}
+use Rattle.rulebook.specs.PaperNumbers.{startPanel}
 use borrow.Author.Needs.{needs}
-use Rattle.quointrowel.proofs.step_number.Statement.{statement}
-use Rattle.quointrowel.proofs.step_number.Tie as tie
+use Rattle.answers.proofs.start_number.Statement.{statement}
+use Rattle.answers.proofs.start_number.Tie as tie
 
 enum-told : tie.Need-enum-told
 enum-told c = search needs
@@ -14,13 +14,13 @@ refusal-number-requires : tie.Need-refusal-number-requires
 refusal-number-requires c κs = search needs
 
 returns : tie.Need-returns
-unfolding stepPanel
+unfolding startPanel
 returns c = search needs
 
 returns-2 : tie.Need-returns-2
-unfolding stepPanel
+unfolding startPanel
 returns-2 c = simp (c .before .before .a .given .1) (c .refusal-number .ensures)
 
-pub step-number-spec : {M : Type 1} → statement M
-step-number-spec =
+pub start-number-spec : {M : Type 1} → statement M
+start-number-spec =
     tie.close (tie.spec enum-told enum-known-a refusal-number-requires returns returns-2)

@@ -1,8 +1,8 @@
 -- The number of each answer.
 use Rattle.rulebook.specs.PaperNumbers.{writePanel}
 use borrow.Author.Needs.{needs}
-use Rattle.quointrowel.proofs.write_number.Statement.{statement}
-use Rattle.quointrowel.proofs.write_number.Tie as tie
+use Rattle.answers.proofs.write_number.Statement.{statement}
+use Rattle.answers.proofs.write_number.Tie as tie
 
 enum-told : tie.Need-enum-told
 enum-told c = search needs

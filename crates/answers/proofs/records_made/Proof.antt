@@ -1,8 +1,8 @@
 -- The value beside each answer.
 use Rattle.rulebook.specs.PaperNumbers.{stepPanel}
 use borrow.Author.Needs.{needs}
-use Rattle.quointrowel.proofs.records_made.Statement.{statement}
-use Rattle.quointrowel.proofs.records_made.Tie as tie
+use Rattle.answers.proofs.records_made.Statement.{statement}
+use Rattle.answers.proofs.records_made.Tie as tie
 
 enum-known-a : tie.Need-enum-known-a
 enum-known-a c = search needs

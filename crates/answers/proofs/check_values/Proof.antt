@@ -1,8 +1,8 @@
 -- The values beside each answer.
 use Rattle.rulebook.specs.PaperNumbers.{checkPanel}
 use borrow.Author.Needs.{needs}
-use Rattle.quointrowel.proofs.check_values.Statement.{statement}
-use Rattle.quointrowel.proofs.check_values.Tie as tie
+use Rattle.answers.proofs.check_values.Statement.{statement}
+use Rattle.answers.proofs.check_values.Tie as tie
 
 enum-known-a : tie.Need-enum-known-a
 enum-known-a c = search needs

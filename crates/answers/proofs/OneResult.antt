@@ -6,7 +6,7 @@ use Prim.Native.Nat.{ℕ}
 use Rattle.rulebook.specs.declared.Input.{Input}
 use Rattle.rulebook.specs.declared.CheckAnswer.{CheckAnswer}
 use Rattle.rulebook.specs.Writers as writer
-use Rattle.quointrowel.specs.Face.{Beside, Started, Stepped, Wrote, Checked}
+use Rattle.answers.specs.Face.{Beside, Started, Stepped, Wrote, Checked}
 
 -- One value beside one number.
 beside-one : {v v' : ℕ} {values : List ℕ} → Beside v values → Beside v' values → v ≡ v'

@@ -1,0 +1,91 @@
+// What the operations answer, as numbers and values on the panel: the definitions of the paper's numbers say which.
+ghost use mathlib.Core.Path.{_≡_};
+ghost use Rattle.rulebook.specs.PaperNumbers.{startPanel, stepPanel, writePanel, checkPanel};
+ghost use Rattle.answers.specs.Face.{Beside, acceptedValues};
+use kinds::kind_number;
+use kinds::refusal_number;
+use rulebook::Accepted;
+use rulebook::CheckAnswer;
+use rulebook::StartAnswer;
+use rulebook::StepAnswer;
+use rulebook::WriteAnswer;
+
+// What start answers, as a number.
+pub fn start_number(a: StartAnswer) -> u64
+    ensures { λ r. ⌜ r ≡ startPanel a .number ⌝ }
+{
+    match a {
+        StartAnswer::Started => 0,
+        StartAnswer::Refused(r) => refusal_number(r),
+    }
+}
+
+// What a step answers, as a number.
+pub fn step_number(a: StepAnswer) -> u64
+    ensures { λ r. ⌜ r ≡ stepPanel a .number ⌝ }
+{
+    match a {
+        StepAnswer::Done(_) => 0,
+        StepAnswer::Refused(r) => refusal_number(r),
+    }
+}
+
+// How many records a step made, 0 beside a refusal.
+pub fn records_made(a: StepAnswer) -> usize
+    ensures { λ r. ⌜ Beside r (stepPanel a .values) ⌝ }
+{
+    match a {
+        StepAnswer::Done(n) => n,
+        StepAnswer::Refused(_) => 0,
+    }
+}
+
+// What a writer answers, as a number.
+pub fn write_number(a: WriteAnswer) -> u64
+    ensures { λ r. ⌜ r ≡ writePanel a .number ⌝ }
+{
+    match a {
+        WriteAnswer::Written(_) => 0,
+        WriteAnswer::Refused(r) => refusal_number(r),
+    }
+}
+
+// How many bytes a writer wrote, 0 beside a refusal.
+pub fn bytes_written(a: WriteAnswer) -> usize
+    ensures { λ r. ⌜ Beside r (writePanel a .values) ⌝ }
+{
+    match a {
+        WriteAnswer::Written(n) => n,
+        WriteAnswer::Refused(_) => 0,
+    }
+}
+
+// What the checker answers, as a number.
+pub fn check_number(a: CheckAnswer) -> u64
+    ensures { λ r. ⌜ r ≡ checkPanel a .number ⌝ }
+{
+    match a {
+        CheckAnswer::Accepted(_) => 0,
+        CheckAnswer::Refused(r) => refusal_number(r),
+    }
+}
+
+// Kind, slot, block, signer count and weight of what was checked, zeros beside a refusal.
+pub fn check_values(a: CheckAnswer) -> [u64; 5]
+    ensures { λ r. ⌜ r ≡ checkPanel a .values ⌝ }
+{
+    match a {
+        CheckAnswer::Accepted(x) => accepted_values(x),
+        CheckAnswer::Refused(_) => [0, 0, 0, 0, 0],
+    }
+}
+
+// The five values of an accepted check.
+fn accepted_values(x: Accepted) -> [u64; 5]
+    ensures { λ r. ⌜ r ≡ acceptedValues x ⌝ }
+{
+    let k = x.kind;
+    let s = x.slot;
+    let w = x.weight;
+    [kind_number(k), s.0 as u64, x.block, x.signers, w.0]
+}
