@@ -9,7 +9,7 @@ use Rattle.rulebook.specs.declared.WriteAnswer.{WriteAnswer}
 use Rattle.rulebook.specs.declared.CheckAnswer.{CheckAnswer}
 use Rattle.rulebook.specs.PaperNumbers.{startPanel, stepPanel, writePanel, checkPanel}
 use Rattle.rulebook.specs.Writers as writer
-use Rattle.node.specs.Stepping.{StepOf}
+use Rattle.node.specs.Stepping.{StepOf, stepLeaves}
 use Rattle.soundness.specs.Starting.{StartOf}
 use Rattle.writers.specs.Writing.{Writes}
 use Rattle.answers.specs.Face.{Beside, Started, Stepped, Wrote, Checked}
@@ -19,15 +19,19 @@ pub started : (ws stakes : List ℕ) (own genesis : ℕ) (a : StartAnswer) (n : 
 started ws stakes own genesis a n left s e =
     record { numbered = e ∙ ap (λ (x : StartAnswer). startPanel x .number) (s .answered); words = s .words }
 
-pub stepped : (ws out : List ℕ) (i : Input) (a : StepAnswer) (n k : ℕ) (ws' left : List ℕ) → StepOf ws out i a ws' left
+-- A step of an input that stands for the host's numbers.
+pub stepped : (ws out : List ℕ) (i j : Input) (a : StepAnswer) (n k : ℕ) (ws' left : List ℕ) → j ≡ i → StepOf ws out j a ws' left
     → n ≡ stepPanel a .number → Beside k (stepPanel a .values) → Stepped ws out i n k ws' left
-stepped ws out i a n k ws' left s e d =
+stepped ws out i j a n k ws' left g s e d =
     record {
-      numbered = e ∙ ap (λ (x : StepAnswer). stepPanel x .number) (s .answered);
-      counted = d ∙ ap (λ (x : StepAnswer). stepPanel x .values) (s .answered);
-      words = s .words;
-      outbox = s .outbox;
+      numbered = e ∙ ap (λ (x : StepAnswer). stepPanel x .number) answered;
+      counted = d ∙ ap (λ (x : StepAnswer). stepPanel x .values) answered;
+      words = s .words ∙ ap (λ (x : Input). stepLeaves ws out x .words) g;
+      outbox = s .outbox ∙ ap (λ (x : Input). stepLeaves ws out x .outbox) g;
     }
+  where
+    answered : a ≡ stepLeaves ws out i .answer
+    answered = s .answered ∙ ap (λ (x : Input). stepLeaves ws out x .answer) g
 
 pub wrote : (w : writer.Wrote) (buffer : List ℕ) (a : WriteAnswer) (n k : ℕ) (after : List ℕ) → Writes w buffer a after
     → n ≡ writePanel a .number → Beside k (writePanel a .values) → Wrote w buffer n k after

@@ -5,10 +5,10 @@ use Prim.Native.Nat.{ℕ}
 use Rattle.rulebook.specs.declared.Accepted.{Accepted}
 use Rattle.rulebook.specs.declared.CheckAnswer.{CheckAnswer}
 use Rattle.rulebook.specs.declared.Input.{Input}
-use Rattle.rulebook.specs.declared.Input.the-variants as input
-use Rattle.rulebook.specs.PaperNumbers.{voteKind, certificateNumber, startPanel, stepPanel, writePanel, checkPanel}
+use Rattle.rulebook.specs.PaperNumbers.{certificateNumber, startPanel, stepPanel, writePanel, checkPanel}
 use Rattle.rulebook.specs.Writers.{over}
 use Rattle.rulebook.specs.Writers as written
+pub use Rattle.inputs.specs.Inputs.{voteInput, blockInput, timeoutInput}
 use Rattle.node.specs.Stepping.{stepLeaves}
 use Rattle.soundness.specs.Starting.{startJudged, startAnswer, startLeft}
 
@@ -24,18 +24,6 @@ acceptedValues a = certificateNumber (a .kind) ∷ a .slot .0 ∷ a .block ∷ a
 pub record Started (ws stakes : List ℕ) (own genesis number : ℕ) (left : List ℕ) : Type 0 where
   pub numbered : number ≡ startPanel (startAnswer (startJudged ws stakes own genesis)) .number
   pub words : left ≡ startLeft (startJudged ws stakes own genesis) ws stakes own genesis
-
--- The inputs that numbers stand for.
-abbrev pub voteInput : ℕ → ℕ → ℕ → ℕ → Input
-voteInput kind node slot block =
-    input.Vote (record { kind = voteKind kind; node = record { 0 = node }; slot = record { 0 = slot }; block = block })
-
-abbrev pub blockInput : ℕ → ℕ → ℕ → ℕ → Input
-blockInput slot number parentslot parent =
-    input.Block (record { 0 = slot }) (record { number = number; parentslot = record { 0 = parentslot }; parent = parent })
-
-abbrev pub timeoutInput : ℕ → Input
-timeoutInput slot = input.Timeout (record { 0 = slot })
 
 -- A step: its number, the count of its records, and all the words of record and outbox.
 pub record Stepped (ws out : List ℕ) (i : Input) (number made : ℕ) (ws' left : List ℕ) : Type 0 where

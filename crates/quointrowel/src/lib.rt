@@ -18,15 +18,15 @@ use answers::step_number;
 use answers::write_number;
 use checker::check_certificate;
 use checker::check_proof;
+use inputs::block_input;
+use inputs::timeout_input;
+use inputs::vote_input;
 use kinds::kind_of;
-use kinds::vote_kind;
 use node::step;
 use record::record_words;
-use rulebook::Block;
 use rulebook::Input;
 use rulebook::Node;
 use rulebook::Slot;
-use rulebook::Vote;
 use soundness::start;
 use writers::write_certificate;
 use writers::write_proof;
@@ -68,13 +68,7 @@ pub extern "C" fn qr_vote(
 ) -> u64
     ensures { λ r. ⌜ Stepped (now (rec .entry)) (now (outbox .entry)) (voteInput kind node slot block) r (now (made .exit)) (now (rec .exit)) (now (outbox .exit)) ⌝ }
 {
-    let v = Vote {
-        kind: vote_kind(kind),
-        node: Node(node),
-        slot: Slot(slot),
-        block,
-    };
-    let a = step(rec, outbox, Input::Vote(v));
+    let a = step(rec, outbox, vote_input(kind, node, slot, block));
     *made = records_made(a);
     step_number(a)
 }
@@ -92,12 +86,7 @@ pub extern "C" fn qr_block(
 ) -> u64
     ensures { λ r. ⌜ Stepped (now (rec .entry)) (now (outbox .entry)) (blockInput slot number parentslot parent) r (now (made .exit)) (now (rec .exit)) (now (outbox .exit)) ⌝ }
 {
-    let b = Block {
-        number,
-        parentslot: Slot(parentslot),
-        parent,
-    };
-    let a = step(rec, outbox, Input::Block(Slot(slot), b));
+    let a = step(rec, outbox, block_input(slot, number, parentslot, parent));
     *made = records_made(a);
     step_number(a)
 }
@@ -112,7 +101,7 @@ pub extern "C" fn qr_timeout(
 ) -> u64
     ensures { λ r. ⌜ Stepped (now (rec .entry)) (now (outbox .entry)) (timeoutInput slot) r (now (made .exit)) (now (rec .exit)) (now (outbox .exit)) ⌝ }
 {
-    let a = step(rec, outbox, Input::Timeout(Slot(slot)));
+    let a = step(rec, outbox, timeout_input(slot));
     *made = records_made(a);
     step_number(a)
 }
