@@ -10,7 +10,7 @@ use rulebook::Input;
 use rulebook::Refusal;
 use rulebook::StepAnswer;
 use rulebook::Verdict;
-use rules::settle;
+use run::settle;
 use soundness::sound;
 use soundness::table;
 use verdicts::judge_input;

@@ -2,7 +2,7 @@
 use borrow.Author.Needs.{needs}
 use Rattle.rulebook.specs.Run.{run}
 use Rattle.rulebook.specs.Rules.{State}
-use Rattle.rules.proofs.ScanLaws.{under-way}
+use Rattle.run.proofs.ScanLaws.{under-way}
 use Rattle.voter.proofs.LiveLaws.{onward-then}
 use Rattle.node.proofs.TakeLaws.{taking-in, table-tabled}
 use Rattle.node.proofs.act.Statement.{statement}

@@ -5,9 +5,9 @@ use Rattle.rulebook.specs.Rules.{State, maySkipFallback}
 use Rattle.voter.proofs.LiveLaws.{live-placed, onward, onward-none}
 use Rattle.voter.proofs.OutboxLaws.{moved-is}
 use Rattle.voter.specs.Outbox.{stateIn}
-use Rattle.rules.proofs.RuleLaws.{skipFallback-on, skipFallback-off, skipFallback-comes}
-use Rattle.rules.proofs.add_skip_fallback.Statement.{statement}
-use Rattle.rules.proofs.add_skip_fallback.Tie as tie
+use Rattle.fallbacks.proofs.FallbackLaws.{skipFallback-on, skipFallback-off, skipFallback-comes}
+use Rattle.fallbacks.proofs.add_skip_fallback.Statement.{statement}
+use Rattle.fallbacks.proofs.add_skip_fallback.Tie as tie
 
 own-cell-requires : tie.Need-own-cell-requires
 own-cell-requires c κs = search needs

@@ -1,9 +1,9 @@
 -- D's casts: the skips first, then the fallback.
 -- The answers name no call: under the calls in another order it is the last one that fails.
 use borrow.Author.Needs.{needs}
-use Rattle.rules.proofs.RuleLaws.{then-fallback}
-use Rattle.rules.proofs.cast_fallback.Statement.{statement}
-use Rattle.rules.proofs.cast_fallback.Tie as tie
+use Rattle.fallbacks.proofs.FallbackLaws.{then-fallback}
+use Rattle.fallbacks.proofs.cast_fallback.Statement.{statement}
+use Rattle.fallbacks.proofs.cast_fallback.Tie as tie
 
 returns : tie.Need-returns
 returns c = search then-fallback

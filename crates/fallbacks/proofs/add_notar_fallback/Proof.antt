@@ -6,9 +6,9 @@ use Rattle.rulebook.specs.declared.Cell.{Cell}
 use Rattle.voter.proofs.LiveLaws.{live-placed, onward, onward-none}
 use Rattle.voter.proofs.OutboxLaws.{moved-is}
 use Rattle.voter.specs.Outbox.{stateIn}
-use Rattle.rules.proofs.RuleLaws.{fallback-on, fallback-off, fallback-comes}
-use Rattle.rules.proofs.add_notar_fallback.Statement.{statement}
-use Rattle.rules.proofs.add_notar_fallback.Tie as tie
+use Rattle.fallbacks.proofs.FallbackLaws.{fallback-on, fallback-off, fallback-comes}
+use Rattle.fallbacks.proofs.add_notar_fallback.Statement.{statement}
+use Rattle.fallbacks.proofs.add_notar_fallback.Tie as tie
 
 own-cell-requires : tie.Need-own-cell-requires
 own-cell-requires c κs = search needs

@@ -1,7 +1,7 @@
 -- The search for the first rule that applies and the run, as the loops go through them over the lent memory. Assumes nothing.
 use mathlib.Core.Path.{_≡_, refl, sym, ap, _∙_, subst}
 use mathlib.Core.List.{List}
-use Prim.Native.Nat.{ℕ, _+_, _≤_, _<_}
+use Prim.Native.Nat.{ℕ, zero, suc, _+_, _≤_, _<_}
 use native.Mathlib.Omega.{arith}
 use lib.ListN.{length}
 use Rattle.rulebook.specs.Weights.{lastSlot}
@@ -19,7 +19,18 @@ use Rattle.voter.specs.Outbox.{stateIn, Moved}
 use Rattle.voter.specs.Voting.{Live, Onward}
 use Rattle.voter.proofs.OutboxLaws.{made-in}
 use Rattle.voter.proofs.LiveLaws.{live-placed, onward-none, onward-is, onward-then}
-use Rattle.rules.specs.UnderWay.{UnderWay, UnderWayAt}
+use Rattle.fallbacks.specs.UnderWay.{UnderWay, UnderWayAt}
+
+-- There is no seventh rule.
+pub rule-beyond : (r : ℕ) (o : State) (s : ℕ) → (r ≡ 0 → ⊥) → (r ≡ 1 → ⊥) → (r ≡ 2 → ⊥) → (r ≡ 3 → ⊥) → (r ≡ 4 → ⊥) → (r ≡ 5 → ⊥) → o ≡ ruleAt r o s
+unfolding ruleAt
+rule-beyond zero o s a b c d e f = absurd (a refl)
+rule-beyond (suc zero) o s a b c d e f = absurd (b refl)
+rule-beyond (suc (suc zero)) o s a b c d e f = absurd (c refl)
+rule-beyond (suc (suc (suc zero))) o s a b c d e f = absurd (d refl)
+rule-beyond (suc (suc (suc (suc zero)))) o s a b c d e f = absurd (e refl)
+rule-beyond (suc (suc (suc (suc (suc zero))))) o s a b c d e f = absurd (f refl)
+rule-beyond (suc (suc (suc (suc (suc (suc r)))))) o s a b c d e f = refl
 
 -- The table stays the node's.
 pub under-way : {t : StakeTable} {ws out ws' left : List ℕ} {at now : ℕ} {q : State} → Tabled (ledgerOf ws) t

@@ -1,9 +1,9 @@
 -- E's casts: the skips first, then the skip-fallback.
 -- The answers name no call: under the calls in another order it is the last one that fails.
 use borrow.Author.Needs.{needs}
-use Rattle.rules.proofs.RuleLaws.{then-skipFallback}
-use Rattle.rules.proofs.cast_skip_fallback.Statement.{statement}
-use Rattle.rules.proofs.cast_skip_fallback.Tie as tie
+use Rattle.fallbacks.proofs.FallbackLaws.{then-skipFallback}
+use Rattle.fallbacks.proofs.cast_skip_fallback.Statement.{statement}
+use Rattle.fallbacks.proofs.cast_skip_fallback.Tie as tie
 
 returns : tie.Need-returns
 returns c = search then-skipFallback

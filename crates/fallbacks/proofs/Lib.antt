@@ -1,0 +1,2 @@
+-- Laws of D and E, as code goes through them.
+pub mod FallbackLaws
