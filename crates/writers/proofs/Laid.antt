@@ -30,7 +30,7 @@ use Rattle.record.specs.Layout.{ledgerOf}
 use Rattle.soundness.specs.Sound.{soundWords, TableOf}
 use Rattle.soundness.proofs.Laws.{sound-long, sound-head}
 use Rattle.pool.specs.Weighing.{Weighing}
-use Rattle.writers.specs.Masks.{Naming}
+use Rattle.signers.specs.Masks.{Naming}
 use Rattle.writers.specs.Writing.{unsound, certificateOn, proofOn, Writes}
 
 -- ---- what the inner functions ask

@@ -1,4 +1,3 @@
 -- Laws of the writers.
-pub mod Signers
 pub mod Verdicts
 pub mod Laid

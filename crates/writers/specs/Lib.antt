@@ -1,3 +1,2 @@
 -- What the contracts of the writers cite beside the rule book.
-pub mod Masks
 pub mod Writing

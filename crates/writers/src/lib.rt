@@ -1,109 +1,25 @@
-// The certificate writer and the proof writer: the stored signers as masks, and their packets in lent bytes.
+// The certificate writer and the proof writer: packets of the stored signers in lent bytes.
+ghost use mathlib.Core.Path.{_≡_};
+ghost use mathlib.Core.Bool.{true};
+ghost use lib.ListN.{length};
+ghost use Rattle.rulebook.specs.Writers.{certificateVerdict, proofVerdict, proofBytes};
+ghost use Rattle.record.specs.Layout.{ledgerOf};
+ghost use Rattle.soundness.specs.Sound.{soundWords};
+ghost use Rattle.numbers.specs.Written.{Written};
+ghost use Rattle.writers.specs.Writing.{certificateOn, proofOn, Writes, Laying};
 use candidates::is_final;
 use kinds::block_misfits;
 use kinds::is_other;
-use kinds::kind_number;
 use kinds::slot_ok;
 use pool::held;
-use record::count;
-use record::has_fallback;
-use record::load_cell;
-use rulebook::Cell;
-use rulebook::Certificate;
 use rulebook::CertificateKind;
-use rulebook::Node;
 use rulebook::Refusal;
 use rulebook::Slot;
 use rulebook::Verdict;
 use rulebook::WriteAnswer;
+use signers::certificate_for;
 use soundness::sound;
 use soundness::table;
-use stakes::with_bit;
-ghost use mathlib.Core.Path.{_≡_};
-ghost use mathlib.Core.Bool.{true};
-ghost use lib.ListN.{length};
-ghost use Rattle.rulebook.specs.Ledger.{cellAt};
-ghost use Rattle.rulebook.specs.Packets.{maskOf};
-ghost use Rattle.rulebook.specs.Writers.{inA, inB, certificateFor, certificateVerdict, proofVerdict, proofBytes};
-ghost use Rattle.record.specs.Layout.{ledgerOf};
-ghost use Rattle.soundness.specs.Sound.{soundWords};
-ghost use Rattle.numbers.specs.Written.{Written};
-ghost use Rattle.writers.specs.Masks.{inMask, Signing, Naming};
-ghost use Rattle.writers.specs.Writing.{certificateOn, proofOn, Writes, Laying};
-
-// The two masks of a certificate.
-pub enum Mask {
-    A,
-    B,
-}
-
-// Whether a node's initial or final vote counts.
-fn in_a(kind: CertificateKind, b: u64, c: Cell) -> bool
-    ensures { λ r. ⌜ r ≡ inA kind b c ⌝ }
-{
-    match kind {
-        CertificateKind::FastFinal => c.notar == b,
-        CertificateKind::Notar => c.notar == b,
-        CertificateKind::NotarFallback => c.notar == b,
-        CertificateKind::Skip => c.skip != 0,
-        CertificateKind::Final => c.finalvote != 0,
-        CertificateKind::Other => false,
-    }
-}
-
-// Whether a node counts by a fallback alone.
-fn in_b(kind: CertificateKind, b: u64, c: Cell) -> bool
-    ensures { λ r. ⌜ r ≡ inB kind b c ⌝ }
-{
-    match kind {
-        CertificateKind::NotarFallback => has_fallback(b, c) & (c.notar != b),
-        CertificateKind::Skip => (c.skipfallback != 0) & (c.skip == 0),
-        CertificateKind::FastFinal => false,
-        CertificateKind::Notar => false,
-        CertificateKind::Final => false,
-        CertificateKind::Other => false,
-    }
-}
-
-// Whether a mask names a node, by what is kept of it.
-fn in_mask(which: Mask, kind: CertificateKind, b: u64, c: Cell) -> bool
-    ensures { λ r. ⌜ r ≡ inMask which kind b c ⌝ }
-{
-    match which {
-        Mask::A => in_a(kind, b, c),
-        Mask::B => in_b(kind, b, c),
-    }
-}
-
-// A mask of the signers stored in a slot, node by node.
-fn signers_in(rec: &[u64], nodes: usize, which: Mask, kind: CertificateKind, s: Slot, b: u64) -> u64
-    requires { ⌜ Signing (now rec) nodes (s .0) ⌝ }
-    ensures { λ r. ⌜ r ≡ maskOf (λ n. inMask which kind b (cellAt (ledgerOf (now (rec .entry))) (s .0) n)) nodes ⌝ }
-{
-    let mut mask: u64 = 0;
-    for n in 0..nodes {
-        let c = load_cell(rec, s, Node(n));
-        if in_mask(which, kind, b, c) {
-            mask = with_bit(mask, Node(n));
-        }
-    }
-    mask
-}
-
-// The certificate that names all stored signers.
-fn certificate_for(rec: &[u64], kind: CertificateKind, s: Slot, b: u64) -> Certificate
-    requires { ⌜ Naming (now rec) (s .0) ⌝ }
-    ensures { λ r. ⌜ r ≡ certificateFor (ledgerOf (now (rec .entry))) kind (s .0) b ⌝ }
-{
-    let nodes = count(rec);
-    Certificate {
-        kind: kind_number(kind),
-        slot: s.0 as u64,
-        block: b,
-        maska: signers_in(rec, nodes, Mask::A, kind, s, b),
-        maskb: signers_in(rec, nodes, Mask::B, kind, s, b),
-    }
-}
 
 // 9, 4, 3, 5, 18, in this order, for a certificate.
 fn judge_certificate(rec: &[u64], room: usize, kind: CertificateKind, s: Slot, b: u64) -> Verdict

@@ -2,8 +2,8 @@
 use Prim.Native.Nat.{_-_}
 use Rattle.rulebook.specs.Writers.{inB}
 use borrow.Author.Needs.{needs}
-use Rattle.writers.proofs.in_b.Statement.{statement}
-use Rattle.writers.proofs.in_b.Tie as tie
+use Rattle.signers.proofs.in_b.Statement.{statement}
+use Rattle.signers.proofs.in_b.Tie as tie
 
 enum-told : tie.Need-enum-told
 enum-told c = search needs

@@ -16,8 +16,8 @@ use Rattle.rulebook.specs.Writers.{certificateFor}
 use Rattle.rulebook.proofs.ToolLaws.{part-on}
 use Rattle.rulebook.proofs.MaskLaws.{mask-in, mask-out}
 use Rattle.stakes.specs.Masks.{withNode}
-use Rattle.writers.specs.declared.Mask.the-variants as mask
-use Rattle.writers.specs.Masks.{inMask}
+use Rattle.signers.specs.declared.Mask.the-variants as mask
+use Rattle.signers.specs.Masks.{inMask}
 
 -- The node's test passed: the mask with its bit is the mask of one node more.
 pub signer-in : (p : ℕ → Bool) (n m r : ℕ) (t : Bool) → n < mostNodes → m ≡ maskOf p n → r ≡ withNode m n → t ≡ p n → t ≡ true → r ≡ maskOf p (n + 1)

@@ -1,9 +1,9 @@
 -- Five numbers make the certificate.
 use borrow.Author.Needs.{needs}
 use Rattle.record.specs.Layout.{ledgerOf}
-use Rattle.writers.proofs.Signers.{named-all}
-use Rattle.writers.proofs.certificate_for.Statement.{statement}
-use Rattle.writers.proofs.certificate_for.Tie as tie
+use Rattle.signers.proofs.Signers.{named-all}
+use Rattle.signers.proofs.certificate_for.Statement.{statement}
+use Rattle.signers.proofs.certificate_for.Tie as tie
 
 count-requires : tie.Need-count-requires
 count-requires c κs = search needs

@@ -9,10 +9,10 @@ use Rattle.rulebook.specs.Ledger.{cellAt}
 use Rattle.rulebook.specs.Packets.{maskOf}
 use Rattle.rulebook.proofs.MaskLaws.{mask-none}
 use Rattle.record.specs.Layout.{ledgerOf}
-use Rattle.writers.specs.Masks.{inMask}
-use Rattle.writers.proofs.Signers.{signer-in, signer-out}
-use Rattle.writers.proofs.signers_in.Statement.{statement}
-use Rattle.writers.proofs.signers_in.Tie as tie
+use Rattle.signers.specs.Masks.{inMask}
+use Rattle.signers.proofs.Signers.{signer-in, signer-out}
+use Rattle.signers.proofs.signers_in.Statement.{statement}
+use Rattle.signers.proofs.signers_in.Tie as tie
 
 abbrev Inv-loop : tie.InvT-loop
 Inv-loop rec nodes which kind s b mask₀ n₀ mask n =

@@ -1,9 +1,9 @@
 -- One of the two tests.
 use Prim.Native.Nat.{_-_}
-use Rattle.writers.specs.Masks.{inMask}
+use Rattle.signers.specs.Masks.{inMask}
 use borrow.Author.Needs.{needs}
-use Rattle.writers.proofs.in_mask.Statement.{statement}
-use Rattle.writers.proofs.in_mask.Tie as tie
+use Rattle.signers.proofs.in_mask.Statement.{statement}
+use Rattle.signers.proofs.in_mask.Tie as tie
 
 enum-told : tie.Need-enum-told
 enum-told c = search needs

@@ -9,8 +9,8 @@ use Rattle.rulebook.specs.declared.CertificateKind.{CertificateKind}
 use Rattle.rulebook.specs.Weights.{mostNodes, lastSlot}
 use Rattle.rulebook.specs.Writers.{inA, inB}
 use Rattle.record.specs.Layout.{recordWords, ledgerOf}
-use Rattle.writers.specs.declared.Mask.{Mask}
-use Rattle.writers.specs.declared.Mask.the-variants as mask
+use Rattle.signers.specs.declared.Mask.{Mask}
+use Rattle.signers.specs.declared.Mask.the-variants as mask
 
 -- The mask names the node of this cell.
 unfoldable pub inMask : Mask → CertificateKind → ℕ → Cell → Bool

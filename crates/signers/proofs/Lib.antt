@@ -1,0 +1,2 @@
+-- Laws that the proofs of the signers cite.
+pub mod Signers

@@ -1,0 +1,2 @@
+-- What the contracts of the signers cite beside the rule book.
+pub mod Masks
