@@ -1,75 +1,141 @@
 -- Demand 3 on the promises of the code, proved.
-use mathlib.Core.Path.{_≡_, refl, sym, ap, _∙_, subst}
-use mathlib.Core.Bool.{Bool, true, false, not}
-use mathlib.Core.List.{List, [], _∷_}
-use Prim.Native.Nat.{ℕ, _<_, _^_}
+use mathlib.Core.Path.{_≡_, sym, ap, _∙_, subst}
+use mathlib.Core.List.{List}
+use Prim.Native.Nat.{ℕ, _-_}
+use native.Mathlib.Omega.{arith}
 use lib.Dec.{T}
+use lib.ListN.{length, take}
 use Rattle.rulebook.specs.declared.Input.{Input}
-use Rattle.rulebook.specs.declared.Certificate.{Certificate}
 use Rattle.rulebook.specs.declared.CertificateKind.{CertificateKind}
+use Rattle.rulebook.specs.declared.CheckAnswer.{CheckAnswer}
 use Rattle.rulebook.specs.declared.WriteAnswer.{WriteAnswer}
-use Rattle.rulebook.specs.declared.WriteAnswer.the-variants as write
-use Rattle.rulebook.specs.Ledger.{Ledger, fresh}
-use Rattle.rulebook.specs.PaperNumbers.{certificateKind}
-use Rattle.rulebook.specs.Rules.{Record}
+use Rattle.rulebook.specs.Ledger.{Ledger, fresh, cellAt}
 use Rattle.rulebook.specs.Checker.{checkCertificate, checkProof}
-use Rattle.rulebook.specs.Writers.{writeCertificate, writeProof}
+use Rattle.rulebook.specs.Writers.{Wrote, writeCertificate, writeProof}
+use Rattle.rulebook.proofs.ToolLaws.{given-on}
 use Rattle.record.specs.Layout.{ledgerOf}
+use Rattle.soundness.specs.Sound.{soundWords}
+use Rattle.writers.specs.Writing.{unsound, certificateOn, proofOn, Writes}
+use Rattle.readback.proofs.Words.{packet-is, certificate-length, proof-length}
 use Rattle.safety.specs.Slot.{Test, Ballot}
-use Rattle.safety.specs.Ballots.{recordFor}
-use Rattle.safety.specs.Ring.{afterAll, madeIn, ballotA, ballotB, Ring, FedRing, Genuine, GenuinePacket}
+use Rattle.safety.specs.Ballots.{has, recordFor}
+use Rattle.safety.specs.Ring.{afterAll, castBy, Ring, GenuinePacket}
 use Rattle.safety.specs.Promises.{AcceptedAs}
-use Rattle.safety.proofs.Promises.{packets-safe, mail-is-enough}
+use Rattle.safety.proofs.Packets.{packet-more}
+use Rattle.safety.proofs.Promises.{packets-safe, proofs-agree, mail-is-enough}
 use Rattle.safety.proofs.Written.{written-certificate-accepted, written-proof-accepted}
-use Rattle.histories.specs.Calls.{Call, Lived, lastOf, inputsOf, toldBy}
-use Rattle.histories.specs.Ring.{CodeRing, GenuineTold, PacketTold, CodeSafe, CodeCertificateAccepted, CodeProofAccepted}
+use Rattle.histories.specs.Calls.{Life, Lived, leftBy, inputsOf}
+use Rattle.histories.specs.Ring.{toldBallot, CodeRing, CodeSafe, CodeProofsAgree, CodeMailIsEnough, CodeFedSafe, CodeCertificateAccepted, CodeProofAccepted}
 use Rattle.histories.proofs.Lives.{started, lived}
 
-module _ (stakes : List ℕ) (genesis : ℕ) (honest : Test) (calls : ℕ → List Call) (ring : CodeRing stakes genesis honest calls) where
+-- ---- the ring
+
+module _ (stakes : List ℕ) (genesis : ℕ → ℕ) (honest : Test) (lives : ℕ → Life) (all : (n : ℕ) → T (honest n) → Lived stakes n (genesis n) (lives n)) where
   -- What the calls fed to each node.
-  fed : ℕ → List Input
-  fed n = inputsOf (calls n)
+  abbrev fed : ℕ → List Input
+  fed n = inputsOf (lives n .calls)
 
-  -- What an honest node told is what it made.
-  told-made : (n : ℕ) → T (honest n) → (r : Record) → T (toldBy (calls n) r) → T (madeIn (fresh stakes n genesis) (inputsOf (calls n)) r)
-  told-made n h r t = subst T (lived stakes n genesis (calls n) (ring .lived n h) .told r) t
+  -- What an honest node told is what it cast.
+  told-cast : (n s : ℕ) (v : Ballot) → T (honest n) → T (toldBallot lives n s v) → T (castBy stakes genesis honest fed n s v)
+  told-cast n s v h t = subst T (lived stakes n (genesis n) (lives n) (all n h) .told (recordFor s v)) t
 
-  -- The calls are a ring of the safety theorem.
-  ring-of-calls : FedRing stakes genesis honest (λ n. inputsOf (calls n))
-  ring-of-calls =
-      record {
-        few = ring .few;
-        started = λ n h. started stakes n genesis (calls n) (ring .lived n h) .0;
-        mail = λ n m s v h k ne t. told-made m k (recordFor s v) (ring .mail n m s v h k ne t);
-      }
+  cast-told : (n s : ℕ) (v : Ballot) → T (honest n) → T (castBy stakes genesis honest fed n s v) → T (toldBallot lives n s v)
+  cast-told n s v h t = subst T (sym (lived stakes n (genesis n) (lives n) (all n h) .told (recordFor s v))) t
 
-  genuine : (c : Certificate) → GenuineTold stakes genesis honest calls c → Genuine stakes genesis honest (λ n. inputsOf (calls n)) c
-  genuine c g =
-      record {
-        signedA = λ n h t. told-made n h (recordFor (c .slot) (ballotA (certificateKind (c .kind)) (c .block))) (g .signedA n h t);
-        signedB = λ n h w t. told-made n h (recordFor (c .slot) (ballotB (certificateKind (c .kind)) (c .block))) (g .signedB n h w t);
-      }
+  -- The ledger that its words mean is the one after what it was fed.
+  ledger-is : (n : ℕ) → T (honest n) → ledgerOf (leftBy (lives n)) ≡ afterAll (fresh stakes n (genesis n)) (fed n)
+  ledger-is n h = lived stakes n (genesis n) (lives n) (all n h) .ledger
 
-  genuine-packet : (packet : List ℕ) → PacketTold stakes genesis honest calls packet → GenuinePacket stakes genesis honest (λ n. inputsOf (calls n)) packet
-  genuine-packet packet g =
-      record { first = λ c next e. genuine c (g .first c next e); second = λ c d next end e f. genuine d (g .second c d next end e f) }
+  -- A packet that is genuine by what was told is genuine by what was cast.
+  genuine : (packet : List ℕ) → GenuinePacket honest (toldBallot lives) packet → GenuinePacket honest (castBy stakes genesis honest fed) packet
+  genuine = packet-more honest (toldBallot lives) (castBy stakes genesis honest fed) told-cast
+
+-- The calls are a ring of the safety theorem.
+pub ring-of-calls : (stakes : List ℕ) (genesis : ℕ → ℕ) (honest : Test) (lives : ℕ → Life) → CodeRing stakes genesis honest lives
+    → Ring stakes genesis honest (λ n. inputsOf (lives n .calls))
+ring-of-calls stakes genesis honest lives ring =
+    record {
+      few = ring .nodes .few;
+      started = λ n h. started stakes n (genesis n) (lives n) (ring .nodes .lived n h) .0;
+      pools = λ n m s v h k ne t.
+          told-cast stakes genesis honest lives (ring .nodes .lived) m s v k
+          (ring .counted n m s v h k ne
+          (subst (λ (l : Ledger). T (has (cellAt l s m) v)) (sym (ledger-is stakes genesis honest lives (ring .nodes .lived) n h)) t));
+    }
+
+pub code-mail-is-enough : CodeMailIsEnough
+code-mail-is-enough stakes genesis honest lives ring =
+    let r = mail-is-enough stakes genesis honest (λ n. inputsOf (lives n .calls))
+    (record {
+      few = ring .nodes .few;
+      started = λ n h. started stakes n (genesis n) (lives n) (ring .nodes .lived n h) .0;
+      mail = λ n m s v h k ne t. told-cast stakes genesis honest lives (ring .nodes .lived) m s v k (ring .mail n m s v h k ne t);
+    })
+    in
+    record {
+      nodes = ring .nodes;
+      counted = λ n m s v h k ne t.
+          cast-told stakes genesis honest lives (ring .nodes .lived) m s v k
+          (r .pools n m s v h k ne (subst (λ (l : Ledger). T (has (cellAt l s m) v)) (ledger-is stakes genesis honest lives (ring .nodes .lived) n h) t));
+    }
+
+-- ---- what is accepted
 
 pub code-safe : CodeSafe
-code-safe stakes genesis honest calls ring proof packet answer other a d g k p q x y =
-    packets-safe stakes genesis honest (λ n. inputsOf (calls n))
-    (mail-is-enough stakes genesis honest (λ n. inputsOf (calls n)) (ring-of-calls stakes genesis honest calls ring)) proof packet a d
-    (genuine-packet stakes genesis honest calls ring proof g) (genuine-packet stakes genesis honest calls ring packet k) (sym p ∙ x) (sym q ∙ y)
+code-safe stakes genesis honest lives ring proof packet answer other a d g k p q x y =
+    packets-safe stakes genesis honest (λ n. inputsOf (lives n .calls)) (ring-of-calls stakes genesis honest lives ring) proof packet a d
+    (genuine stakes genesis honest lives (ring .nodes .lived) proof g) (genuine stakes genesis honest lives (ring .nodes .lived) packet k) (sym p ∙ x) (sym q ∙ y)
+
+pub code-proofs-agree : CodeProofsAgree
+code-proofs-agree stakes genesis honest lives ring proof rival answer other a d g k p q x y =
+    proofs-agree stakes genesis honest (λ n. inputsOf (lives n .calls)) (ring-of-calls stakes genesis honest lives ring) proof rival a d
+    (genuine stakes genesis honest lives (ring .nodes .lived) proof g) (genuine stakes genesis honest lives (ring .nodes .lived) rival k) (sym p ∙ x) (sym q ∙ y)
+
+pub code-fed-safe : CodeFedSafe
+code-fed-safe stakes genesis honest lives ring =
+    let r = code-mail-is-enough stakes genesis honest lives ring in
+    (code-safe stakes genesis honest lives r, code-proofs-agree stakes genesis honest lives r)
+
+-- ---- what is written
+
+-- The first bytes of the buffer, as many as were written.
+front : {w : Wrote} {buffer after : List ℕ} {a : WriteAnswer} (n : ℕ) → Writes w buffer a after → n ≡ length (w .bytes) → take n after ≡ w .bytes
+front {w} {buffer} {after} n x e =
+    let z : n - 0 ≡ n = omega arith in subst (λ (m : ℕ). take m after ≡ w .bytes) z (packet-is (w .bytes) buffer after n (x .bytes) e)
+
+module _ (stakes : List ℕ) (own genesis : ℕ) (life : Life) (h : Lived stakes own genesis life) where
+  -- On the words that the calls left, the writers write of the ledger after what was fed.
+  abbrev now : Ledger
+  now = afterAll (fresh stakes own genesis) (inputsOf (life .calls))
+
+  certificate-on : (room : ℕ) (k : CertificateKind) (s b : ℕ) → certificateOn (leftBy life) room k s b ≡ writeCertificate now room k s b
+  unfolding certificateOn
+  certificate-on room k s b =
+      given-on (soundWords (leftBy life)) unsound (λ _. writeCertificate (ledgerOf (leftBy life)) room k s b) (lived stakes own genesis life h .sound)
+      ∙ ap (λ (l : Ledger). writeCertificate l room k s b) (lived stakes own genesis life h .ledger)
+
+  proof-on : (room s b : ℕ) → proofOn (leftBy life) room s b ≡ writeProof now room s b
+  unfolding proofOn
+  proof-on room s b =
+      given-on (soundWords (leftBy life)) unsound (λ _. writeProof (ledgerOf (leftBy life)) room s b) (lived stakes own genesis life h .sound)
+      ∙ ap (λ (l : Ledger). writeProof l room s b) (lived stakes own genesis life h .ledger)
 
 pub code-certificate-accepted : CodeCertificateAccepted
-code-certificate-accepted stakes own genesis calls h room k s b n small e =
-    let q : ledgerOf (lastOf (h .words) calls) ≡ afterAll (fresh stakes own genesis) (inputsOf calls) = lived stakes own genesis calls h .ledger in
-    subst (λ (l : Ledger). AcceptedAs (checkCertificate stakes (writeCertificate l room k s b .bytes)) k s b) (sym q)
-    (written-certificate-accepted stakes own genesis (started stakes own genesis calls h .0) (inputsOf calls) room k s b n small
-    (subst (λ (l : Ledger). writeCertificate l room k s b .answer ≡ write.Written n) q e))
+code-certificate-accepted stakes own genesis life h buffer after k s b n written answer small w e c =
+    let room = length buffer in
+    let on = certificate-on stakes own genesis life h room k s b in
+    let f = sym (w .answered) ∙ e in
+    let p = front n w (certificate-length (leftBy life) room k s b n f) in
+    subst (λ (x : CheckAnswer). AcceptedAs x k s b) (sym (c ∙ ap (checkCertificate stakes) (p ∙ ap (λ (x : Wrote). x .bytes) on)))
+    (written-certificate-accepted stakes own genesis (started stakes own genesis life h .0) (inputsOf (life .calls)) room k s b n small
+    (ap (λ (x : Wrote). x .answer) (sym on) ∙ f))
 
 pub code-proof-accepted : CodeProofAccepted
-code-proof-accepted stakes own genesis calls h room s b n small e =
-    let q : ledgerOf (lastOf (h .words) calls) ≡ afterAll (fresh stakes own genesis) (inputsOf calls) = lived stakes own genesis calls h .ledger in
-    subst (λ (l : Ledger). (k : CertificateKind) × AcceptedAs (checkProof stakes (writeProof l room s b .bytes)) k s b) (sym q)
-    (written-proof-accepted stakes own genesis (started stakes own genesis calls h .0) (inputsOf calls) room s b n small
-    (subst (λ (l : Ledger). writeProof l room s b .answer ≡ write.Written n) q e))
+code-proof-accepted stakes own genesis life h buffer after s b n written answer small w e c =
+    let room = length buffer in
+    let on = proof-on stakes own genesis life h room s b in
+    let f = sym (w .answered) ∙ e in
+    let p = front n w (proof-length (leftBy life) room s b n f) in
+    subst (λ (x : CheckAnswer). (k : CertificateKind) × AcceptedAs x k s b) (sym (c ∙ ap (checkProof stakes) (p ∙ ap (λ (x : Wrote). x .bytes) on)))
+    (written-proof-accepted stakes own genesis (started stakes own genesis life h .0) (inputsOf (life .calls)) room s b n small
+    (ap (λ (x : Wrote). x .answer) (sym on) ∙ f))

@@ -37,7 +37,7 @@ use Rattle.soundness.proofs.InStep.{sound-spelled, spelled-sound, spelled-back}
 use Rattle.node.specs.Stepping.{spelled, asFed, asFound, Leaves, stepLeaves, StepOf}
 use Rattle.safety.specs.Ballots.{among}
 use Rattle.safety.specs.Ring.{afterAll, madeIn}
-use Rattle.histories.specs.Calls.{Call, Calls, noMore, called, lastOf, inputsOf, firstRecords, toldIn, toldBy, Lived}
+use Rattle.histories.specs.Calls.{Call, Calls, noMore, called, lastOf, inputsOf, firstRecords, toldIn, toldBy, Life, Lived}
 
 -- ---- one call
 
@@ -144,26 +144,26 @@ all-done l ws (c ∷ cs) e q (called s k) =
 
 -- ---- a life
 
-module _ (stakes : List ℕ) (own genesis : ℕ) (calls : List Call) (h : Lived stakes own genesis calls) where
+module _ (stakes : List ℕ) (own genesis : ℕ) (life : Life) (h : Lived stakes own genesis life) where
   -- The start was accepted, and left the fresh ledger's words.
-  pub started : (startVerdict stakes own genesis ≡ Fine) × (h .words ≡ wordsOf (fresh stakes own genesis))
+  pub started : (startVerdict stakes own genesis ≡ Fine) × (life .words ≡ wordsOf (fresh stakes own genesis))
   unfolding startAnswer startLeft startJudged
-  started = go (startJudged (h .found) stakes own genesis) refl
+  started = go (startJudged (life .found) stakes own genesis) refl
     where
-      go : (v : Verdict) → startJudged (h .found) stakes own genesis ≡ v → (startVerdict stakes own genesis ≡ Fine) × (h .words ≡ wordsOf (fresh stakes own genesis))
+      go : (v : Verdict) → startJudged (life .found) stakes own genesis ≡ v → (startVerdict stakes own genesis ≡ Fine) × (life .words ≡ wordsOf (fresh stakes own genesis))
       go Fine e =
-          let f = refuse-fine (not (eqb (length (h .found)) recordWords)) refusal.BadRecord (startVerdict stakes own genesis) e in
-          (f .1, h .start .words ∙ ap (λ (v : Verdict). startLeft v (h .found) stakes own genesis) e)
+          let f = refuse-fine (not (eqb (length (life .found)) recordWords)) refusal.BadRecord (startVerdict stakes own genesis) e in
+          (f .1, h .start .words ∙ ap (λ (v : Verdict). startLeft v (life .found) stakes own genesis) e)
       go (Refused r) e =
           let q : start.Started ≡ start.Refused r = h .start .answered ∙ ap startAnswer e in
           let z : _≡_ {A = ℕ} 0 1 = cc in
           absurd (omega arith)
 
   -- The history is a life of the safety theorem.
-  pub lived : DidAll (fresh stakes own genesis) (h .words) calls
+  pub lived : DidAll (fresh stakes own genesis) (life .words) (life .calls)
   lived =
       let f : Sound (fresh stakes own genesis) = fresh-sound stakes own genesis (started .0) in
-      all-done (fresh stakes own genesis) (h .words) calls
+      all-done (fresh stakes own genesis) (life .words) (life .calls)
       (ap soundWords (started .1) ∙ spelled-sound (fresh stakes own genesis) f)
       (ap ledgerOf (started .1) ∙ spelled-back (fresh stakes own genesis) f)
       (h .steps)

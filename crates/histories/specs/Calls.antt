@@ -58,9 +58,17 @@ unfoldable pub toldBy : List Call → Record → Bool
 toldBy [] r = false
 toldBy (c ∷ cs) r = among (toldIn (c .answer) (c .left)) r || toldBy cs r
 
--- A node that was started under its own number, and called.
-pub record Lived (stakes : List ℕ) (own genesis : ℕ) (calls : List Call) : Type 0 where
+-- A node's life: the words that start found and those that it left, and the calls since.
+pub record Life : Type 0 where
   pub found : List ℕ
   pub words : List ℕ
-  pub start : StartOf found stakes own genesis Started words
-  pub steps : Calls words calls
+  pub calls : List Call
+
+-- The record's words at the end of it.
+abbrev pub leftBy : Life → List ℕ
+leftBy l = lastOf (l .words) (l .calls)
+
+-- It was started with this table under its own number, the start was accepted, and every call was as the contract has it.
+pub record Lived (stakes : List ℕ) (own genesis : ℕ) (l : Life) : Type 0 where
+  pub start : StartOf (l .found) stakes own genesis Started (l .words)
+  pub steps : Calls (l .words) (l .calls)

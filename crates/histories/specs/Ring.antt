@@ -1,72 +1,108 @@
 -- The ring over the code: honest nodes are those whose calls meet the contracts; a vote was cast where an outbox told it.
 use mathlib.Core.Path.{_≡_}
-use mathlib.Core.Bool.{Bool, not}
+use mathlib.Core.Bool.{Bool}
 use mathlib.Core.List.{List}
-use Prim.Native.Nat.{ℕ, _*_, _<_, _^_}
+use Prim.Native.Nat.{ℕ, _<_, _^_}
 use lib.Dec.{T}
-use lib.ListN.{length}
+use lib.ListN.{length, take}
 use Rattle.rulebook.specs.declared.Accepted.{Accepted}
-use Rattle.rulebook.specs.declared.Certificate.{Certificate}
 use Rattle.rulebook.specs.declared.CertificateKind.{CertificateKind}
 use Rattle.rulebook.specs.declared.CheckAnswer.{CheckAnswer}
 use Rattle.rulebook.specs.declared.CheckAnswer.the-variants as check
-use Rattle.rulebook.specs.declared.Found.the-variants as found
+use Rattle.rulebook.specs.declared.WriteAnswer.{WriteAnswer}
 use Rattle.rulebook.specs.declared.WriteAnswer.the-variants as write
-use Rattle.rulebook.specs.Weights.{weight, totalTo}
-use Rattle.rulebook.specs.PaperNumbers.{certificateKind}
-use Rattle.rulebook.specs.Packets.{certificateAt, bit}
-use Rattle.rulebook.specs.Checker.{withoutB, checkCertificate, checkProof}
-use Rattle.rulebook.specs.Writers.{writeCertificate, writeProof}
+use Rattle.rulebook.specs.Ledger.{cellAt}
+use Rattle.rulebook.specs.Checker.{checkCertificate, checkProof}
 use Rattle.record.specs.Layout.{ledgerOf}
+use Rattle.writers.specs.Writing.{certificateOn, proofOn, Writes}
 use Rattle.safety.specs.Slot.{Test, Ballot}
-use Rattle.safety.specs.Ballots.{recordFor}
-use Rattle.safety.specs.Ring.{broughtBy, ballotA, ballotB, Agrees}
+use Rattle.safety.specs.Ballots.{has, recordFor}
+use Rattle.safety.specs.Ring.{broughtBy, FewOthers, GenuinePacket, Agrees}
 use Rattle.safety.specs.Promises.{AcceptedAs}
-use Rattle.histories.specs.Calls.{Call, Lived, lastOf, inputsOf, toldBy}
+use Rattle.histories.specs.Calls.{Life, Lived, leftBy, inputsOf, toldBy}
 
-module _ (stakes : List ℕ) (genesis : ℕ) (honest : Test) (calls : ℕ → List Call) where
-  -- Node n told the ballot for slot s in one of its calls.
-  abbrev pub toldBallot : ℕ → ℕ → Ballot → Bool
-  toldBallot n s v = toldBy (calls n) (recordFor s v)
+-- Node n's outbox told the ballot for slot s in one of its calls.
+abbrev pub toldBallot : (ℕ → Life) → ℕ → ℕ → Ballot → Bool
+toldBallot lives n s v = toldBy (lives n .calls) (recordFor s v)
 
-  -- THE PREMISE, as a host can check it: all other stake is strictly under one fifth; every honest node was started with this table under
-  -- its own number, and then called; a vote fed to one honest node in another's name is one that the other's outbox told.
+-- The words that node n's calls left count node m's ballot for slot s: it stands in m's cell of that slot.
+abbrev pub countedBallot : (ℕ → Life) → ℕ → ℕ → ℕ → Ballot → Bool
+countedBallot lives n m s v = has (cellAt (ledgerOf (leftBy (lives n))) s m) v
+
+-- The stake table, the genesis that each node was started with, which nodes are honest, and each node's life.
+module _ (stakes : List ℕ) (genesis : ℕ → ℕ) (honest : Test) (lives : ℕ → Life) where
+  -- All other stake is strictly under one fifth; every honest node was started with this table under its own number, the start was accepted,
+  -- and then it was called.
+  pub record CodeNodes : Type 0 where
+    pub few : FewOthers stakes honest
+    pub lived : (n : ℕ) → T (honest n) → Lived stakes n (genesis n) (lives n)
+
+  -- THE PREMISE: these nodes; and an honest node's words count another honest node's vote only where the other's outbox told it. A vote that
+  -- is stored stays, so the words at the end of a life count all that was ever counted in it.
   pub record CodeRing : Type 0 where
-    pub few : 5 * weight stakes (length stakes) (λ n. not (honest n)) < totalTo stakes (length stakes)
-    pub lived : (n : ℕ) → T (honest n) → Lived stakes n genesis (calls n)
-    pub mail : (n m s : ℕ) (v : Ballot) → T (honest n) → T (honest m) → ¬ (m ≡ n) → T (broughtBy (inputsOf (calls n)) s m v) → T (toldBallot m s v)
+    pub nodes : CodeNodes
+    pub counted : (n m s : ℕ) (v : Ballot) → T (honest n) → T (honest m) → ¬ (m ≡ n) → T (countedBallot lives n m s v) → T (toldBallot lives m s v)
 
-  -- A certificate counts an honest node's vote only if that node's outbox told it for that slot.
-  pub record GenuineTold (c : Certificate) : Type 0 where
-    pub signedA : (n : ℕ) → T (honest n) → T (bit (c .maska) n) → T (toldBallot n (c .slot) (ballotA (certificateKind (c .kind)) (c .block)))
-    pub signedB : (n : ℕ) → T (honest n) → T (not (withoutB (certificateKind (c .kind)))) → T (bit (c .maskb) n)
-        → T (toldBallot n (c .slot) (ballotB (certificateKind (c .kind)) (c .block)))
+  -- The same with the last part over what is fed, stored or refused: a vote fed to one honest node in another's name is one that the other's
+  -- outbox told.
+  pub record CodeFedRing : Type 0 where
+    pub nodes : CodeNodes
+    pub mail : (n m s : ℕ) (v : Ballot) → T (honest n) → T (honest m) → ¬ (m ≡ n) → T (broughtBy (inputsOf (lives n .calls)) s m v) → T (toldBallot lives m s v)
 
-  -- A packet is genuine when the certificate at its front is, and the one after it where there is one.
-  pub record PacketTold (packet : List ℕ) : Type 0 where
-    pub first : (c : Certificate) (next : ℕ) → certificateAt packet 0 ≡ found.Whole c next → GenuineTold c
-    pub second : (c d : Certificate) (next end : ℕ) → certificateAt packet 0 ≡ found.Whole c next → certificateAt packet next ≡ found.Whole d end → GenuineTold d
+  -- What the checker's code answers excludes every rival: `answer` and `other` are any answers that its contracts allow. Once a proof for a
+  -- block in a slot is accepted, no certificate that is accepted in that slot is of kind 4, or of kind 1, 2 or 3 for another block.
+  abbrev pub NoRival : Type 0
+  NoRival =
+      (proof packet : List ℕ) (answer other : CheckAnswer) (a d : Accepted)
+      → GenuinePacket honest (toldBallot lives) proof → GenuinePacket honest (toldBallot lives) packet
+      → answer ≡ checkProof stakes proof → other ≡ checkCertificate stakes packet
+      → answer ≡ check.Accepted a → other ≡ check.Accepted d → d .slot ≡ a .slot → Agrees (d .kind) (d .block) (a .block)
 
--- What the checker's code answers excludes every rival: `answer` and `other` are any answers that its contracts allow.
+  -- Two proofs that it accepts in one slot name one block, in whichever of the two forms each is.
+  abbrev pub OneBlock : Type 0
+  OneBlock =
+      (proof rival : List ℕ) (answer other : CheckAnswer) (a d : Accepted)
+      → GenuinePacket honest (toldBallot lives) proof → GenuinePacket honest (toldBallot lives) rival
+      → answer ≡ checkProof stakes proof → other ≡ checkProof stakes rival
+      → answer ≡ check.Accepted a → other ≡ check.Accepted d → d .slot ≡ a .slot → d .block ≡ a .block
+
+-- SAFETY of the code.
 abbrev pub CodeSafe : Type 0
 CodeSafe =
-    (stakes : List ℕ) (genesis : ℕ) (honest : Test) (calls : ℕ → List Call) → CodeRing stakes genesis honest calls
-    → (proof packet : List ℕ) (answer other : CheckAnswer) (a d : Accepted)
-    → PacketTold stakes genesis honest calls proof → PacketTold stakes genesis honest calls packet
-    → answer ≡ checkProof stakes proof → other ≡ checkCertificate stakes packet
-    → answer ≡ check.Accepted a → other ≡ check.Accepted d → d .slot ≡ a .slot → Agrees (d .kind) (d .block) (a .block)
+    (stakes : List ℕ) (genesis : ℕ → ℕ) (honest : Test) (lives : ℕ → Life) → CodeRing stakes genesis honest lives
+    → NoRival stakes genesis honest lives
 
--- What the writers' definitions give on the words that a node's calls left, at any moment, the checker accepts with the table of its start.
+-- ONE FINAL BLOCK a slot.
+abbrev pub CodeProofsAgree : Type 0
+CodeProofsAgree =
+    (stakes : List ℕ) (genesis : ℕ → ℕ) (honest : Test) (lives : ℕ → Life) → CodeRing stakes genesis honest lives
+    → OneBlock stakes genesis honest lives
+
+-- A host can check what is fed in place of what is counted: that is enough for the ring.
+abbrev pub CodeMailIsEnough : Type 0
+CodeMailIsEnough =
+    (stakes : List ℕ) (genesis : ℕ → ℕ) (honest : Test) (lives : ℕ → Life) → CodeFedRing stakes genesis honest lives → CodeRing stakes genesis honest lives
+
+-- So both promises hold where the host checks what is fed.
+abbrev pub CodeFedSafe : Type 0
+CodeFedSafe =
+    (stakes : List ℕ) (genesis : ℕ → ℕ) (honest : Test) (lives : ℕ → Life) → CodeFedRing stakes genesis honest lives
+    → NoRival stakes genesis honest lives × OneBlock stakes genesis honest lives
+
+-- Whatever bytes the certificate writer's contract lets stand at a buffer's front, on the words that a node's calls left, at any moment: every
+-- answer that the checker's contract allows to them, with the table of the node's start, accepts them as what was asked for. Blocks are
+-- 64-bit numbers. Nothing is asked of other nodes.
 abbrev pub CodeCertificateAccepted : Type 0
 CodeCertificateAccepted =
-    (stakes : List ℕ) (own genesis : ℕ) (calls : List Call) → (h : Lived stakes own genesis calls)
-    → (room : ℕ) (k : CertificateKind) (s b n : ℕ) → b < 2 ^ 64
-    → writeCertificate (ledgerOf (lastOf (h .words) calls)) room k s b .answer ≡ write.Written n
-    → AcceptedAs (checkCertificate stakes (writeCertificate (ledgerOf (lastOf (h .words) calls)) room k s b .bytes)) k s b
+    (stakes : List ℕ) (own genesis : ℕ) (life : Life) → Lived stakes own genesis life
+    → (buffer after : List ℕ) (k : CertificateKind) (s b n : ℕ) (written : WriteAnswer) (answer : CheckAnswer) → b < 2 ^ 64
+    → Writes (certificateOn (leftBy life) (length buffer) k s b) buffer written after → written ≡ write.Written n
+    → answer ≡ checkCertificate stakes (take n after) → AcceptedAs answer k s b
 
+-- Likewise the proof writer's.
 abbrev pub CodeProofAccepted : Type 0
 CodeProofAccepted =
-    (stakes : List ℕ) (own genesis : ℕ) (calls : List Call) → (h : Lived stakes own genesis calls)
-    → (room s b n : ℕ) → b < 2 ^ 64
-    → writeProof (ledgerOf (lastOf (h .words) calls)) room s b .answer ≡ write.Written n
-    → (k : CertificateKind) × AcceptedAs (checkProof stakes (writeProof (ledgerOf (lastOf (h .words) calls)) room s b .bytes)) k s b
+    (stakes : List ℕ) (own genesis : ℕ) (life : Life) → Lived stakes own genesis life
+    → (buffer after : List ℕ) (s b n : ℕ) (written : WriteAnswer) (answer : CheckAnswer) → b < 2 ^ 64
+    → Writes (proofOn (leftBy life) (length buffer) s b) buffer written after → written ≡ write.Written n
+    → answer ≡ checkProof stakes (take n after) → (k : CertificateKind) × AcceptedAs answer k s b
