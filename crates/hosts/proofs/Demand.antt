@@ -1,0 +1,247 @@
+-- Demand 3 on the promises of the C face, proved.
+use mathlib.Core.Path.{_≡_, refl, sym, ap, _∙_, subst}
+use mathlib.Core.Bool.{Bool, true, false}
+use mathlib.Core.List.{List, [], _∷_}
+use Prim.Native.Nat.{ℕ}
+use native.Mathlib.Omega.{arith}
+use lib.Dec.{T, eqb}
+use lib.ListN.{length, take}
+use borrow.Author.Tests.{eqb-true}
+use Rattle.rulebook.specs.declared.Accepted.{Accepted}
+use Rattle.rulebook.specs.declared.Input.{Input}
+use Rattle.rulebook.specs.declared.CertificateKind.{CertificateKind}
+use Rattle.rulebook.specs.declared.CertificateKind.the-variants as certificate
+use Rattle.rulebook.specs.declared.CheckAnswer.{CheckAnswer}
+use Rattle.rulebook.specs.declared.CheckAnswer.the-variants as check
+use Rattle.rulebook.specs.declared.Slot.{Slot}
+use Rattle.rulebook.specs.declared.Verdict.{Verdict}
+use Rattle.rulebook.specs.declared.Verdict.the-variants.{Fine, Refused}
+use Rattle.rulebook.specs.declared.WriteAnswer.{WriteAnswer}
+use Rattle.rulebook.specs.declared.WriteAnswer.the-variants as write
+use Rattle.rulebook.specs.PaperNumbers.{certificateNumber, certificateKind, writePanel, checkPanel}
+use Rattle.rulebook.specs.Tools.{choose}
+use Rattle.rulebook.specs.Ledger.{cellAt}
+use Rattle.rulebook.specs.Checker.{isOtherKind, checkCertificate, checkProof}
+use Rattle.rulebook.specs.Writers as writer
+use Rattle.rulebook.specs.Writers.{wroteOn, certificateVerdict, writeCertificate}
+use Rattle.rulebook.proofs.RuleLaws.{refuse-fine}
+use Rattle.rulebook.proofs.ToolLaws.{given-on}
+use Rattle.record.specs.Layout.{ledgerOf}
+use Rattle.soundness.specs.Sound.{soundWords}
+use Rattle.writers.specs.Writing.{unsound, certificateOn, proofOn, Writes}
+use Rattle.readback.proofs.Words.{certificate-sound}
+use Rattle.safety.specs.Slot.{Test, Ballot}
+use Rattle.safety.specs.Ballots.{has, recordFor}
+use Rattle.safety.specs.Ring.{broughtBy, GenuinePacket, Agrees}
+use Rattle.safety.specs.Promises.{AcceptedAs}
+use Rattle.safety.proofs.Packets.{packet-more}
+use Rattle.histories.specs.Calls.{Life, leftBy}
+use Rattle.histories.specs.Ring as code
+use Rattle.histories.proofs.Demand.{code-safe, code-proofs-agree, code-mail-is-enough, code-certificate-accepted, code-proof-accepted}
+use Rattle.quointrowel.specs.Face.{Beside, acceptedValues, Wrote, Checked}
+use Rattle.hosts.specs.Calls.{HostLife, HostLived, wordsLeft}
+use Rattle.hosts.specs.Ring.{toldBallot, countedBallot, HostRing, HostSafe, HostProofsAgree, HostMailIsEnough, HostFedSafe, NamedAs, HostCertificateAccepted, HostProofAccepted}
+use Rattle.hosts.proofs.Lives.{refusal-above, last-is, inputs-are, told-is, lifeOf, lived-is}
+
+-- ---- the ring
+
+module _ (stakes : List ℕ) (genesis : ℕ → ℕ) (honest : Test) (lives : ℕ → HostLife) (all : (n : ℕ) → T (honest n) → HostLived stakes n (genesis n) (lives n)) where
+  abbrev plain : ℕ → Life
+  plain n = lifeOf (lives n)
+
+  told-same : (n s : ℕ) (v : Ballot) → T (honest n) → code.toldBallot plain n s v ≡ toldBallot lives n s v
+  told-same n s v h = told-is (lives n .words) (lives n .calls) (all n h .steps) (recordFor s v)
+
+  counted-same : (n m s : ℕ) (v : Ballot) → code.countedBallot plain n m s v ≡ countedBallot lives n m s v
+  counted-same n m s v = ap (λ (ws : List ℕ). has (cellAt (ledgerOf ws) s m) v) (last-is (lives n .words) (lives n .calls))
+
+  -- A packet that is genuine by what the C calls told is genuine by what the calls of the step told.
+  genuine : (packet : List ℕ) → GenuinePacket honest (toldBallot lives) packet → GenuinePacket honest (code.toldBallot plain) packet
+  genuine = packet-more honest (toldBallot lives) (code.toldBallot plain) (λ n s v h. subst T (sym (told-same n s v h)))
+
+-- The C calls are a ring of the code.
+module _ (stakes : List ℕ) (genesis : ℕ → ℕ) (honest : Test) (lives : ℕ → HostLife) where
+  pub ring-of-hosts : HostRing stakes genesis honest lives → code.CodeRing stakes genesis honest (λ n. lifeOf (lives n))
+  ring-of-hosts ring =
+      let all = ring .nodes .lived in
+      record {
+        nodes = record { few = ring .nodes .few; lived = λ n h. lived-is stakes n (genesis n) (lives n) (all n h) };
+        counted = λ n m s v h k ne t.
+            subst T (sym (told-same stakes genesis honest lives all m s v k))
+            (ring .counted n m s v h k ne (subst T (counted-same stakes genesis honest lives all n m s v) t));
+      }
+
+pub host-mail-is-enough : HostMailIsEnough
+host-mail-is-enough stakes genesis honest lives ring =
+    let all = ring .nodes .lived in
+    let r = code-mail-is-enough stakes genesis honest (λ n. lifeOf (lives n))
+    (record {
+      nodes = record { few = ring .nodes .few; lived = λ n h. lived-is stakes n (genesis n) (lives n) (all n h) };
+      mail = λ n m s v h k ne t.
+          subst T (sym (told-same stakes genesis honest lives all m s v k))
+          (ring .mail n m s v h k ne (subst (λ (is : List Input). T (broughtBy is s m v)) (inputs-are (lives n .words) (lives n .calls)) t));
+    })
+    in
+    record {
+      nodes = ring .nodes;
+      counted = λ n m s v h k ne t.
+          subst T (told-same stakes genesis honest lives all m s v k)
+          (r .counted n m s v h k ne (subst T (sym (counted-same stakes genesis honest lives all n m s v)) t));
+    }
+
+-- ---- what is accepted
+
+-- A check that answers 0 accepts, with the values that are named.
+record Told (answer : CheckAnswer) (values : List ℕ) : Type 0 where
+  pub what : Accepted
+  pub accepts : answer ≡ check.Accepted what
+  pub values-are : values ≡ acceptedValues what
+
+zero-told : (answer : CheckAnswer) (values : List ℕ) → Checked answer 0 values → Told answer values
+unfolding checkPanel
+zero-told answer values c = go answer (c .numbered) (c .valued)
+  where
+    go : (a : CheckAnswer) → 0 ≡ checkPanel a .number → values ≡ checkPanel a .values → Told a values
+    go (check.Accepted x) e v = record { what = x; accepts = refl; values-are = v }
+    go (check.Refused r) e v = refusal-above r (sym e)
+
+-- A kind's number stands for it.
+kind-of-number : (k : CertificateKind) → certificateKind (certificateNumber k) ≡ k
+unfolding certificateKind certificateNumber choose
+kind-of-number certificate.FastFinal = refl
+kind-of-number certificate.Notar = refl
+kind-of-number certificate.NotarFallback = refl
+kind-of-number certificate.Skip = refl
+kind-of-number certificate.Final = refl
+kind-of-number certificate.Other = refl
+
+-- The slot, the block and the kind that five values name.
+module _ (kind slot block signers weight : ℕ) (a : Accepted) (e : kind ∷ slot ∷ block ∷ signers ∷ weight ∷ [] ≡ acceptedValues a) where
+  kind-named : certificateKind kind ≡ a .kind
+  kind-named = let q : kind ≡ certificateNumber (a .kind) = cc in ap certificateKind q ∙ kind-of-number (a .kind)
+
+  slot-named : slot ≡ a .slot .0
+  slot-named = cc
+
+  block-named : block ≡ a .block
+  block-named = cc
+
+same-slot : (x y : Slot) → x .0 ≡ y .0 → x ≡ y
+same-slot x y e = ap (λ (k : ℕ). record { 0 = k }) e
+
+pub host-safe : HostSafe
+host-safe stakes genesis honest lives ring proof packet kind slot block signers weight kind′ block′ signers′ weight′ g k x y =
+    let p = zero-told (checkProof stakes proof) (kind ∷ slot ∷ block ∷ signers ∷ weight ∷ []) x in
+    let q = zero-told (checkCertificate stakes packet) (kind′ ∷ slot ∷ block′ ∷ signers′ ∷ weight′ ∷ []) y in
+    let a = p .what in
+    let d = q .what in
+    let e : d .slot .0 ≡ a .slot .0 =
+    sym (slot-named kind′ slot block′ signers′ weight′ d (q .values-are)) ∙ slot-named kind slot block signers weight a (p .values-are) in
+    let all = ring .nodes .lived in
+    let s = code-safe stakes genesis honest (λ n. lifeOf (lives n)) (ring-of-hosts stakes genesis honest lives ring) proof packet (checkProof stakes proof) (checkCertificate stakes packet) a d
+    (genuine stakes genesis honest lives all proof g) (genuine stakes genesis honest lives all packet k) refl refl (p .accepts) (q .accepts) (same-slot (d .slot) (a .slot) e)
+    in
+    subst (λ (z : ℕ). Agrees (certificateKind kind′) block′ z) (sym (block-named kind slot block signers weight a (p .values-are)))
+    (subst (λ (z : ℕ). Agrees (certificateKind kind′) z (a .block)) (sym (block-named kind′ slot block′ signers′ weight′ d (q .values-are)))
+    (subst (λ (z : CertificateKind). Agrees z (d .block) (a .block)) (sym (kind-named kind′ slot block′ signers′ weight′ d (q .values-are))) s))
+
+pub host-proofs-agree : HostProofsAgree
+host-proofs-agree stakes genesis honest lives ring proof rival kind slot block signers weight kind′ block′ signers′ weight′ g k x y =
+    let p = zero-told (checkProof stakes proof) (kind ∷ slot ∷ block ∷ signers ∷ weight ∷ []) x in
+    let q = zero-told (checkProof stakes rival) (kind′ ∷ slot ∷ block′ ∷ signers′ ∷ weight′ ∷ []) y in
+    let a = p .what in
+    let d = q .what in
+    let e : d .slot .0 ≡ a .slot .0 =
+    sym (slot-named kind′ slot block′ signers′ weight′ d (q .values-are)) ∙ slot-named kind slot block signers weight a (p .values-are) in
+    let all = ring .nodes .lived in
+    let s = code-proofs-agree stakes genesis honest (λ n. lifeOf (lives n)) (ring-of-hosts stakes genesis honest lives ring) proof rival (checkProof stakes proof) (checkProof stakes rival) a d
+    (genuine stakes genesis honest lives all proof g) (genuine stakes genesis honest lives all rival k) refl refl (p .accepts) (q .accepts) (same-slot (d .slot) (a .slot) e)
+    in
+    block-named kind′ slot block′ signers′ weight′ d (q .values-are) ∙ s ∙ sym (block-named kind slot block signers weight a (p .values-are))
+
+pub host-fed-safe : HostFedSafe
+host-fed-safe stakes genesis honest lives ring =
+    let r = host-mail-is-enough stakes genesis honest lives ring in
+    (host-safe stakes genesis honest lives r, host-proofs-agree stakes genesis honest lives r)
+
+-- ---- what is written
+
+-- A writer that answers 0 wrote as many bytes as it counts.
+zero-written : (w : writer.Wrote) (buffer after : List ℕ) (count : ℕ) → Wrote w buffer 0 count after
+    → Writes w buffer (w .answer) after × (w .answer ≡ write.Written count)
+unfolding writePanel
+zero-written w buffer after count r = (record { answered = refl; bytes = r .bytes }, go (w .answer) (r .numbered) (r .counted))
+  where
+    go : (a : WriteAnswer) → 0 ≡ writePanel a .number → Beside count (writePanel a .values) → a ≡ write.Written count
+    go (write.Written n) e b = let q : n ≡ count = cc in ap write.Written q
+    go (write.Refused x) e b = refusal-above x (sym e)
+
+-- What a check answers where its answer accepts.
+named : (answer : CheckAnswer) (number : ℕ) (values : List ℕ) (k : CertificateKind) (slot block : ℕ) → Checked answer number values → AcceptedAs answer k slot block
+    → NamedAs number values (certificateNumber k) slot block
+unfolding checkPanel
+named answer number values k slot block c a =
+    let w = a .what in
+    let v : values ≡ acceptedValues w = c .valued ∙ ap (λ (x : CheckAnswer). checkPanel x .values) (a .accepted) in
+    record {
+      accepts = c .numbered ∙ ap (λ (x : CheckAnswer). checkPanel x .number) (a .accepted);
+      signers = w .signers;
+      weight = w .weight .0;
+      names = v ∙ (λ i. certificateNumber (a .kindIs i) ∷ a .slotIs i ∷ a .blockIs i ∷ w .signers ∷ w .weight .0 ∷ []);
+    }
+
+-- The words at the end of a life.
+left-is : (life : HostLife) → leftBy (lifeOf life) ≡ wordsLeft life
+left-is life = last-is (life .words) (life .calls)
+
+no-other : {X : Type 0} → true ≡ false → X
+no-other e = let z : _≡_ {A = ℕ} 0 1 = cc in absurd (omega arith)
+
+-- A writer that wrote found nothing to refuse.
+wrote-fine : (v : Verdict) (bytes : List ℕ) (n : ℕ) → wroteOn v bytes .answer ≡ write.Written n → v ≡ Fine
+unfolding wroteOn
+wrote-fine Fine bytes n e = refl
+wrote-fine (Refused r) bytes n e = let z : _≡_ {A = ℕ} 0 1 = cc in absurd (omega arith)
+
+-- A number that stands for a kind is that kind's number.
+pick : (n j : ℕ) (k rest : CertificateKind) → certificateNumber k ≡ j → (isOtherKind rest ≡ false → certificateNumber rest ≡ n)
+    → isOtherKind (choose (eqb n j) k rest) ≡ false → certificateNumber (choose (eqb n j) k rest) ≡ n
+unfolding choose
+pick n j k rest e f = go (eqb n j) refl
+  where
+    go : (t : Bool) → eqb n j ≡ t → isOtherKind (choose t k rest) ≡ false → certificateNumber (choose t k rest) ≡ n
+    go true q o = e ∙ sym (eqb-true n j q)
+    go false q o = f o
+
+number-of-kind : (n : ℕ) → isOtherKind (certificateKind n) ≡ false → certificateNumber (certificateKind n) ≡ n
+unfolding certificateKind certificateNumber isOtherKind
+number-of-kind n =
+    pick n 1 certificate.FastFinal _ refl
+    (pick n 2 certificate.Notar _ refl
+    (pick n 3 certificate.NotarFallback _ refl (pick n 4 certificate.Skip _ refl (pick n 5 certificate.Final certificate.Other refl no-other))))
+
+-- What is written is of a kind.
+kind-written : (ws : List ℕ) (room : ℕ) (k : CertificateKind) (s b n : ℕ) → certificateOn ws room k s b .answer ≡ write.Written n → isOtherKind k ≡ false
+unfolding certificateOn writeCertificate certificateVerdict
+kind-written ws room k s b n e =
+    let on = given-on (soundWords ws) unsound (λ _. writeCertificate (ledgerOf ws) room k s b) (certificate-sound ws room k s b n e) in
+    let v = wrote-fine (certificateVerdict (ledgerOf ws) room k s b) _ n (ap (λ (w : writer.Wrote). w .answer) (sym on) ∙ e) in
+    refuse-fine _ _ _ (refuse-fine _ _ _ v .1) .0
+
+pub host-certificate-accepted : HostCertificateAccepted
+host-certificate-accepted stakes own genesis life h buffer after values kind slot block written number small w c =
+    let k = certificateKind kind in
+    let ws = leftBy (lifeOf life) in
+    let on = certificateOn ws (length buffer) k slot block in
+    let z = zero-written on buffer after written (subst (λ (x : List ℕ). Wrote (certificateOn x (length buffer) k slot block) buffer 0 written after) (sym (left-is life)) w) in
+    let a = code-certificate-accepted stakes own genesis (lifeOf life) (lived-is stakes own genesis life h) buffer after k slot block written (on .answer) (checkCertificate stakes (take written after)) small (z .0) (z .1) refl in
+    subst (λ (x : ℕ). NamedAs number values x slot block) (number-of-kind kind (kind-written ws (length buffer) k slot block written (z .1)))
+    (named (checkCertificate stakes (take written after)) number values k slot block c a)
+
+pub host-proof-accepted : HostProofAccepted
+host-proof-accepted stakes own genesis life h buffer after values slot block written number small w c =
+    let ws = leftBy (lifeOf life) in
+    let on = proofOn ws (length buffer) slot block in
+    let z = zero-written on buffer after written (subst (λ (x : List ℕ). Wrote (proofOn x (length buffer) slot block) buffer 0 written after) (sym (left-is life)) w) in
+    let a = code-proof-accepted stakes own genesis (lifeOf life) (lived-is stakes own genesis life h) buffer after slot block written (on .answer) (checkProof stakes (take written after)) small (z .0) (z .1) refl in
+    (certificateNumber (a .0), named (checkProof stakes (take written after)) number values (a .0) slot block c (a .1))

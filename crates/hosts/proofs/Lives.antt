@@ -1,0 +1,147 @@
+-- A history of calls of the C functions is a life of a node: each call is a call of the public step, with the same words and the same records.
+use mathlib.Core.Path.{_≡_, refl, sym, ap, _∙_, subst}
+use mathlib.Core.Bool.{_||_}
+use mathlib.Core.List.{List, [], _∷_}
+use Prim.Native.Nat.{ℕ}
+use native.Mathlib.Omega.{arith}
+use lib.ListN.{length}
+use lib.Dec.{leb}
+use Rattle.rulebook.specs.declared.Input.{Input}
+use Rattle.rulebook.specs.declared.Refusal.{Refusal}
+use Rattle.rulebook.specs.declared.Refusal.the-variants as refusal
+use Rattle.rulebook.specs.declared.StartAnswer.{StartAnswer}
+use Rattle.rulebook.specs.declared.StartAnswer.the-variants as start
+use Rattle.rulebook.specs.declared.StepAnswer.{StepAnswer}
+use Rattle.rulebook.specs.declared.StepAnswer.the-variants.{Done, Refused}
+use Rattle.rulebook.specs.PaperNumbers.{refusalNumber, startPanel, stepPanel}
+use Rattle.rulebook.specs.Tools.{given}
+use Rattle.rulebook.specs.Rules.{Record}
+use Rattle.rulebook.specs.WellFormed.{outboxWords}
+use Rattle.soundness.specs.Starting.{StartOf, startJudged, startAnswer}
+use Rattle.node.specs.Stepping.{stepLeaves, StepOf}
+use Rattle.safety.specs.Ballots.{among}
+use Rattle.histories.specs.Calls as code
+use Rattle.histories.specs.Calls.{Call, Calls, Life, Lived, lastOf, inputsOf, firstRecords, toldIn, toldBy}
+use Rattle.quointrowel.specs.Face.{Beside, Started, Stepped}
+use Rattle.hosts.specs.Calls.{inputFor, HostCall, HostCalls, noMore, called, lastWords, inputsFed, toldOut, HostLife, HostLived, AsStep, SteppedIsStep, StartedIsStart}
+
+-- No refusal's number is 0.
+pub refusal-above : {X : Type 0} (r : Refusal) → refusalNumber r ≡ 0 → X
+unfolding refusalNumber
+refusal-above refusal.BadSizes e = absurd (omega (arith, e))
+refusal-above refusal.BadNode e = absurd (omega (arith, e))
+refusal-above refusal.BadSlot e = absurd (omega (arith, e))
+refusal-above refusal.BadKind e = absurd (omega (arith, e))
+refusal-above refusal.BadBlock e = absurd (omega (arith, e))
+refusal-above refusal.OwnName e = absurd (omega (arith, e))
+refusal-above refusal.AlreadyKept e = absurd (omega (arith, e))
+refusal-above refusal.OtherStands e = absurd (omega (arith, e))
+refusal-above refusal.NoRoom e = absurd (omega (arith, e))
+refusal-above refusal.NotArmed e = absurd (omega (arith, e))
+refusal-above refusal.BadParent e = absurd (omega (arith, e))
+refusal-above refusal.BadLength e = absurd (omega (arith, e))
+refusal-above refusal.BadNumber e = absurd (omega (arith, e))
+refusal-above refusal.BadSigners e = absurd (omega (arith, e))
+refusal-above refusal.TooLight e = absurd (omega (arith, e))
+refusal-above refusal.NotAProof e = absurd (omega (arith, e))
+refusal-above refusal.BadRecord e = absurd (omega (arith, e))
+refusal-above refusal.NotHeld e = absurd (omega (arith, e))
+
+-- ---- one call
+
+-- A number and a count that stand for an answer.
+module _ (number made : ℕ) where
+  done-made : (a : StepAnswer) → number ≡ stepPanel a .number → Beside made (stepPanel a .values) → number ≡ 0 → a ≡ Done made
+  unfolding stepPanel
+  done-made (Done n) e b z = let q : made ≡ n = cc in ap Done (sym q)
+  done-made (Refused r) e b z = refusal-above r (sym e ∙ z)
+
+  made-done : (a : StepAnswer) → number ≡ stepPanel a .number → Beside made (stepPanel a .values) → (n : ℕ) → a ≡ Done n → (number ≡ 0) × (made ≡ n)
+  unfolding stepPanel
+  made-done a e b n d =
+      let v : number ≡ 0 = e ∙ ap (λ (x : StepAnswer). stepPanel x .number) d in
+      let w : made ∷ [] ≡ n ∷ [] = b ∙ ap (λ (x : StepAnswer). stepPanel x .values) d in
+      let q : made ≡ n = cc in
+      (v, q)
+
+  made-told : (a : StepAnswer) (left : List ℕ) → Beside made (stepPanel a .values) → toldIn a left ≡ firstRecords made left
+  unfolding stepPanel toldIn firstRecords
+  made-told (Done n) left b = let q : made ≡ n = cc in ap (λ (k : ℕ). firstRecords k left) (sym q)
+  made-told (Refused r) left b = let q : 0 ≡ made = cc in ap (λ (k : ℕ). firstRecords k left) q
+
+pub stepped-is-step : SteppedIsStep
+stepped-is-step ws out i number made ws′ left s =
+    let a = stepLeaves ws out i .answer in
+    record {
+      answer = a;
+      step = record { answered = refl; words = s .words; outbox = s .outbox };
+      done = done-made number made a (s .numbered) (s .counted);
+      zero = made-done number made a (s .numbered) (s .counted);
+      told = made-told number made a left (s .counted);
+    }
+
+start-zero : (a : StartAnswer) (number : ℕ) → number ≡ startPanel a .number → number ≡ 0 → start.Started ≡ a
+unfolding startPanel
+start-zero start.Started number e z = refl
+start-zero (start.Refused r) number e z = refusal-above r (sym e ∙ z)
+
+pub started-is-start : StartedIsStart
+unfolding startPanel
+started-is-start ws stakes own genesis number left s = (
+  (λ z. record { answered = start-zero (startAnswer (startJudged ws stakes own genesis)) number (s .numbered) z; words = s .words }),
+  (λ t. s .numbered ∙ ap (λ (x : StartAnswer). startPanel x .number) (sym (t .answered))),
+)
+
+-- ---- many calls
+
+-- Each call as a call of the public step, on the words that it found.
+pub callOf : List ℕ → HostCall → Call
+callOf ws c =
+    record {
+      input = inputFor (c .asked);
+      lent = c .lent;
+      answer = stepLeaves ws (c .lent) (inputFor (c .asked)) .answer;
+      words = c .words;
+      left = c .left;
+    }
+
+pub callsOf : List ℕ → List HostCall → List Call
+callsOf ws [] = []
+callsOf ws (c ∷ cs) = callOf ws c ∷ callsOf (c .words) cs
+
+pub calls-meet : (ws : List ℕ) (cs : List HostCall) → HostCalls ws cs → Calls ws (callsOf ws cs)
+unfolding callsOf callOf stepped-is-step
+calls-meet ws [] noMore = code.noMore
+calls-meet ws (c ∷ cs) (called s k) =
+    code.called (stepped-is-step ws (c .lent) (inputFor (c .asked)) (c .number) (c .made) (c .words) (c .left) s .step) (calls-meet (c .words) cs k)
+
+-- The words afterwards, the inputs fed and the records told are those of the C calls.
+pub last-is : (ws : List ℕ) (cs : List HostCall) → lastOf ws (callsOf ws cs) ≡ lastWords ws cs
+unfolding callsOf callOf lastOf lastWords
+last-is ws [] = refl
+last-is ws (c ∷ cs) = last-is (c .words) cs
+
+pub inputs-are : (ws : List ℕ) (cs : List HostCall) → inputsOf (callsOf ws cs) ≡ inputsFed cs
+unfolding callsOf callOf inputsOf inputsFed
+inputs-are ws [] = refl
+inputs-are ws (c ∷ cs) =
+    ap (λ (is : List Input). given (leb outboxWords (length (c .lent))) is (λ _. inputFor (c .asked) ∷ is)) (inputs-are (c .words) cs)
+
+pub told-is : (ws : List ℕ) (cs : List HostCall) → HostCalls ws cs → (r : Record) → toldBy (callsOf ws cs) r ≡ toldOut cs r
+unfolding callsOf callOf toldBy toldOut stepped-is-step
+told-is ws [] noMore r = refl
+told-is ws (c ∷ cs) (called s k) r =
+    let t = stepped-is-step ws (c .lent) (inputFor (c .asked)) (c .number) (c .made) (c .words) (c .left) s .told in
+    λ i. among (t i) r || told-is (c .words) cs k r i
+
+-- ---- a life
+
+abbrev pub lifeOf : HostLife → Life
+lifeOf l = record { found = l .found; words = l .words; calls = callsOf (l .words) (l .calls) }
+
+pub lived-is : (stakes : List ℕ) (own genesis : ℕ) (l : HostLife) → HostLived stakes own genesis l → Lived stakes own genesis (lifeOf l)
+lived-is stakes own genesis l h =
+    record {
+      start = started-is-start (l .found) stakes own genesis 0 (l .words) (h .start) .0 refl;
+      steps = calls-meet (l .words) (l .calls) (h .steps);
+    }

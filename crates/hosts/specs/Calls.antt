@@ -1,0 +1,102 @@
+-- A node's life as a host in C sees it: qr_start, and calls of qr_vote, qr_block, qr_timeout and qr_look, each known by its contract alone.
+use mathlib.Core.Path.{_≡_}
+use mathlib.Core.Bool.{Bool, false, _||_}
+use mathlib.Core.List.{List, [], _∷_}
+use Prim.Native.Nat.{ℕ}
+use lib.ListN.{length}
+use lib.Dec.{leb}
+use Rattle.rulebook.specs.declared.Input.{Input}
+use Rattle.rulebook.specs.declared.Input.the-variants as input
+use Rattle.rulebook.specs.declared.StartAnswer.the-variants as start
+use Rattle.rulebook.specs.declared.StepAnswer.{StepAnswer}
+use Rattle.rulebook.specs.declared.StepAnswer.the-variants.{Done}
+use Rattle.rulebook.specs.Tools.{given}
+use Rattle.rulebook.specs.Rules.{Record}
+use Rattle.rulebook.specs.WellFormed.{outboxWords}
+use Rattle.soundness.specs.Starting.{StartOf}
+use Rattle.node.specs.Stepping.{StepOf}
+use Rattle.safety.specs.Ballots.{among}
+use Rattle.histories.specs.Calls.{firstRecords, toldIn}
+use Rattle.quointrowel.specs.Face.{Started, Stepped, voteInput, blockInput, timeoutInput}
+
+-- The function that was called, and the numbers that it was given.
+pub data Asked : Type 0 where
+  qr-vote : (kind node slot block : ℕ) → Asked
+  qr-block : (slot number parentslot parent : ℕ) → Asked
+  qr-timeout : (slot : ℕ) → Asked
+  qr-look : Asked
+
+-- The input that they stand for.
+abbrev pub inputFor : Asked → Input
+inputFor (qr-vote k n s b) = voteInput k n s b
+inputFor (qr-block s b ps p) = blockInput s b ps p
+inputFor (qr-timeout s) = timeoutInput s
+inputFor qr-look = input.Look
+
+-- One call: what was asked, the outbox that was lent, the number answered, what `made` holds afterwards, and the record's and the outbox's
+-- words afterwards.
+pub record HostCall : Type 0 where
+  pub asked : Asked
+  pub lent : List ℕ
+  pub number : ℕ
+  pub made : ℕ
+  pub words : List ℕ
+  pub left : List ℕ
+
+-- Calls one after the other, each as its function's contract has it on the words that the one before left.
+pub data HostCalls : List ℕ → List HostCall → Type 0 where
+  noMore : {ws : List ℕ} → HostCalls ws []
+  called : {ws : List ℕ} {c : HostCall} {cs : List HostCall}
+      → Stepped ws (c .lent) (inputFor (c .asked)) (c .number) (c .made) (c .words) (c .left)
+      → HostCalls (c .words) cs → HostCalls ws (c ∷ cs)
+
+-- The record's words after them.
+unfoldable pub lastWords : List ℕ → List HostCall → List ℕ
+lastWords ws [] = ws
+lastWords ws (c ∷ cs) = lastWords (c .words) cs
+
+-- The inputs that the node was fed: a call without room in its outbox feeds nothing.
+unfoldable pub inputsFed : List HostCall → List Input
+inputsFed [] = []
+inputsFed (c ∷ cs) = given (leb outboxWords (length (c .lent))) (inputsFed cs) (λ _. inputFor (c .asked) ∷ inputsFed cs)
+
+-- The record was told in one of the calls: it is among the outbox's first records, as many as `made` says.
+unfoldable pub toldOut : List HostCall → Record → Bool
+toldOut [] r = false
+toldOut (c ∷ cs) r = among (firstRecords (c .made) (c .left)) r || toldOut cs r
+
+-- A node's life: the words that qr_start found and those that it left, and the calls since.
+pub record HostLife : Type 0 where
+  pub found : List ℕ
+  pub words : List ℕ
+  pub calls : List HostCall
+
+-- The record's words at the end of it.
+abbrev pub wordsLeft : HostLife → List ℕ
+wordsLeft l = lastWords (l .words) (l .calls)
+
+-- qr_start was given this table and the node's own number and answered 0, and every call was as its contract has it.
+pub record HostLived (stakes : List ℕ) (own genesis : ℕ) (l : HostLife) : Type 0 where
+  pub start : Started (l .found) stakes own genesis 0 (l .words)
+  pub steps : HostCalls (l .words) (l .calls)
+
+-- ---- the C functions are the operations
+
+-- What a call of the C face says of the public step: the step's contract holds with an answer that is "done" exactly where the number is 0,
+-- and then with as many records as `made` says; and what it tells is what stands in the outbox's front, as many records as `made` says.
+pub record AsStep (ws out : List ℕ) (i : Input) (number made : ℕ) (ws′ left : List ℕ) : Type 0 where
+  pub answer : StepAnswer
+  pub step : StepOf ws out i answer ws′ left
+  pub done : number ≡ 0 → answer ≡ Done made
+  pub zero : (n : ℕ) → answer ≡ Done n → (number ≡ 0) × (made ≡ n)
+  pub told : toldIn answer left ≡ firstRecords made left
+
+abbrev pub SteppedIsStep : Type 0
+SteppedIsStep =
+    (ws out : List ℕ) (i : Input) (number made : ℕ) (ws′ left : List ℕ) → Stepped ws out i number made ws′ left → AsStep ws out i number made ws′ left
+
+-- A start of the C face is answered 0 exactly where the start is accepted, with the same words.
+abbrev pub StartedIsStart : Type 0
+StartedIsStart =
+    (ws stakes : List ℕ) (own genesis number : ℕ) (left : List ℕ) → Started ws stakes own genesis number left
+    → (number ≡ 0 → StartOf ws stakes own genesis start.Started left) × (StartOf ws stakes own genesis start.Started left → number ≡ 0)

@@ -1,0 +1,112 @@
+-- Demand 3 as a host in C meets it: honest nodes are those whose calls meet the contracts of the C face; a vote was cast where an outbox told
+-- it, as many records as `made` says; a packet is accepted where the check answers 0.
+use mathlib.Core.Path.{_≡_}
+use mathlib.Core.Bool.{Bool}
+use mathlib.Core.List.{List, [], _∷_}
+use Prim.Native.Nat.{ℕ, _<_, _^_}
+use lib.Dec.{T}
+use lib.ListN.{length, take}
+use Rattle.rulebook.specs.PaperNumbers.{certificateKind}
+use Rattle.rulebook.specs.Ledger.{cellAt}
+use Rattle.rulebook.specs.Checker.{checkCertificate, checkProof}
+use Rattle.record.specs.Layout.{ledgerOf}
+use Rattle.writers.specs.Writing.{certificateOn, proofOn}
+use Rattle.safety.specs.Slot.{Test, Ballot}
+use Rattle.safety.specs.Ballots.{has, recordFor}
+use Rattle.safety.specs.Ring.{broughtBy, FewOthers, GenuinePacket, Agrees}
+use Rattle.quointrowel.specs.Face.{Wrote, Checked}
+use Rattle.hosts.specs.Calls.{HostLife, HostLived, wordsLeft, inputsFed, toldOut}
+
+-- Node n's outbox told the ballot for slot s in one of its calls.
+abbrev pub toldBallot : (ℕ → HostLife) → ℕ → ℕ → Ballot → Bool
+toldBallot lives n s v = toldOut (lives n .calls) (recordFor s v)
+
+-- The words that node n's calls left count node m's ballot for slot s: it stands in m's cell of that slot.
+abbrev pub countedBallot : (ℕ → HostLife) → ℕ → ℕ → ℕ → Ballot → Bool
+countedBallot lives n m s v = has (cellAt (ledgerOf (wordsLeft (lives n))) s m) v
+
+-- The stake table, the genesis that each node was started with, which nodes are honest, and each node's life.
+module _ (stakes : List ℕ) (genesis : ℕ → ℕ) (honest : Test) (lives : ℕ → HostLife) where
+  -- All other stake is strictly under one fifth; every honest node was started with this table under its own number, qr_start answered 0, and
+  -- then it was called.
+  pub record HostNodes : Type 0 where
+    pub few : FewOthers stakes honest
+    pub lived : (n : ℕ) → T (honest n) → HostLived stakes n (genesis n) (lives n)
+
+  -- THE PREMISE: these nodes; and an honest node's words count another honest node's vote only where the other's outbox told it.
+  pub record HostRing : Type 0 where
+    pub nodes : HostNodes
+    pub counted : (n m s : ℕ) (v : Ballot) → T (honest n) → T (honest m) → ¬ (m ≡ n) → T (countedBallot lives n m s v) → T (toldBallot lives m s v)
+
+  -- The same with the last part over what is fed: a vote given to qr_vote at one honest node in another's name is one that the other's outbox
+  -- told.
+  pub record HostFedRing : Type 0 where
+    pub nodes : HostNodes
+    pub mail : (n m s : ℕ) (v : Ballot) → T (honest n) → T (honest m) → ¬ (m ≡ n) → T (broughtBy (inputsFed (lives n .calls)) s m v) → T (toldBallot lives m s v)
+
+  -- Where qr_check_proof answers 0 and names a slot and a block, no packet to which qr_check_certificate answers 0 for that slot is of kind 4, or
+  -- of kind 1, 2 or 3 for another block.
+  abbrev pub NoRival : Type 0
+  NoRival =
+      (proof packet : List ℕ) (kind slot block signers weight kind′ block′ signers′ weight′ : ℕ)
+      → GenuinePacket honest (toldBallot lives) proof → GenuinePacket honest (toldBallot lives) packet
+      → Checked (checkProof stakes proof) 0 (kind ∷ slot ∷ block ∷ signers ∷ weight ∷ [])
+      → Checked (checkCertificate stakes packet) 0 (kind′ ∷ slot ∷ block′ ∷ signers′ ∷ weight′ ∷ [])
+      → Agrees (certificateKind kind′) block′ block
+
+  -- Where qr_check_proof answers 0 to two packets for one slot, it names one block.
+  abbrev pub OneBlock : Type 0
+  OneBlock =
+      (proof rival : List ℕ) (kind slot block signers weight kind′ block′ signers′ weight′ : ℕ)
+      → GenuinePacket honest (toldBallot lives) proof → GenuinePacket honest (toldBallot lives) rival
+      → Checked (checkProof stakes proof) 0 (kind ∷ slot ∷ block ∷ signers ∷ weight ∷ [])
+      → Checked (checkProof stakes rival) 0 (kind′ ∷ slot ∷ block′ ∷ signers′ ∷ weight′ ∷ [])
+      → block′ ≡ block
+
+-- SAFETY over the C face.
+abbrev pub HostSafe : Type 0
+HostSafe =
+    (stakes : List ℕ) (genesis : ℕ → ℕ) (honest : Test) (lives : ℕ → HostLife) → HostRing stakes genesis honest lives
+    → NoRival stakes genesis honest lives
+
+-- ONE FINAL BLOCK a slot.
+abbrev pub HostProofsAgree : Type 0
+HostProofsAgree =
+    (stakes : List ℕ) (genesis : ℕ → ℕ) (honest : Test) (lives : ℕ → HostLife) → HostRing stakes genesis honest lives
+    → OneBlock stakes genesis honest lives
+
+-- A host can check what is fed in place of what is counted: that is enough for the ring.
+abbrev pub HostMailIsEnough : Type 0
+HostMailIsEnough =
+    (stakes : List ℕ) (genesis : ℕ → ℕ) (honest : Test) (lives : ℕ → HostLife) → HostFedRing stakes genesis honest lives
+    → HostRing stakes genesis honest lives
+
+-- So both promises hold where the host checks what is fed.
+abbrev pub HostFedSafe : Type 0
+HostFedSafe =
+    (stakes : List ℕ) (genesis : ℕ → ℕ) (honest : Test) (lives : ℕ → HostLife) → HostFedRing stakes genesis honest lives
+    → NoRival stakes genesis honest lives × OneBlock stakes genesis honest lives
+
+-- A check's answer accepts, and names this kind, slot and block.
+pub record NamedAs (number : ℕ) (values : List ℕ) (kind slot block : ℕ) : Type 0 where
+  pub accepts : number ≡ 0
+  pub signers : ℕ
+  pub weight : ℕ
+  pub names : values ≡ kind ∷ slot ∷ block ∷ signers ∷ weight ∷ []
+
+-- What qr_write_certificate, answering 0, wrote to the buffer's front on the words that a node's calls left, at any moment, qr_check_certificate
+-- accepts with the table of the node's start, and names the kind, slot and block that were asked for. Blocks are 64-bit numbers.
+abbrev pub HostCertificateAccepted : Type 0
+HostCertificateAccepted =
+    (stakes : List ℕ) (own genesis : ℕ) (life : HostLife) → HostLived stakes own genesis life
+    → (buffer after values : List ℕ) (kind slot block written number : ℕ) → block < 2 ^ 64
+    → Wrote (certificateOn (wordsLeft life) (length buffer) (certificateKind kind) slot block) buffer 0 written after
+    → Checked (checkCertificate stakes (take written after)) number values → NamedAs number values kind slot block
+
+-- Likewise qr_write_proof and qr_check_proof.
+abbrev pub HostProofAccepted : Type 0
+HostProofAccepted =
+    (stakes : List ℕ) (own genesis : ℕ) (life : HostLife) → HostLived stakes own genesis life
+    → (buffer after values : List ℕ) (slot block written number : ℕ) → block < 2 ^ 64
+    → Wrote (proofOn (wordsLeft life) (length buffer) slot block) buffer 0 written after
+    → Checked (checkProof stakes (take written after)) number values → (kind : ℕ) × NamedAs number values kind slot block
