@@ -1,3 +1,4 @@
 -- Histories of calls are the lives of the safety theorem.
 pub mod Lives
 pub mod Demand
+pub mod Meeting

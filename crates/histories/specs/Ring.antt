@@ -9,6 +9,7 @@ use Rattle.rulebook.specs.declared.Accepted.{Accepted}
 use Rattle.rulebook.specs.declared.CertificateKind.{CertificateKind}
 use Rattle.rulebook.specs.declared.CheckAnswer.{CheckAnswer}
 use Rattle.rulebook.specs.declared.CheckAnswer.the-variants as check
+use Rattle.rulebook.specs.declared.Input.{Input}
 use Rattle.rulebook.specs.declared.WriteAnswer.{WriteAnswer}
 use Rattle.rulebook.specs.declared.WriteAnswer.the-variants as write
 use Rattle.rulebook.specs.Ledger.{cellAt}
@@ -17,7 +18,7 @@ use Rattle.record.specs.Layout.{ledgerOf}
 use Rattle.writers.specs.Writing.{certificateOn, proofOn, Writes}
 use Rattle.safety.specs.Slot.{Test, Ballot}
 use Rattle.safety.specs.Ballots.{has, recordFor}
-use Rattle.safety.specs.Ring.{broughtBy, FewOthers, GenuinePacket, Agrees}
+use Rattle.safety.specs.Ring.{broughtBy, FewOthers, Ring, GenuinePacket, Agrees}
 use Rattle.safety.specs.Promises.{AcceptedAs}
 use Rattle.histories.specs.Calls.{Life, Lived, leftBy, inputsOf, toldBy}
 
@@ -88,6 +89,12 @@ abbrev pub CodeFedSafe : Type 0
 CodeFedSafe =
     (stakes : List ℕ) (genesis : ℕ → ℕ) (honest : Test) (lives : ℕ → Life) → CodeFedRing stakes genesis honest lives
     → NoRival stakes genesis honest lives × OneBlock stakes genesis honest lives
+
+-- The premise can be met: what honest nodes are fed in a ring of the safety theorem can be fed to them by calls, and these are a ring too.
+abbrev pub CodeRingMet : Type 0
+CodeRingMet =
+    (stakes : List ℕ) (genesis : ℕ → ℕ) (honest : Test) (fed : ℕ → List Input) → Ring stakes genesis honest fed
+    → (lives : ℕ → Life) × CodeRing stakes genesis honest lives × ((n : ℕ) → inputsOf (lives n .calls) ≡ fed n)
 
 -- Whatever bytes the certificate writer's contract lets stand at a buffer's front, on the words that a node's calls left, at any moment: every
 -- answer that the checker's contract allows to them, with the table of the node's start, accepts them as what was asked for. Blocks are

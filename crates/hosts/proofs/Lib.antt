@@ -1,3 +1,4 @@
 -- Histories of calls of the C functions are lives of nodes, and demand 3 holds of them.
 pub mod Lives
 pub mod Demand
+pub mod Meeting

@@ -6,6 +6,7 @@ use mathlib.Core.List.{List, [], _∷_}
 use Prim.Native.Nat.{ℕ, _<_, _^_}
 use lib.Dec.{T}
 use lib.ListN.{length, take}
+use Rattle.rulebook.specs.declared.Input.{Input}
 use Rattle.rulebook.specs.PaperNumbers.{certificateKind}
 use Rattle.rulebook.specs.Ledger.{cellAt}
 use Rattle.rulebook.specs.Checker.{checkCertificate, checkProof}
@@ -13,7 +14,7 @@ use Rattle.record.specs.Layout.{ledgerOf}
 use Rattle.writers.specs.Writing.{certificateOn, proofOn}
 use Rattle.safety.specs.Slot.{Test, Ballot}
 use Rattle.safety.specs.Ballots.{has, recordFor}
-use Rattle.safety.specs.Ring.{broughtBy, FewOthers, GenuinePacket, Agrees}
+use Rattle.safety.specs.Ring.{broughtBy, FewOthers, Ring, GenuinePacket, Agrees}
 use Rattle.quointrowel.specs.Face.{Wrote, Checked}
 use Rattle.hosts.specs.Calls.{HostLife, HostLived, wordsLeft, inputsFed, toldOut}
 
@@ -86,6 +87,13 @@ abbrev pub HostFedSafe : Type 0
 HostFedSafe =
     (stakes : List ℕ) (genesis : ℕ → ℕ) (honest : Test) (lives : ℕ → HostLife) → HostFedRing stakes genesis honest lives
     → NoRival stakes genesis honest lives × OneBlock stakes genesis honest lives
+
+-- The premise can be met: what honest nodes are fed in a ring of the safety theorem can be fed to them by calls of the C functions, and these
+-- are a ring too.
+abbrev pub HostRingMet : Type 0
+HostRingMet =
+    (stakes : List ℕ) (genesis : ℕ → ℕ) (honest : Test) (fed : ℕ → List Input) → Ring stakes genesis honest fed
+    → (lives : ℕ → HostLife) × HostRing stakes genesis honest lives × ((n : ℕ) → inputsFed (lives n .calls) ≡ fed n)
 
 -- A check's answer accepts, and names this kind, slot and block.
 pub record NamedAs (number : ℕ) (values : List ℕ) (kind slot block : ℕ) : Type 0 where
