@@ -39,7 +39,7 @@ module _ (stakes : List ℕ) (genesis : ℕ → ℕ) (honest : Test) (lives : �
   told-cast : (n s : ℕ) (v : Ballot) → T (honest n) → T (toldBallot lives n s v) → T (castBy stakes genesis honest fed n s v)
   told-cast n s v h t = subst T (lived stakes n (genesis n) (lives n) (all n h) .told (recordFor s v)) t
 
-  cast-told : (n s : ℕ) (v : Ballot) → T (honest n) → T (castBy stakes genesis honest fed n s v) → T (toldBallot lives n s v)
+  pub cast-told : (n s : ℕ) (v : Ballot) → T (honest n) → T (castBy stakes genesis honest fed n s v) → T (toldBallot lives n s v)
   cast-told n s v h t = subst T (sym (lived stakes n (genesis n) (lives n) (all n h) .told (recordFor s v))) t
 
   -- The ledger that its words mean is the one after what it was fed.
@@ -99,7 +99,7 @@ code-fed-safe stakes genesis honest lives ring =
 -- ---- what is written
 
 -- The first bytes of the buffer, as many as were written.
-front : {w : Wrote} {buffer after : List ℕ} {a : WriteAnswer} (n : ℕ) → Writes w buffer a after → n ≡ length (w .bytes) → take n after ≡ w .bytes
+pub front : {w : Wrote} {buffer after : List ℕ} {a : WriteAnswer} (n : ℕ) → Writes w buffer a after → n ≡ length (w .bytes) → take n after ≡ w .bytes
 front {w} {buffer} {after} n x e =
     let z : n - 0 ≡ n = omega arith in subst (λ (m : ℕ). take m after ≡ w .bytes) z (packet-is (w .bytes) buffer after n (x .bytes) e)
 
@@ -108,13 +108,13 @@ module _ (stakes : List ℕ) (own genesis : ℕ) (life : Life) (h : Lived stakes
   abbrev now : Ledger
   now = afterAll (fresh stakes own genesis) (inputsOf (life .calls))
 
-  certificate-on : (room : ℕ) (k : CertificateKind) (s b : ℕ) → certificateOn (leftBy life) room k s b ≡ writeCertificate now room k s b
+  pub certificate-on : (room : ℕ) (k : CertificateKind) (s b : ℕ) → certificateOn (leftBy life) room k s b ≡ writeCertificate now room k s b
   unfolding certificateOn
   certificate-on room k s b =
       given-on (soundWords (leftBy life)) unsound (λ _. writeCertificate (ledgerOf (leftBy life)) room k s b) (lived stakes own genesis life h .sound)
       ∙ ap (λ (l : Ledger). writeCertificate l room k s b) (lived stakes own genesis life h .ledger)
 
-  proof-on : (room s b : ℕ) → proofOn (leftBy life) room s b ≡ writeProof now room s b
+  pub proof-on : (room s b : ℕ) → proofOn (leftBy life) room s b ≡ writeProof now room s b
   unfolding proofOn
   proof-on room s b =
       given-on (soundWords (leftBy life)) unsound (λ _. writeProof (ledgerOf (leftBy life)) room s b) (lived stakes own genesis life h .sound)

@@ -1,7 +1,7 @@
 -- The ring over the code: honest nodes are those whose calls meet the contracts; a vote was cast where an outbox told it.
 use mathlib.Core.Path.{_≡_}
 use mathlib.Core.Bool.{Bool}
-use mathlib.Core.List.{List}
+use mathlib.Core.List.{List, _++_}
 use Prim.Native.Nat.{ℕ, _<_, _^_}
 use lib.Dec.{T}
 use lib.ListN.{length, take}
@@ -20,7 +20,7 @@ use Rattle.safety.specs.Slot.{Test, Ballot}
 use Rattle.safety.specs.Ballots.{has, recordFor}
 use Rattle.safety.specs.Ring.{broughtBy, FewOthers, Ring, GenuinePacket, Agrees}
 use Rattle.safety.specs.Promises.{AcceptedAs}
-use Rattle.histories.specs.Calls.{Life, Lived, leftBy, inputsOf, toldBy}
+use Rattle.histories.specs.Calls.{Call, Life, Lived, leftBy, inputsOf, toldBy}
 
 -- Node n's outbox told the ballot for slot s in one of its calls.
 abbrev pub toldBallot : (ℕ → Life) → ℕ → ℕ → Ballot → Bool
@@ -113,3 +113,31 @@ CodeProofAccepted =
     → (buffer after : List ℕ) (s b n : ℕ) (written : WriteAnswer) (answer : CheckAnswer) → b < 2 ^ 64
     → Writes (proofOn (leftBy life) (length buffer) s b) buffer written after → written ≡ write.Written n
     → answer ≡ checkProof stakes (take n after) → (k : CertificateKind) × AcceptedAs answer k s b
+
+-- ---- what honest nodes write is genuine, so that the promises hold of it with no premise on packets
+
+-- A life up to one of its moments: some of its calls are still to come.
+abbrev pub upTo : Life → List Call → Life
+upTo l before = record { found = l .found; words = l .words; calls = before }
+
+module _ (stakes : List ℕ) (genesis : ℕ → ℕ) (honest : Test) (lives : ℕ → Life) where
+  -- Whatever the proof writer's contract lets stand at a buffer's front, at any moment of an honest node's life, is genuine.
+  abbrev pub ProofGenuine : Type 0
+  ProofGenuine =
+      (n : ℕ) → T (honest n) → (before later : List Call) → lives n .calls ≡ before ++ later
+      → (buffer after : List ℕ) (s b size : ℕ) (written : WriteAnswer) → b < 2 ^ 64
+      → Writes (proofOn (leftBy (upTo (lives n) before)) (length buffer) s b) buffer written after → written ≡ write.Written size
+      → GenuinePacket honest (toldBallot lives) (take size after)
+
+  -- Likewise the certificate writer's.
+  abbrev pub CertificateGenuine : Type 0
+  CertificateGenuine =
+      (n : ℕ) → T (honest n) → (before later : List Call) → lives n .calls ≡ before ++ later
+      → (buffer after : List ℕ) (k : CertificateKind) (s b size : ℕ) (written : WriteAnswer) → b < 2 ^ 64
+      → Writes (certificateOn (leftBy (upTo (lives n) before)) (length buffer) k s b) buffer written after → written ≡ write.Written size
+      → GenuinePacket honest (toldBallot lives) (take size after)
+
+abbrev pub CodeWrittenGenuine : Type 0
+CodeWrittenGenuine =
+    (stakes : List ℕ) (genesis : ℕ → ℕ) (honest : Test) (lives : ℕ → Life) → CodeRing stakes genesis honest lives
+    → CertificateGenuine stakes genesis honest lives × ProofGenuine stakes genesis honest lives
