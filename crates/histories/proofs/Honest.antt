@@ -2,21 +2,18 @@
 use mathlib.Core.Path.{_≡_, refl, sym, ap, _∙_, subst}
 use mathlib.Core.List.{List, [], _∷_, _++_}
 use Prim.Native.Nat.{ℕ}
-use lib.Dec.{T, leb}
-use lib.ListN.{length, take}
+use lib.Dec.{leb}
+use lib.ListN.{length}
 use Rattle.rulebook.specs.declared.Input.{Input}
-use Rattle.rulebook.specs.Tools.{given}
-use Rattle.rulebook.specs.Ledger.{fresh}
 use Rattle.rulebook.specs.WellFormed.{outboxWords}
-use Rattle.rulebook.specs.Writers.{Wrote, writeCertificate, writeProof}
+use Rattle.rulebook.specs.Writers.{Wrote}
 use Rattle.rulebook.proofs.ToolLaws.{by-test, given-on, given-off}
 use Rattle.readback.proofs.Words.{certificate-length, proof-length}
-use Rattle.safety.specs.Slot.{Test, Ballot}
-use Rattle.safety.specs.Ring.{afterAll, castBy, GenuinePacket}
+use Rattle.safety.specs.Ring.{castBy, GenuinePacket}
 use Rattle.safety.proofs.Packets.{packet-more}
 use Rattle.safety.proofs.Honest.{written-certificate-genuine, written-proof-genuine}
 use Rattle.histories.specs.Calls.{Call, Calls, noMore, called, inputsOf, Life, Lived, leftBy}
-use Rattle.histories.specs.Ring.{toldBallot, CodeRing, upTo, CodeWrittenGenuine}
+use Rattle.histories.specs.Ring.{toldBallot, upTo, CodeWrittenGenuine}
 use Rattle.histories.proofs.Demand.{cast-told, ring-of-calls, front, certificate-on, proof-on}
 
 -- ---- a life up to one of its moments is a life
@@ -49,20 +46,19 @@ code-written-genuine stakes genesis honest lives ring =
     let all = ring .nodes .lived in
     let told : (packet : List ℕ) → GenuinePacket honest (castBy stakes genesis honest fed) packet → GenuinePacket honest (toldBallot lives) packet =
     packet-more honest (castBy stakes genesis honest fed) (toldBallot lives) (cast-told stakes genesis honest lives all)
-    in
-    (
+    in (
       (λ n h before later e buffer after k s b size written small w x.
-      let on = certificate-on stakes n (genesis n) (upTo (lives n) before) (lived-before stakes n (genesis n) (lives n) (all n h) before later e) (length buffer) k s b in
-      let f = sym (w .answered) ∙ x in
-      subst (GenuinePacket honest (toldBallot lives))
-      (sym (front size w (certificate-length (leftBy (upTo (lives n) before)) (length buffer) k s b size f) ∙ ap (λ (y : Wrote). y .bytes) on))
-      (told _ (written-certificate-genuine stakes genesis honest fed r n h (inputsOf before) (inputsOf later) (ap inputsOf e ∙ inputs-split before later) (length buffer) k s b size small
-      (ap (λ (y : Wrote). y .answer) (sym on) ∙ f)))),
+          let on = certificate-on stakes n (genesis n) (upTo (lives n) before) (lived-before stakes n (genesis n) (lives n) (all n h) before later e) (length buffer) k s b in
+          let f = sym (w .answered) ∙ x in
+          subst (GenuinePacket honest (toldBallot lives))
+          (sym (front size w (certificate-length (leftBy (upTo (lives n) before)) (length buffer) k s b size f) ∙ ap (λ (y : Wrote). y .bytes) on))
+          (told _ (written-certificate-genuine stakes genesis honest fed r n h (inputsOf before) (inputsOf later) (ap inputsOf e ∙ inputs-split before later) (length buffer) k s b size small
+          (ap (λ (y : Wrote). y .answer) (sym on) ∙ f)))),
       (λ n h before later e buffer after s b size written small w x.
-      let on = proof-on stakes n (genesis n) (upTo (lives n) before) (lived-before stakes n (genesis n) (lives n) (all n h) before later e) (length buffer) s b in
-      let f = sym (w .answered) ∙ x in
-      subst (GenuinePacket honest (toldBallot lives))
-      (sym (front size w (proof-length (leftBy (upTo (lives n) before)) (length buffer) s b size f) ∙ ap (λ (y : Wrote). y .bytes) on))
-      (told _ (written-proof-genuine stakes genesis honest fed r n h (inputsOf before) (inputsOf later) (ap inputsOf e ∙ inputs-split before later) (length buffer) s b size small
-      (ap (λ (y : Wrote). y .answer) (sym on) ∙ f)))),
+          let on = proof-on stakes n (genesis n) (upTo (lives n) before) (lived-before stakes n (genesis n) (lives n) (all n h) before later e) (length buffer) s b in
+          let f = sym (w .answered) ∙ x in
+          subst (GenuinePacket honest (toldBallot lives))
+          (sym (front size w (proof-length (leftBy (upTo (lives n) before)) (length buffer) s b size f) ∙ ap (λ (y : Wrote). y .bytes) on))
+          (told _ (written-proof-genuine stakes genesis honest fed r n h (inputsOf before) (inputsOf later) (ap inputsOf e ∙ inputs-split before later) (length buffer) s b size small
+          (ap (λ (y : Wrote). y .answer) (sym on) ∙ f)))),
     )

@@ -1,22 +1,17 @@
 -- A history of calls of the public step from a fresh start is a life of the safety theorem: the same ledger, the same records.
 use mathlib.Core.Path.{_≡_, refl, sym, ap, _∙_}
-use mathlib.Core.Bool.{Bool, true, false, not, _||_}
+use mathlib.Core.Bool.{true, not, _||_}
 use mathlib.Core.List.{List, [], _∷_, _++_}
-use Prim.Native.Nat.{ℕ, zero, suc, _*_, _≤_, _<_}
+use Prim.Native.Nat.{ℕ, _*_, _≤_, _<_}
 use native.Mathlib.Omega.{arith}
 use lib.ListN.{length, drop, length-reverse}
 use lib.Dec.{eqb, leb}
 use borrow.Author.Tests.{eq-eqb, leb-true, leb-false, le-leb, lt-leb}
 use Rattle.rulebook.specs.declared.Input.{Input}
-use Rattle.rulebook.specs.declared.Refusal.{Refusal}
 use Rattle.rulebook.specs.declared.Refusal.the-variants as refusal
 use Rattle.rulebook.specs.declared.StartAnswer.the-variants as start
-use Rattle.rulebook.specs.declared.StepAnswer.{StepAnswer}
-use Rattle.rulebook.specs.declared.StepAnswer.the-variants.{Done}
-use Rattle.rulebook.specs.declared.StepAnswer.the-variants as step-answer
 use Rattle.rulebook.specs.declared.Verdict.{Verdict}
 use Rattle.rulebook.specs.declared.Verdict.the-variants.{Fine, Refused}
-use Rattle.rulebook.specs.Tools.{given}
 use Rattle.rulebook.specs.Ledger.{Ledger, fresh}
 use Rattle.rulebook.specs.Rules.{Record, State}
 use Rattle.rulebook.specs.Run.{run}
@@ -31,10 +26,10 @@ use Rattle.settling.proofs.Start.{fresh-sound}
 use Rattle.record.specs.Layout.{recordWords, ledgerOf}
 use Rattle.record.specs.Spelling.{wordsOf}
 use Rattle.soundness.specs.Sound.{soundWords}
-use Rattle.soundness.specs.Starting.{StartOf, startJudged, startAnswer, startLeft}
+use Rattle.soundness.specs.Starting.{startJudged, startAnswer, startLeft}
 use Rattle.soundness.proofs.Laws.{sound-long, sound-formed, sound-ledger}
-use Rattle.soundness.proofs.InStep.{sound-spelled, spelled-sound, spelled-back}
-use Rattle.node.specs.Stepping.{spelled, asFed, asFound, Leaves, stepLeaves, StepOf}
+use Rattle.soundness.proofs.InStep.{spelled-sound, spelled-back}
+use Rattle.node.specs.Stepping.{spelled, asFed, Leaves, stepLeaves, StepOf}
 use Rattle.safety.specs.Ballots.{among}
 use Rattle.safety.specs.Ring.{afterAll, madeIn}
 use Rattle.histories.specs.Calls.{Call, Calls, noMore, called, lastOf, inputsOf, firstRecords, toldIn, toldBy, Life, Lived}

@@ -10,23 +10,20 @@ use borrow.Author.Tests.{eq-eqb, le-leb}
 use Rattle.rulebook.specs.declared.Input.{Input}
 use Rattle.rulebook.specs.declared.Refusal.{Refusal}
 use Rattle.rulebook.specs.declared.Refusal.the-variants as refusal
-use Rattle.rulebook.specs.declared.StartAnswer.the-variants.{Started}
 use Rattle.rulebook.specs.declared.Verdict.{Verdict}
 use Rattle.rulebook.specs.declared.Verdict.the-variants.{Fine}
-use Rattle.rulebook.specs.Tools.{given}
 use Rattle.rulebook.specs.Ledger.{Ledger, fresh, cellAt}
 use Rattle.rulebook.specs.Inputs.{refuseIf, startVerdict}
 use Rattle.rulebook.specs.WellFormed.{outboxWords}
 use Rattle.rulebook.proofs.ToolLaws.{given-on}
 use Rattle.record.specs.Layout.{recordWords, ledgerOf}
 use Rattle.record.specs.Spelling.{wordsOf}
-use Rattle.soundness.specs.Starting.{StartOf, startJudged, startAnswer, startLeft}
+use Rattle.soundness.specs.Starting.{startJudged, startAnswer, startLeft}
 use Rattle.node.specs.Stepping.{stepLeaves}
-use Rattle.safety.specs.Slot.{Test, Ballot}
 use Rattle.safety.specs.Ballots.{has, recordFor}
-use Rattle.safety.specs.Ring.{afterAll, madeIn, Ring}
+use Rattle.safety.specs.Ring.{afterAll, madeIn}
 use Rattle.histories.specs.Calls.{Call, Calls, noMore, called, inputsOf, Life, Lived, leftBy}
-use Rattle.histories.specs.Ring.{CodeRing, CodeRingMet}
+use Rattle.histories.specs.Ring.{CodeRingMet}
 use Rattle.histories.proofs.Lives.{lived}
 
 -- Words of zeros.

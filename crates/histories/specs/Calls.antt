@@ -1,5 +1,4 @@
 -- A node's life as a host sees it: a start, and calls of the public step, each known by its contract alone.
-use mathlib.Core.Path.{_≡_}
 use mathlib.Core.Bool.{Bool, false, _||_}
 use mathlib.Core.List.{List, [], _∷_}
 use Prim.Native.Nat.{ℕ, zero, suc}

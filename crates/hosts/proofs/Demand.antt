@@ -32,7 +32,7 @@ use Rattle.writers.specs.Writing.{unsound, certificateOn, proofOn, Writes}
 use Rattle.readback.proofs.Words.{certificate-sound}
 use Rattle.safety.specs.Slot.{Test, Ballot}
 use Rattle.safety.specs.Ballots.{has, recordFor}
-use Rattle.safety.specs.Ring.{broughtBy, GenuinePacket, Agrees}
+use Rattle.safety.specs.Ring.{broughtBy, GenuinePacket}
 use Rattle.safety.specs.Promises.{AcceptedAs}
 use Rattle.safety.proofs.Packets.{packet-more}
 use Rattle.histories.specs.Calls.{Life, leftBy}
@@ -49,7 +49,7 @@ module _ (stakes : List ℕ) (genesis : ℕ → ℕ) (honest : Test) (lives : �
   abbrev plain : ℕ → Life
   plain n = lifeOf (lives n)
 
-  told-same : (n s : ℕ) (v : Ballot) → T (honest n) → code.toldBallot plain n s v ≡ toldBallot lives n s v
+  pub told-same : (n s : ℕ) (v : Ballot) → T (honest n) → code.toldBallot plain n s v ≡ toldBallot lives n s v
   told-same n s v h = told-is (lives n .words) (lives n .calls) (all n h .steps) (recordFor s v)
 
   counted-same : (n m s : ℕ) (v : Ballot) → code.countedBallot plain n m s v ≡ countedBallot lives n m s v
@@ -91,20 +91,6 @@ host-mail-is-enough stakes genesis honest lives ring =
 
 -- ---- what is accepted
 
--- A check that answers 0 accepts, with the values that are named.
-record Told (answer : CheckAnswer) (values : List ℕ) : Type 0 where
-  pub what : Accepted
-  pub accepts : answer ≡ check.Accepted what
-  pub values-are : values ≡ acceptedValues what
-
-zero-told : (answer : CheckAnswer) (values : List ℕ) → Checked answer 0 values → Told answer values
-unfolding checkPanel
-zero-told answer values c = go answer (c .numbered) (c .valued)
-  where
-    go : (a : CheckAnswer) → 0 ≡ checkPanel a .number → values ≡ checkPanel a .values → Told a values
-    go (check.Accepted x) e v = record { what = x; accepts = refl; values-are = v }
-    go (check.Refused r) e v = refusal-above r (sym e)
-
 -- A kind's number stands for it.
 kind-of-number : (k : CertificateKind) → certificateKind (certificateNumber k) ≡ k
 unfolding certificateKind certificateNumber choose
@@ -115,49 +101,43 @@ kind-of-number certificate.Skip = refl
 kind-of-number certificate.Final = refl
 kind-of-number certificate.Other = refl
 
--- The slot, the block and the kind that five values name.
-module _ (kind slot block signers weight : ℕ) (a : Accepted) (e : kind ∷ slot ∷ block ∷ signers ∷ weight ∷ [] ≡ acceptedValues a) where
-  kind-named : certificateKind kind ≡ a .kind
-  kind-named = let q : kind ≡ certificateNumber (a .kind) = cc in ap certificateKind q ∙ kind-of-number (a .kind)
+-- A check that answers 0 accepts the kind, slot and block that its values name.
+zero-accepted : {answer : CheckAnswer} {kind slot block signers weight : ℕ} → Checked answer 0 (kind ∷ slot ∷ block ∷ signers ∷ weight ∷ [])
+    → AcceptedAs answer (certificateKind kind) slot block
+unfolding checkPanel
+zero-accepted {answer} {kind} {slot} {block} {signers} {weight} c = go answer (c .numbered) (c .valued)
+  where
+    go : (a : CheckAnswer) → 0 ≡ checkPanel a .number → kind ∷ slot ∷ block ∷ signers ∷ weight ∷ [] ≡ checkPanel a .values → AcceptedAs a (certificateKind kind) slot block
+    go (check.Accepted x) e v =
+        let k : certificateNumber (x .kind) ≡ kind = cc in
+        let s : x .slot .0 ≡ slot = cc in
+        let b : x .block ≡ block = cc in
+        record { what = x; accepted = refl; kindIs = sym (kind-of-number (x .kind)) ∙ ap certificateKind k; slotIs = s; blockIs = b }
+    go (check.Refused r) e v = refusal-above r (sym e)
 
-  slot-named : slot ≡ a .slot .0
-  slot-named = cc
-
-  block-named : block ≡ a .block
-  block-named = cc
-
-same-slot : (x y : Slot) → x .0 ≡ y .0 → x ≡ y
-same-slot x y e = ap (λ (k : ℕ). record { 0 = k }) e
+same-slot : (x y : Slot) (s : ℕ) → x .0 ≡ s → y .0 ≡ s → x ≡ y
+same-slot x y s p q = ap (λ (k : ℕ). record { 0 = k }) (p ∙ sym q)
 
 pub host-safe : HostSafe
 host-safe stakes genesis honest lives ring proof packet kind slot block signers weight kind′ block′ signers′ weight′ g k x y =
-    let p = zero-told (checkProof stakes proof) (kind ∷ slot ∷ block ∷ signers ∷ weight ∷ []) x in
-    let q = zero-told (checkCertificate stakes packet) (kind′ ∷ slot ∷ block′ ∷ signers′ ∷ weight′ ∷ []) y in
-    let a = p .what in
-    let d = q .what in
-    let e : d .slot .0 ≡ a .slot .0 =
-    sym (slot-named kind′ slot block′ signers′ weight′ d (q .values-are)) ∙ slot-named kind slot block signers weight a (p .values-are) in
+    let p = zero-accepted x in
+    let q = zero-accepted y in
     let all = ring .nodes .lived in
-    let s = code-safe stakes genesis honest (λ n. lifeOf (lives n)) (ring-of-hosts stakes genesis honest lives ring) proof packet (checkProof stakes proof) (checkCertificate stakes packet) a d
-    (genuine stakes genesis honest lives all proof g) (genuine stakes genesis honest lives all packet k) refl refl (p .accepts) (q .accepts) (same-slot (d .slot) (a .slot) e)
-    in
-    subst (λ (z : ℕ). Agrees (certificateKind kind′) block′ z) (sym (block-named kind slot block signers weight a (p .values-are)))
-    (subst (λ (z : ℕ). Agrees (certificateKind kind′) z (a .block)) (sym (block-named kind′ slot block′ signers′ weight′ d (q .values-are)))
-    (subst (λ (z : CertificateKind). Agrees z (d .block) (a .block)) (sym (kind-named kind′ slot block′ signers′ weight′ d (q .values-are))) s))
+    rw (q .kindIs, q .blockIs, p .blockIs) at
+    (code-safe stakes genesis honest (λ n. lifeOf (lives n)) (ring-of-hosts stakes genesis honest lives ring) proof packet (checkProof stakes proof) (checkCertificate stakes packet)
+    (p .what) (q .what) (genuine stakes genesis honest lives all proof g) (genuine stakes genesis honest lives all packet k) refl refl (p .accepted) (q .accepted)
+    (same-slot (q .what .slot) (p .what .slot) slot (q .slotIs) (p .slotIs)))
 
 pub host-proofs-agree : HostProofsAgree
 host-proofs-agree stakes genesis honest lives ring proof rival kind slot block signers weight kind′ block′ signers′ weight′ g k x y =
-    let p = zero-told (checkProof stakes proof) (kind ∷ slot ∷ block ∷ signers ∷ weight ∷ []) x in
-    let q = zero-told (checkProof stakes rival) (kind′ ∷ slot ∷ block′ ∷ signers′ ∷ weight′ ∷ []) y in
-    let a = p .what in
-    let d = q .what in
-    let e : d .slot .0 ≡ a .slot .0 =
-    sym (slot-named kind′ slot block′ signers′ weight′ d (q .values-are)) ∙ slot-named kind slot block signers weight a (p .values-are) in
+    let p = zero-accepted x in
+    let q = zero-accepted y in
     let all = ring .nodes .lived in
-    let s = code-proofs-agree stakes genesis honest (λ n. lifeOf (lives n)) (ring-of-hosts stakes genesis honest lives ring) proof rival (checkProof stakes proof) (checkProof stakes rival) a d
-    (genuine stakes genesis honest lives all proof g) (genuine stakes genesis honest lives all rival k) refl refl (p .accepts) (q .accepts) (same-slot (d .slot) (a .slot) e)
-    in
-    block-named kind′ slot block′ signers′ weight′ d (q .values-are) ∙ s ∙ sym (block-named kind slot block signers weight a (p .values-are))
+    sym (q .blockIs)
+    ∙ code-proofs-agree stakes genesis honest (λ n. lifeOf (lives n)) (ring-of-hosts stakes genesis honest lives ring) proof rival (checkProof stakes proof) (checkProof stakes rival)
+    (p .what) (q .what) (genuine stakes genesis honest lives all proof g) (genuine stakes genesis honest lives all rival k) refl refl (p .accepted) (q .accepted)
+    (same-slot (q .what .slot) (p .what .slot) slot (q .slotIs) (p .slotIs))
+    ∙ p .blockIs
 
 pub host-fed-safe : HostFedSafe
 host-fed-safe stakes genesis honest lives ring =
@@ -167,7 +147,7 @@ host-fed-safe stakes genesis honest lives ring =
 -- ---- what is written
 
 -- A writer that answers 0 wrote as many bytes as it counts.
-zero-written : (w : writer.Wrote) (buffer after : List ℕ) (count : ℕ) → Wrote w buffer 0 count after
+pub zero-written : (w : writer.Wrote) (buffer after : List ℕ) (count : ℕ) → Wrote w buffer 0 count after
     → Writes w buffer (w .answer) after × (w .answer ≡ write.Written count)
 unfolding writePanel
 zero-written w buffer after count r = (record { answered = refl; bytes = r .bytes }, go (w .answer) (r .numbered) (r .counted))

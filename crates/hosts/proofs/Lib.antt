@@ -2,3 +2,4 @@
 pub mod Lives
 pub mod Demand
 pub mod Meeting
+pub mod Honest

@@ -1,7 +1,7 @@
 -- A history of calls of the C functions is a life of a node: each call is a call of the public step, with the same words and the same records.
-use mathlib.Core.Path.{_≡_, refl, sym, ap, _∙_, subst}
+use mathlib.Core.Path.{_≡_, refl, sym, ap, _∙_}
 use mathlib.Core.Bool.{_||_}
-use mathlib.Core.List.{List, [], _∷_}
+use mathlib.Core.List.{List, [], _∷_, _++_}
 use Prim.Native.Nat.{ℕ}
 use native.Mathlib.Omega.{arith}
 use lib.ListN.{length}
@@ -17,13 +17,13 @@ use Rattle.rulebook.specs.PaperNumbers.{refusalNumber, startPanel, stepPanel}
 use Rattle.rulebook.specs.Tools.{given}
 use Rattle.rulebook.specs.Rules.{Record}
 use Rattle.rulebook.specs.WellFormed.{outboxWords}
-use Rattle.soundness.specs.Starting.{StartOf, startJudged, startAnswer}
-use Rattle.node.specs.Stepping.{stepLeaves, StepOf}
+use Rattle.soundness.specs.Starting.{startJudged, startAnswer}
+use Rattle.node.specs.Stepping.{stepLeaves}
 use Rattle.safety.specs.Ballots.{among}
 use Rattle.histories.specs.Calls as code
 use Rattle.histories.specs.Calls.{Call, Calls, Life, Lived, lastOf, inputsOf, firstRecords, toldIn, toldBy}
-use Rattle.quointrowel.specs.Face.{Beside, Started, Stepped}
-use Rattle.hosts.specs.Calls.{inputFor, HostCall, HostCalls, noMore, called, lastWords, inputsFed, toldOut, HostLife, HostLived, AsStep, SteppedIsStep, StartedIsStart}
+use Rattle.quointrowel.specs.Face.{Beside, Started}
+use Rattle.hosts.specs.Calls.{inputFor, HostCall, HostCalls, noMore, called, lastWords, inputsFed, toldOut, HostLife, HostLived, SteppedIsStep, StartedIsStart}
 
 -- No refusal's number is 0.
 pub refusal-above : {X : Type 0} (r : Refusal) → refusalNumber r ≡ 0 → X
@@ -114,6 +114,12 @@ unfolding callsOf callOf stepped-is-step
 calls-meet ws [] noMore = code.noMore
 calls-meet ws (c ∷ cs) (called s k) =
     code.called (stepped-is-step ws (c .lent) (inputFor (c .asked)) (c .number) (c .made) (c .words) (c .left) s .step) (calls-meet (c .words) cs k)
+
+-- Calls up to a moment, and those after it.
+pub calls-split : (ws : List ℕ) (before later : List HostCall) → callsOf ws (before ++ later) ≡ callsOf ws before ++ callsOf (lastWords ws before) later
+unfolding callsOf lastWords
+calls-split ws [] later = refl
+calls-split ws (c ∷ cs) later = ap (λ (ks : List Call). callOf ws c ∷ ks) (calls-split (c .words) cs later)
 
 -- The words afterwards, the inputs fed and the records told are those of the C calls.
 pub last-is : (ws : List ℕ) (cs : List HostCall) → lastOf ws (callsOf ws cs) ≡ lastWords ws cs

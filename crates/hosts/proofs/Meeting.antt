@@ -6,7 +6,6 @@ use lib.ListN.{length}
 use lib.Dec.{T, leb}
 use Rattle.rulebook.specs.declared.Input.{Input}
 use Rattle.rulebook.specs.declared.Input.the-variants as input
-use Rattle.rulebook.specs.declared.StartAnswer.{StartAnswer}
 use Rattle.rulebook.specs.declared.StepAnswer.{StepAnswer}
 use Rattle.rulebook.specs.declared.StepAnswer.the-variants.{Done, Refused}
 use Rattle.rulebook.specs.declared.Verdict.{Verdict}
@@ -33,7 +32,7 @@ use Rattle.histories.proofs.Meeting.{zeros, room, judged}
 use Rattle.quointrowel.specs.Face.{Beside}
 use Rattle.hosts.specs.Calls.{Asked, qr-vote, qr-block, qr-timeout, qr-look, inputFor, HostCall, HostCalls, noMore, called, inputsFed, HostLife, HostLived, wordsLeft, toldOut}
 use Rattle.hosts.specs.Ring.{HostRingMet}
-use Rattle.hosts.proofs.Lives.{callsOf, last-is, inputs-are, told-is, lifeOf, lived-is}
+use Rattle.hosts.proofs.Lives.{last-is, inputs-are, told-is, lifeOf, lived-is}
 
 -- ---- calls that feed a list of inputs
 

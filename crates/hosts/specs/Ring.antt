@@ -2,7 +2,7 @@
 -- it, as many records as `made` says; a packet is accepted where the check answers 0.
 use mathlib.Core.Path.{_≡_}
 use mathlib.Core.Bool.{Bool}
-use mathlib.Core.List.{List, [], _∷_}
+use mathlib.Core.List.{List, [], _∷_, _++_}
 use Prim.Native.Nat.{ℕ, _<_, _^_}
 use lib.Dec.{T}
 use lib.ListN.{length, take}
@@ -16,7 +16,7 @@ use Rattle.safety.specs.Slot.{Test, Ballot}
 use Rattle.safety.specs.Ballots.{has, recordFor}
 use Rattle.safety.specs.Ring.{broughtBy, FewOthers, Ring, GenuinePacket, Agrees}
 use Rattle.quointrowel.specs.Face.{Wrote, Checked}
-use Rattle.hosts.specs.Calls.{HostLife, HostLived, wordsLeft, inputsFed, toldOut}
+use Rattle.hosts.specs.Calls.{HostCall, HostLife, HostLived, lastWords, wordsLeft, inputsFed, toldOut}
 
 -- Node n's outbox told the ballot for slot s in one of its calls.
 abbrev pub toldBallot : (ℕ → HostLife) → ℕ → ℕ → Ballot → Bool
@@ -118,3 +118,25 @@ HostProofAccepted =
     → (buffer after values : List ℕ) (slot block written number : ℕ) → block < 2 ^ 64
     → Wrote (proofOn (wordsLeft life) (length buffer) slot block) buffer 0 written after
     → Checked (checkProof stakes (take written after)) number values → (kind : ℕ) × NamedAs number values kind slot block
+
+-- What qr_write_certificate and qr_write_proof, answering 0, wrote to the buffer's front at any moment of an honest node's life is genuine, so
+-- that the promises hold of it with no premise on packets.
+module _ (stakes : List ℕ) (genesis : ℕ → ℕ) (honest : Test) (lives : ℕ → HostLife) where
+  abbrev pub CertificateGenuine : Type 0
+  CertificateGenuine =
+      (n : ℕ) → T (honest n) → (before later : List HostCall) → lives n .calls ≡ before ++ later
+      → (buffer after : List ℕ) (kind slot block written : ℕ) → block < 2 ^ 64
+      → Wrote (certificateOn (lastWords (lives n .words) before) (length buffer) (certificateKind kind) slot block) buffer 0 written after
+      → GenuinePacket honest (toldBallot lives) (take written after)
+
+  abbrev pub ProofGenuine : Type 0
+  ProofGenuine =
+      (n : ℕ) → T (honest n) → (before later : List HostCall) → lives n .calls ≡ before ++ later
+      → (buffer after : List ℕ) (slot block written : ℕ) → block < 2 ^ 64
+      → Wrote (proofOn (lastWords (lives n .words) before) (length buffer) slot block) buffer 0 written after
+      → GenuinePacket honest (toldBallot lives) (take written after)
+
+abbrev pub HostWrittenGenuine : Type 0
+HostWrittenGenuine =
+    (stakes : List ℕ) (genesis : ℕ → ℕ) (honest : Test) (lives : ℕ → HostLife) → HostRing stakes genesis honest lives
+    → CertificateGenuine stakes genesis honest lives × ProofGenuine stakes genesis honest lives
