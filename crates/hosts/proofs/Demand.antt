@@ -38,7 +38,7 @@ use Rattle.safety.proofs.Packets.{packet-more}
 use Rattle.histories.specs.Calls.{Life, leftBy}
 use Rattle.histories.specs.Ring as code
 use Rattle.histories.proofs.Demand.{code-safe, code-proofs-agree, code-mail-is-enough, code-certificate-accepted, code-proof-accepted}
-use Rattle.quointrowel.specs.Face.{Beside, acceptedValues, Wrote, Checked}
+use Rattle.answers.specs.Face.{Beside, acceptedValues, Wrote, Checked}
 use Rattle.hosts.specs.Calls.{HostLife, HostLived, wordsLeft}
 use Rattle.hosts.specs.Ring.{toldBallot, countedBallot, HostRing, HostSafe, HostProofsAgree, HostMailIsEnough, HostFedSafe, NamedAs, HostCertificateAccepted, HostProofAccepted}
 use Rattle.hosts.proofs.Lives.{refusal-above, last-is, inputs-are, told-is, lifeOf, lived-is}

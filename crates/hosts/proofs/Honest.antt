@@ -11,7 +11,7 @@ use Rattle.safety.proofs.Packets.{packet-more}
 use Rattle.histories.specs.Calls.{Life}
 use Rattle.histories.specs.Ring as code
 use Rattle.histories.proofs.Honest.{code-written-genuine}
-use Rattle.quointrowel.specs.Face.{Wrote}
+use Rattle.answers.specs.Face.{Wrote}
 use Rattle.hosts.specs.Calls.{lastWords}
 use Rattle.hosts.specs.Ring.{toldBallot, HostWrittenGenuine}
 use Rattle.hosts.proofs.Lives.{callsOf, calls-split, last-is, lifeOf}

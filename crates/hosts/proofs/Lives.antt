@@ -22,7 +22,7 @@ use Rattle.node.specs.Stepping.{stepLeaves}
 use Rattle.safety.specs.Ballots.{among}
 use Rattle.histories.specs.Calls as code
 use Rattle.histories.specs.Calls.{Call, Calls, Life, Lived, lastOf, inputsOf, firstRecords, toldIn, toldBy}
-use Rattle.quointrowel.specs.Face.{Beside, Started}
+use Rattle.answers.specs.Face.{Beside, Started}
 use Rattle.hosts.specs.Calls.{inputFor, HostCall, HostCalls, noMore, called, lastWords, inputsFed, toldOut, HostLife, HostLived, SteppedIsStep, StartedIsStart}
 
 -- No refusal's number is 0.

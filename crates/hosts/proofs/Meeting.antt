@@ -29,7 +29,7 @@ use Rattle.safety.specs.Ring.{afterAll, madeIn}
 use Rattle.histories.specs.Calls.{inputsOf}
 use Rattle.histories.proofs.Lives.{lived}
 use Rattle.histories.proofs.Meeting.{zeros, room, judged}
-use Rattle.quointrowel.specs.Face.{Beside}
+use Rattle.answers.specs.Face.{Beside}
 use Rattle.hosts.specs.Calls.{Asked, qr-vote, qr-block, qr-timeout, qr-look, inputFor, HostCall, HostCalls, noMore, called, inputsFed, HostLife, HostLived, wordsLeft, toldOut}
 use Rattle.hosts.specs.Ring.{HostRingMet}
 use Rattle.hosts.proofs.Lives.{last-is, inputs-are, told-is, lifeOf, lived-is}

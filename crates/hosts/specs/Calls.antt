@@ -17,7 +17,8 @@ use Rattle.soundness.specs.Starting.{StartOf}
 use Rattle.node.specs.Stepping.{StepOf}
 use Rattle.safety.specs.Ballots.{among}
 use Rattle.histories.specs.Calls.{firstRecords, toldIn}
-use Rattle.quointrowel.specs.Face.{Started, Stepped, voteInput, blockInput, timeoutInput}
+use Rattle.inputs.specs.Inputs.{voteInput, blockInput, timeoutInput}
+use Rattle.answers.specs.Face.{Started, Stepped}
 
 -- The function that was called, and the numbers that it was given.
 pub data Asked : Type 0 where

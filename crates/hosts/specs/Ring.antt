@@ -15,7 +15,7 @@ use Rattle.writers.specs.Writing.{certificateOn, proofOn}
 use Rattle.safety.specs.Slot.{Test, Ballot}
 use Rattle.safety.specs.Ballots.{has, recordFor}
 use Rattle.safety.specs.Ring.{broughtBy, FewOthers, Ring, GenuinePacket, Agrees}
-use Rattle.quointrowel.specs.Face.{Wrote, Checked}
+use Rattle.answers.specs.Face.{Wrote, Checked}
 use Rattle.hosts.specs.Calls.{HostCall, HostLife, HostLived, lastWords, wordsLeft, inputsFed, toldOut}
 
 -- Node n's outbox told the ballot for slot s in one of its calls.
