@@ -11,7 +11,7 @@ use Rattle.rulebook.specs.declared.Found.the-variants as found
 use Rattle.rulebook.specs.Packets.{certificateAt, certificateBytes}
 use Rattle.rulebook.proofs.NumberLaws.{certificate-read, certificate-whole}
 use Rattle.rulebook.proofs.AcceptedLaws.{Proven, one, two, accepted-single, accepted-proof, past-end}
-use Rattle.packets.specs.Promises.{Bytes, partFrom, parts, OneCertificate, OneProof}
+use Rattle.packets.specs.Promises.{Bytes, partFrom, parts, AcceptedByEither, asCertificate, asProof, OnePacket}
 
 -- Certificates, one after the other.
 spelled : List Certificate → List ℕ
@@ -45,13 +45,12 @@ proven-spelled : (stakes packet : List ℕ) (a : Accepted) → Bytes packet → 
 proven-spelled stakes packet a h (one c e j k q) = one-spelled packet c h e
 proven-spelled stakes packet a h (two c d n e j k f i l t q) = two-spelled packet c d n h e f
 
-pub one-certificate : OneCertificate
-one-certificate stakes others p q a b hp hq ep eq same =
-    let x = accepted-single stakes p a ep in
-    let y = accepted-single others q b eq in
-    one-spelled p (x .first) hp (x .read) ∙ ap spelled same ∙ sym (one-spelled q (y .first) hq (y .read))
+-- Whichever checker accepts a packet, it is that spelling.
+either-spelled : (stakes packet : List ℕ) → Bytes packet → AcceptedByEither stakes packet → packet ≡ spelled (parts packet)
+either-spelled stakes packet h (asCertificate a e) =
+    let x = accepted-single stakes packet a e in one-spelled packet (x .first) h (x .read)
+either-spelled stakes packet h (asProof a e) = proven-spelled stakes packet a h (accepted-proof stakes packet a e)
 
-pub one-proof : OneProof
-one-proof stakes others p q a b hp hq ep eq same =
-    proven-spelled stakes p a hp (accepted-proof stakes p a ep) ∙ ap spelled same
-    ∙ sym (proven-spelled others q b hq (accepted-proof others q b eq))
+pub one-packet : OnePacket
+one-packet stakes others p q hp hq ep eq same =
+    either-spelled stakes p hp ep ∙ ap spelled same ∙ sym (either-spelled others q hq eq)

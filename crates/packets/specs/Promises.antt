@@ -38,17 +38,16 @@ partFrom found.Malformed f = []
 unfoldable pub parts : List ℕ → List Certificate
 parts packet = partFrom (certificateAt packet 0) (λ next. partFrom (certificateAt packet next) (λ _. []))
 
--- Two accepted packets that read to the same certificate are the same bytes, whatever the tables.
-abbrev pub OneCertificate : Type 0
-OneCertificate =
-    (stakes others p q : List ℕ) (a b : Accepted) → Bytes p → Bytes q → checkCertificate stakes p ≡ check.Accepted a
-    → checkCertificate others q ≡ check.Accepted b → parts p ≡ parts q → p ≡ q
+-- "Accepted": the checker of certificates takes the packet, or the checker of proofs does.
+pub data AcceptedByEither (stakes packet : List ℕ) : Type 0 where
+  asCertificate : (a : Accepted) → checkCertificate stakes packet ≡ check.Accepted a → AcceptedByEither stakes packet
+  asProof : (a : Accepted) → checkProof stakes packet ≡ check.Accepted a → AcceptedByEither stakes packet
 
--- The same for proofs.
-abbrev pub OneProof : Type 0
-OneProof =
-    (stakes others p q : List ℕ) (a b : Accepted) → Bytes p → Bytes q → checkProof stakes p ≡ check.Accepted a
-    → checkProof others q ≡ check.Accepted b → parts p ≡ parts q → p ≡ q
+-- "No two accepted packets spell the same certificates": two that either checker accepts, and that read to the same certificates, one or
+-- two, are the same bytes, whatever the tables.
+abbrev pub OnePacket : Type 0
+OnePacket =
+    (stakes others p q : List ℕ) → Bytes p → Bytes q → AcceptedByEither stakes p → AcceptedByEither others q → parts p ≡ parts q → p ≡ q
 
 -- ---- each node once
 
