@@ -1,3 +1,2 @@
 -- Laws of reading back.
-pub mod Exactly
 pub mod Words

@@ -1,0 +1,172 @@
+-- A refusal leaves all lent memory as found. Assumes nothing.
+use mathlib.Core.Path.{_≡_, refl, sym, ap, _∙_}
+use mathlib.Core.List.{List, [], _∷_, _++_}
+use Prim.Native.Nat.{ℕ, _*_}
+use native.Mathlib.Omega.{arith}
+use lib.ListN.{length, drop}
+use lib.Dec.{eqb, leb}
+use borrow.Author.Tests.{eqb-true}
+use Rattle.rulebook.specs.declared.CertificateKind.{CertificateKind}
+use Rattle.rulebook.specs.declared.CheckAnswer.{CheckAnswer}
+use Rattle.rulebook.specs.declared.Input.{Input}
+use Rattle.rulebook.specs.declared.Refusal.{Refusal}
+use Rattle.rulebook.specs.declared.Refusal.the-variants as refusal
+use Rattle.rulebook.specs.declared.StartAnswer.the-variants as start
+use Rattle.rulebook.specs.declared.StepAnswer.{StepAnswer}
+use Rattle.rulebook.specs.declared.StepAnswer.the-variants as step-answer
+use Rattle.rulebook.specs.declared.Verdict.{Verdict}
+use Rattle.rulebook.specs.declared.Verdict.the-variants.{Fine, Refused}
+use Rattle.rulebook.specs.declared.WriteAnswer.{WriteAnswer}
+use Rattle.rulebook.specs.declared.WriteAnswer.the-variants as write
+use Rattle.rulebook.specs.Ledger.{Ledger}
+use Rattle.rulebook.specs.PaperNumbers.{stepPanel, writePanel, checkPanel}
+use Rattle.rulebook.specs.Inputs.{Fed, verdict, fedWith, refusedWith, fedOn, feed}
+use Rattle.rulebook.specs.WellFormed.{wellFormed, outboxWords, step}
+use Rattle.rulebook.specs.Writers.{Wrote, wroteOn, writeCertificate, writeProof, certificateVerdict, proofVerdict, proofBytes, certificateFor, over}
+use Rattle.rulebook.specs.Packets.{certificateBytes}
+use Rattle.rulebook.proofs.ToolLaws.{given-on, given-off, given-keeps, by-test}
+use Rattle.record.specs.Layout.{recordWords, ledgerOf}
+use Rattle.record.specs.Spelling.{wordsOf}
+use Rattle.record.proofs.Spelled.{words-ledger}
+use Rattle.soundness.specs.Sound.{soundWords}
+use Rattle.soundness.specs.Starting.{startJudged, startAnswer, startLeft}
+use Rattle.node.specs.Stepping.{Leaves, spelled, asFound, asFed, stepLeaves}
+use Rattle.writers.specs.Writing.{unsound, certificateOn, proofOn, Writes}
+use Rattle.quointrowel.specs.Face.{Beside}
+use Rattle.promises.specs.Refusals.{StartRefused, StepRefused, CertificateRefused, ProofRefused, FaceStartRefused, FaceStepRefused, FaceCertificateRefused, FaceProofRefused, FaceCheckRefused}
+use Rattle.promises.proofs.Numbered.{start-refusal, step-refusal, write-refusal, check-refusal}
+
+-- ---- start
+
+left-found : (v : Verdict) (ws stakes : List ℕ) (own genesis : ℕ) (r : Refusal) → startAnswer v ≡ start.Refused r → startLeft v ws stakes own genesis ≡ ws
+unfolding startAnswer startLeft
+left-found Fine ws stakes own genesis r e = let z : _≡_ {A = ℕ} 0 1 = cc in absurd (omega arith)
+left-found (Refused x) ws stakes own genesis r e = refl
+
+pub start-refused : StartRefused
+start-refused ws stakes own genesis r left h =
+    h .words ∙ left-found (startJudged ws stakes own genesis) ws stakes own genesis r (sym (h .answered))
+
+-- ---- step
+
+-- A refusal keeps the ledger and makes no record.
+abbrev Kept : Ledger → Fed → Type 0
+Kept l f = (r : Refusal) → f .answer ≡ step-answer.Refused r → (f .ledger ≡ l) × (f .records ≡ [])
+
+refused-kept : (l : Ledger) (x : Refusal) → Kept l (refusedWith l x)
+unfolding refusedWith
+refused-kept l x r e = (refl, refl)
+
+fed-kept : (l : Ledger) (i : Input) (v : Verdict) → Kept l (fedOn v l i)
+unfolding fedOn fedWith
+fed-kept l i Fine r e = let z : _≡_ {A = ℕ} 0 1 = cc in absurd (omega arith)
+fed-kept l i (Refused x) r e = refused-kept l x r e
+
+step-kept : (l : Ledger) (room : ℕ) (i : Input) → Kept l (step l room i)
+unfolding step feed
+step-kept l room i =
+    given-keeps (Kept l) (wellFormed l) _ _ (refused-kept l refusal.BadRecord)
+    (λ _. given-keeps (Kept l) (leb outboxWords room) _ _ (refused-kept l refusal.NoRoom) (λ _. fed-kept l i (verdict l i)))
+
+-- No records leave the outbox as it was.
+nothing-told : (rs : List _) (out : List ℕ) → rs ≡ [] → spelled rs ++ drop (3 * length rs) out ≡ out
+unfolding spelled
+nothing-told rs out e = rw e
+
+pub step-refused : StepRefused
+unfolding stepLeaves
+step-refused ws out i r ws' left h =
+    by-test (eqb (length ws) recordWords)
+    (λ t.
+    let q : stepLeaves ws out i ≡ asFed (step (ledgerOf ws) (length out) i) out = given-on _ _ _ t in
+    let k = step-kept (ledgerOf ws) (length out) i r (ap (λ (x : Leaves). x .answer) (sym q) ∙ sym (h .answered)) in (
+      h .words ∙ ap (λ (x : Leaves). x .words) q ∙ ap wordsOf (k .0) ∙ words-ledger ws (eqb-true (length ws) recordWords t),
+      h .outbox ∙ ap (λ (x : Leaves). x .outbox) q ∙ nothing-told (step (ledgerOf ws) (length out) i .records) out (k .1),
+    ))
+    (λ t.
+    let q : stepLeaves ws out i ≡ asFound refusal.BadRecord ws out = given-off _ _ _ t in
+    (h .words ∙ ap (λ (x : Leaves). x .words) q, h .outbox ∙ ap (λ (x : Leaves). x .outbox) q))
+
+-- ---- the writers
+
+-- A refusal writes nothing.
+abbrev Unwritten : Wrote → Type 0
+Unwritten w = (r : Refusal) → w .answer ≡ write.Refused r → w .bytes ≡ []
+
+wrote-unwritten : (v : Verdict) (bytes : List ℕ) → Unwritten (wroteOn v bytes)
+unfolding wroteOn
+wrote-unwritten Fine bytes r e = let z : _≡_ {A = ℕ} 0 1 = cc in absurd (omega arith)
+wrote-unwritten (Refused x) bytes r e = refl
+
+unsound-unwritten : Unwritten unsound
+unfolding unsound
+unsound-unwritten r e = refl
+
+certificate-unwritten : (ws : List ℕ) (room : ℕ) (k : CertificateKind) (s b : ℕ) → Unwritten (certificateOn ws room k s b)
+unfolding certificateOn writeCertificate
+certificate-unwritten ws room k s b =
+    given-keeps Unwritten (soundWords ws) _ _ unsound-unwritten
+    (λ _. wrote-unwritten (certificateVerdict (ledgerOf ws) room k s b) (certificateBytes (certificateFor (ledgerOf ws) k s b)))
+
+proof-unwritten : (ws : List ℕ) (room s b : ℕ) → Unwritten (proofOn ws room s b)
+unfolding proofOn writeProof
+proof-unwritten ws room s b =
+    given-keeps Unwritten (soundWords ws) _ _ unsound-unwritten
+    (λ _. wrote-unwritten (proofVerdict (ledgerOf ws) room s b) (proofBytes (ledgerOf ws) s b))
+
+over-nothing : (bytes buffer : List ℕ) → bytes ≡ [] → over bytes buffer ≡ buffer
+unfolding over
+over-nothing bytes buffer e = rw e
+
+unwritten : (w : Wrote) (buffer : List ℕ) (r : Refusal) (after : List ℕ) → Unwritten w → Writes w buffer (write.Refused r) after → after ≡ buffer
+unwritten w buffer r after u h = h .bytes ∙ over-nothing (w .bytes) buffer (u r (sym (h .answered)))
+
+pub certificate-refused : CertificateRefused
+certificate-refused ws buffer k s b r after h = unwritten _ buffer r after (certificate-unwritten ws (length buffer) k s b) h
+
+pub proof-refused : ProofRefused
+proof-refused ws buffer s b r after h = unwritten _ buffer r after (proof-unwritten ws (length buffer) s b) h
+
+-- ---- the face
+
+pub face-start-refused : FaceStartRefused
+face-start-refused ws stakes own genesis number left h ne =
+    let x = start-refusal (startAnswer (startJudged ws stakes own genesis)) (λ e. ne (h .numbered ∙ e)) in
+    start-refused ws stakes own genesis (x .0) left (record { answered = sym (x .1); words = h .words })
+
+-- The one value beside a refusal is 0.
+step-none : (a : StepAnswer) (made : ℕ) (r : Refusal) → a ≡ step-answer.Refused r → Beside made (stepPanel a .values) → made ≡ 0
+unfolding stepPanel
+step-none a made r e b = let q : made ∷ [] ≡ 0 ∷ [] = b ∙ ap (λ (x : StepAnswer). stepPanel x .values) e in cc
+
+write-none : (a : WriteAnswer) (written : ℕ) (r : Refusal) → a ≡ write.Refused r → Beside written (writePanel a .values) → written ≡ 0
+unfolding writePanel
+write-none a written r e b = let q : written ∷ [] ≡ 0 ∷ [] = b ∙ ap (λ (x : WriteAnswer). writePanel x .values) e in cc
+
+pub face-step-refused : FaceStepRefused
+face-step-refused ws out i number made ws' left h ne =
+    let x = step-refusal (stepLeaves ws out i .answer) (λ e. ne (h .numbered ∙ e)) in
+    let k = step-refused ws out i (x .0) ws' left (record { answered = sym (x .1); words = h .words; outbox = h .outbox }) in
+    (step-none (stepLeaves ws out i .answer) made (x .0) (x .1) (h .counted), k .0, k .1)
+
+pub face-certificate-refused : FaceCertificateRefused
+face-certificate-refused ws buffer k s b number written after h ne =
+    let a = certificateOn ws (length buffer) k s b .answer in
+    let x = write-refusal a (λ e. ne (h .numbered ∙ e)) in (
+      write-none a written (x .0) (x .1) (h .counted),
+      certificate-refused ws buffer k s b (x .0) after (record { answered = sym (x .1); bytes = h .bytes }),
+    )
+
+pub face-proof-refused : FaceProofRefused
+face-proof-refused ws buffer s b number written after h ne =
+    let a = proofOn ws (length buffer) s b .answer in
+    let x = write-refusal a (λ e. ne (h .numbered ∙ e)) in (
+      write-none a written (x .0) (x .1) (h .counted),
+      proof-refused ws buffer s b (x .0) after (record { answered = sym (x .1); bytes = h .bytes }),
+    )
+
+pub face-check-refused : FaceCheckRefused
+unfolding checkPanel
+face-check-refused answer number values h ne =
+    let x = check-refusal answer (λ e. ne (h .numbered ∙ e)) in
+    h .valued ∙ ap (λ (a : CheckAnswer). checkPanel a .values) (x .1)

@@ -1,0 +1,5 @@
+-- The customer's sentences, over the contracts alone.
+pub mod Refusals
+pub mod Panels
+pub mod Exactly
+pub mod Spelling

@@ -1,0 +1,103 @@
+-- "When an answer is an enum, a definition gives this paper's number and values for each case of that enum. The promises use that
+-- definition": what the panel shows of each public operation's answer.
+use mathlib.Core.Path.{_≡_}
+use mathlib.Core.Bool.{true, not}
+use mathlib.Core.List.{List, [], _∷_}
+use Prim.Native.Nat.{ℕ}
+use lib.ListN.{length, replicate}
+use lib.Dec.{ltb}
+use Rattle.rulebook.specs.declared.CertificateKind.{CertificateKind}
+use Rattle.rulebook.specs.declared.CheckAnswer.{CheckAnswer}
+use Rattle.rulebook.specs.declared.CheckAnswer.the-variants as check
+use Rattle.rulebook.specs.declared.Found.{Found}
+use Rattle.rulebook.specs.declared.Found.the-variants as found
+use Rattle.rulebook.specs.declared.Input.{Input}
+use Rattle.rulebook.specs.declared.Place.{Place}
+use Rattle.rulebook.specs.declared.Refusal.the-variants as refusal
+use Rattle.rulebook.specs.declared.StartAnswer.{StartAnswer}
+use Rattle.rulebook.specs.declared.StepAnswer.{StepAnswer}
+use Rattle.rulebook.specs.declared.Verdict.{Verdict}
+use Rattle.rulebook.specs.declared.Verdict.the-variants.{Fine, Refused}
+use Rattle.rulebook.specs.declared.WriteAnswer.{WriteAnswer}
+use Rattle.rulebook.specs.PaperNumbers.{Panel, verdictNumber, placeNumber, foundPanel, startPanel, stepPanel, writePanel, checkPanel}
+use Rattle.rulebook.specs.Weights.{stakesFit}
+use Rattle.rulebook.specs.Inputs.{refuseIf, placeVerdict, verdict, feed}
+use Rattle.rulebook.specs.WellFormed.{outboxWords}
+use Rattle.rulebook.specs.Packets.{certificateAt, certificateBytes, countOf}
+use Rattle.rulebook.specs.Checker.{signed, signedWeight, checkCertificate, checkProof}
+use Rattle.rulebook.specs.Writers.{certificateFor, certificateVerdict, proofVerdict, proofBytes}
+use Rattle.record.specs.Layout.{ledgerOf}
+use Rattle.soundness.specs.Sound.{soundWords}
+use Rattle.soundness.specs.Starting.{startJudged, StartOf}
+use Rattle.node.specs.Stepping.{StepOf}
+use Rattle.writers.specs.Writing.{certificateOn, proofOn, Writes}
+
+-- "Every refusal answers zeros beside its number".
+unfoldable pub besideIt : Verdict → List ℕ → List ℕ
+besideIt Fine values = values
+besideIt (Refused r) values = replicate (length values) 0
+
+-- What the panel shows of a verdict: its number, and these values where nothing is refused.
+unfoldable pub shown : Verdict → List ℕ → Panel
+shown v values = record { number = verdictNumber v; values = besideIt v values }
+
+-- "Order at start: 17 for the length, then 1"; no values.
+abbrev pub StartShown : Type 0
+StartShown =
+    (ws stakes : List ℕ) (own genesis : ℕ) (a : StartAnswer) (left : List ℕ) → StartOf ws stakes own genesis a left
+    → startPanel a ≡ shown (startJudged ws stakes own genesis) []
+
+-- 17 comes before all that is asked of a record.
+unfoldable pub soundFirst : List ℕ → Verdict → Verdict
+soundFirst ws v = refuseIf (not (soundWords ws)) refusal.BadRecord v
+
+-- "Votes: 17, 9, ..", "Blocks: 17, 9, ..", "Timeouts: 17, 9, ..", "Look: 17, 9".
+unfoldable pub stepJudged : List ℕ → List ℕ → Input → Verdict
+stepJudged ws out i = soundFirst ws (refuseIf (ltb (length out) outboxWords) refusal.NoRoom (verdict (ledgerOf ws) i))
+
+-- A step answers the number of its records.
+abbrev pub StepShown : Type 0
+StepShown =
+    (ws out : List ℕ) (i : Input) (a : StepAnswer) (ws' left : List ℕ) → StepOf ws out i a ws' left
+    → stepPanel a ≡ shown (stepJudged ws out i) (length (feed (ledgerOf ws) i .records) ∷ [])
+
+-- 7 and 8 among them are what a vote finds at its place.
+abbrev pub PlaceShown : Type 0
+PlaceShown = (p : Place) → placeNumber p ≡ verdictNumber (placeVerdict p)
+
+-- "Writers: 17, 9, 4, 3, 5, 18": a writer answers the number of its bytes.
+abbrev pub CertificateShown : Type 0
+CertificateShown =
+    (ws buffer : List ℕ) (k : CertificateKind) (s b : ℕ) (a : WriteAnswer) (after : List ℕ)
+    → Writes (certificateOn ws (length buffer) k s b) buffer a after
+    → writePanel a
+    ≡ shown (soundFirst ws (certificateVerdict (ledgerOf ws) (length buffer) k s b)) (length (certificateBytes (certificateFor (ledgerOf ws) k s b)) ∷ [])
+
+abbrev pub ProofShown : Type 0
+ProofShown =
+    (ws buffer : List ℕ) (s b : ℕ) (a : WriteAnswer) (after : List ℕ) → Writes (proofOn ws (length buffer) s b) buffer a after
+    → writePanel a ≡ shown (soundFirst ws (proofVerdict (ledgerOf ws) (length buffer) s b)) (length (proofBytes (ledgerOf ws) s b) ∷ [])
+
+-- Whether a check refused, and with what.
+unfoldable pub checkVerdict : CheckAnswer → Verdict
+checkVerdict (check.Accepted a) = Fine
+checkVerdict (check.Refused r) = Refused r
+
+-- "kind, slot, block, signer count and weight", as they stand in the certificate that was read and as its masks have them.
+unfoldable pub toldOf : List ℕ → Found → List ℕ
+toldOf stakes (found.Whole c next) = c .kind ∷ c .slot ∷ c .block ∷ countOf (signed c) (length stakes) ∷ signedWeight stakes c ∷ []
+toldOf stakes found.Early = replicate 5 0
+toldOf stakes found.Malformed = replicate 5 0
+
+-- "An accepted check answers kind, slot, block, signer count and weight (for a proof: those of its first certificate). A refusal gives
+-- zeros there"; where the first certificate cannot be read, the number is that of reading it, 12 or 13.
+pub record ChecksAs (stakes packet : List ℕ) (a : CheckAnswer) : Type 0 where
+  pub panel : checkPanel a ≡ shown (checkVerdict a) (toldOf stakes (certificateAt packet 0))
+  pub unread : stakesFit stakes (length stakes) ≡ true → ¬ (foundPanel (certificateAt packet 0) .number ≡ 0)
+      → checkPanel a .number ≡ foundPanel (certificateAt packet 0) .number
+
+abbrev pub CertificateCheckShown : Type 0
+CertificateCheckShown = (stakes packet : List ℕ) (a : CheckAnswer) → a ≡ checkCertificate stakes packet → ChecksAs stakes packet a
+
+abbrev pub ProofCheckShown : Type 0
+ProofCheckShown = (stakes packet : List ℕ) (a : CheckAnswer) → a ≡ checkProof stakes packet → ChecksAs stakes packet a

@@ -1,0 +1,73 @@
+-- "A refusal leaves the node, the outbox and every lent buffer unchanged": for each public operation and each function of the face. What is
+-- lent without `mut` (start's stakes, a writer's record, a checker's stakes and packet) no operation can change: for the two checkers there is
+-- nothing else.
+use mathlib.Core.Path.{_≡_}
+use mathlib.Core.List.{List, [], _∷_}
+use Prim.Native.Nat.{ℕ}
+use lib.ListN.{length}
+use Rattle.rulebook.specs.declared.CertificateKind.{CertificateKind}
+use Rattle.rulebook.specs.declared.CheckAnswer.{CheckAnswer}
+use Rattle.rulebook.specs.declared.Input.{Input}
+use Rattle.rulebook.specs.declared.Refusal.{Refusal}
+use Rattle.rulebook.specs.declared.StartAnswer.the-variants as start
+use Rattle.rulebook.specs.declared.StepAnswer.the-variants as step
+use Rattle.rulebook.specs.declared.WriteAnswer.the-variants as write
+use Rattle.soundness.specs.Starting.{StartOf}
+use Rattle.node.specs.Stepping.{StepOf}
+use Rattle.writers.specs.Writing.{certificateOn, proofOn, Writes}
+use Rattle.quointrowel.specs.Face.{Started, Stepped, Wrote, Checked}
+
+-- ---- the public operations
+
+-- A refused start leaves the record as found.
+abbrev pub StartRefused : Type 0
+StartRefused =
+    (ws stakes : List ℕ) (own genesis : ℕ) (r : Refusal) (left : List ℕ) → StartOf ws stakes own genesis (start.Refused r) left → left ≡ ws
+
+-- A refused vote, block, timeout or look leaves the record and the outbox as found.
+abbrev pub StepRefused : Type 0
+StepRefused =
+    (ws out : List ℕ) (i : Input) (r : Refusal) (ws' left : List ℕ) → StepOf ws out i (step.Refused r) ws' left → (ws' ≡ ws) × (left ≡ out)
+
+-- A refused certificate leaves the buffer as found.
+abbrev pub CertificateRefused : Type 0
+CertificateRefused =
+    (ws buffer : List ℕ) (k : CertificateKind) (s b : ℕ) (r : Refusal) (after : List ℕ)
+    → Writes (certificateOn ws (length buffer) k s b) buffer (write.Refused r) after → after ≡ buffer
+
+-- A refused proof likewise.
+abbrev pub ProofRefused : Type 0
+ProofRefused =
+    (ws buffer : List ℕ) (s b : ℕ) (r : Refusal) (after : List ℕ)
+    → Writes (proofOn ws (length buffer) s b) buffer (write.Refused r) after → after ≡ buffer
+
+-- ---- the face: a number that is not 0, and zeros in the places lent for the values beside it
+
+-- qr_start.
+abbrev pub FaceStartRefused : Type 0
+FaceStartRefused =
+    (ws stakes : List ℕ) (own genesis number : ℕ) (left : List ℕ) → Started ws stakes own genesis number left → ¬ (number ≡ 0) → left ≡ ws
+
+-- qr_vote, qr_block, qr_timeout, qr_look: 0 records made.
+abbrev pub FaceStepRefused : Type 0
+FaceStepRefused =
+    (ws out : List ℕ) (i : Input) (number made : ℕ) (ws' left : List ℕ) → Stepped ws out i number made ws' left → ¬ (number ≡ 0)
+    → (made ≡ 0) × (ws' ≡ ws) × (left ≡ out)
+
+-- qr_write_certificate: 0 bytes written.
+abbrev pub FaceCertificateRefused : Type 0
+FaceCertificateRefused =
+    (ws buffer : List ℕ) (k : CertificateKind) (s b number written : ℕ) (after : List ℕ)
+    → Wrote (certificateOn ws (length buffer) k s b) buffer number written after → ¬ (number ≡ 0) → (written ≡ 0) × (after ≡ buffer)
+
+-- qr_write_proof: 0 bytes written.
+abbrev pub FaceProofRefused : Type 0
+FaceProofRefused =
+    (ws buffer : List ℕ) (s b number written : ℕ) (after : List ℕ) → Wrote (proofOn ws (length buffer) s b) buffer number written after
+    → ¬ (number ≡ 0) → (written ≡ 0) × (after ≡ buffer)
+
+-- qr_check_certificate, qr_check_proof: five zeros.
+abbrev pub FaceCheckRefused : Type 0
+FaceCheckRefused =
+    (answer : CheckAnswer) (number : ℕ) (values : List ℕ) → Checked answer number values → ¬ (number ≡ 0)
+    → values ≡ 0 ∷ 0 ∷ 0 ∷ 0 ∷ 0 ∷ []
