@@ -32,7 +32,7 @@ use Rattle.soundness.specs.Sound.{soundWords}
 use Rattle.soundness.specs.Starting.{startJudged, startAnswer, startLeft}
 use Rattle.node.specs.Stepping.{Leaves, spelled, asFound, asFed, stepLeaves}
 use Rattle.writers.specs.Writing.{unsound, certificateOn, proofOn, Writes}
-use Rattle.quointrowel.specs.Face.{Beside}
+use Rattle.answers.specs.Face.{Beside}
 use Rattle.promises.specs.Refusals.{StartRefused, StepRefused, CertificateRefused, ProofRefused, FaceStartRefused, FaceStepRefused, FaceCertificateRefused, FaceProofRefused, FaceCheckRefused}
 use Rattle.promises.proofs.Numbered.{start-refusal, step-refusal, write-refusal, check-refusal}
 

@@ -15,7 +15,7 @@ use Rattle.rulebook.specs.declared.WriteAnswer.the-variants as write
 use Rattle.soundness.specs.Starting.{StartOf}
 use Rattle.node.specs.Stepping.{StepOf}
 use Rattle.writers.specs.Writing.{certificateOn, proofOn, Writes}
-use Rattle.quointrowel.specs.Face.{Started, Stepped, Wrote, Checked}
+use Rattle.answers.specs.Face.{Started, Stepped, Wrote, Checked}
 
 -- ---- the public operations
 

@@ -4,7 +4,7 @@ use mathlib.Core.List.{List}
 use Prim.Native.Nat.{ℕ}
 use Rattle.rulebook.specs.Checker.{checkCertificate, checkProof}
 use Rattle.packets.specs.Promises.{Bytes, parts}
-use Rattle.quointrowel.specs.Face.{Checked}
+use Rattle.answers.specs.Face.{Checked}
 
 -- The face accepted the packet: qr_check_certificate answered 0, or qr_check_proof did.
 pub data FaceAccepted (stakes packet : List ℕ) : Type 0 where
