@@ -6,7 +6,7 @@ use Prim.Native.Nat.{ℕ}
 use native.Mathlib.Omega.{arith}
 use lib.ListN.{length, replicate, length-reverse}
 use lib.Dec.{eqb, ltb}
-use borrow.Author.Tests.{eqb-true, eq-eqb, ltb-true, ltb-false}
+use borrow.Author.Tests.{eqb-true, eq-eqb, ne-eqb, le-ltb, lt-leb, ltb-true, ltb-false}
 use Rattle.rulebook.specs.declared.Accepted.{Accepted}
 use Rattle.rulebook.specs.declared.Certificate.{Certificate}
 use Rattle.rulebook.specs.declared.CheckAnswer.{CheckAnswer}
@@ -14,16 +14,20 @@ use Rattle.rulebook.specs.declared.CheckAnswer.the-variants as check
 use Rattle.rulebook.specs.declared.Found.{Found}
 use Rattle.rulebook.specs.declared.Found.the-variants as found
 use Rattle.rulebook.specs.declared.Input.{Input}
+use Rattle.rulebook.specs.declared.Input.the-variants as input
+use Rattle.rulebook.specs.declared.Place.{Place}
 use Rattle.rulebook.specs.declared.Place.the-variants as place
 use Rattle.rulebook.specs.declared.Refusal.{Refusal}
 use Rattle.rulebook.specs.declared.Refusal.the-variants as refusal
 use Rattle.rulebook.specs.declared.Verdict.{Verdict}
 use Rattle.rulebook.specs.declared.Verdict.the-variants.{Fine, Refused}
+use Rattle.rulebook.specs.declared.Vote.{Vote}
 use Rattle.rulebook.specs.Tools.{choose}
-use Rattle.rulebook.specs.PaperNumbers.{certificateKind, certificateNumber, verdictNumber, placeNumber, foundPanel, startPanel, stepPanel, writePanel, checkPanel, refusalNumber}
-use Rattle.rulebook.specs.Ledger.{Ledger}
+use Rattle.rulebook.specs.PaperNumbers.{Panel, certificateKind, certificateNumber, verdictNumber, placeNumber, foundPanel, startPanel, stepPanel, writePanel, checkPanel, refusalNumber}
+use Rattle.rulebook.specs.Ledger.{Ledger, cellAt}
+use Rattle.rulebook.specs.Votes.{placeOf}
 use Rattle.rulebook.specs.Run.{run}
-use Rattle.rulebook.specs.Inputs.{Fed, refuseIf, placeVerdict, verdict, intake, fedWith, refusedWith, fedOn, feed}
+use Rattle.rulebook.specs.Inputs.{Fed, refuseIf, placeVerdict, voteVerdict, verdict, intake, fedWith, refusedWith, fedOn, feed}
 use Rattle.rulebook.specs.WellFormed.{wellFormed, outboxWords, step}
 use Rattle.rulebook.specs.Packets.{certificateAt, certificateBytes}
 use Rattle.rulebook.specs.Checker.{One, bad, isOtherKind, judgeKind, judge, acceptedOf, oneOf, oneAt, singleOf, checkCertificate, proofOf, checkProof}
@@ -38,7 +42,7 @@ use Rattle.soundness.specs.Starting.{startJudged, startAnswer}
 use Rattle.soundness.proofs.Laws.{sound-long, sound-formed}
 use Rattle.node.specs.Stepping.{Leaves, stepLeaves}
 use Rattle.writers.specs.Writing.{unsound, certificateOn, proofOn}
-use Rattle.promises.specs.Panels.{besideIt, shown, soundFirst, stepJudged, checkVerdict, toldOf, StartShown, StepShown, PlaceShown, CertificateShown, ProofShown, CertificateCheckShown, ProofCheckShown}
+use Rattle.promises.specs.Panels.{besideIt, shown, soundFirst, stepJudged, VotePassed, checkVerdict, toldOf, StartShown, StepShown, PlaceShown, CertificateShown, ProofShown, CertificateCheckShown, ProofCheckShown}
 
 -- ---- start
 
@@ -117,11 +121,32 @@ module _ (ws out : List ℕ) (i : Input) where
 pub step-shown : StepShown
 step-shown ws out i a ws' left h = ap stepPanel (h .answered) ∙ leaves-shown ws out i
 
-pub place-shown : PlaceShown
+-- A vote's place.
+place-number : (p : Place) → verdictNumber (placeVerdict p) ≡ placeNumber p
 unfolding placeNumber verdictNumber placeVerdict refusalNumber
-place-shown place.Free = refl
-place-shown place.Same = refl
-place-shown place.Taken = refl
+place-number place.Free = refl
+place-number place.Same = refl
+place-number place.Taken = refl
+
+vote-judged : (ws out : List ℕ) (v : Vote) → VotePassed ws out v
+    → stepJudged ws out (input.Vote v) ≡ placeVerdict (placeOf (cellAt (ledgerOf ws) (v .slot .0) (v .node .0)) (v .kind) (v .block))
+unfolding stepJudged soundFirst refuseIf verdict voteVerdict
+vote-judged ws out v h =
+    rw (
+      h .sound,
+      le-ltb (length out) outboxWords (h .room),
+      h .kind,
+      h .slot,
+      lt-leb (ledgerOf ws .count) (v .node .0) (h .node),
+      ne-eqb (v .node .0) (ledgerOf ws .own) (h .notOwn),
+      h .block,
+    )
+
+pub place-shown : PlaceShown
+unfolding shown
+place-shown ws out v a ws' left p h =
+    ap (λ (x : Panel). x .number) (step-shown ws out (input.Vote v) a ws' left h) ∙ ap verdictNumber (vote-judged ws out v p)
+    ∙ place-number (placeOf (cellAt (ledgerOf ws) (v .slot .0) (v .node .0)) (v .kind) (v .block))
 
 -- ---- the writers
 

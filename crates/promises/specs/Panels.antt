@@ -1,9 +1,9 @@
 -- "When an answer is an enum, a definition gives this paper's number and values for each case of that enum. The promises use that
 -- definition": what the panel shows of each public operation's answer.
 use mathlib.Core.Path.{_≡_}
-use mathlib.Core.Bool.{true, not}
+use mathlib.Core.Bool.{true, false, not}
 use mathlib.Core.List.{List, [], _∷_}
-use Prim.Native.Nat.{ℕ}
+use Prim.Native.Nat.{ℕ, _≤_, _<_}
 use lib.ListN.{length, replicate}
 use lib.Dec.{ltb}
 use Rattle.rulebook.specs.declared.CertificateKind.{CertificateKind}
@@ -12,16 +12,19 @@ use Rattle.rulebook.specs.declared.CheckAnswer.the-variants as check
 use Rattle.rulebook.specs.declared.Found.{Found}
 use Rattle.rulebook.specs.declared.Found.the-variants as found
 use Rattle.rulebook.specs.declared.Input.{Input}
-use Rattle.rulebook.specs.declared.Place.{Place}
+use Rattle.rulebook.specs.declared.Input.the-variants as input
 use Rattle.rulebook.specs.declared.Refusal.the-variants as refusal
 use Rattle.rulebook.specs.declared.StartAnswer.{StartAnswer}
 use Rattle.rulebook.specs.declared.StepAnswer.{StepAnswer}
 use Rattle.rulebook.specs.declared.Verdict.{Verdict}
 use Rattle.rulebook.specs.declared.Verdict.the-variants.{Fine, Refused}
+use Rattle.rulebook.specs.declared.Vote.{Vote}
 use Rattle.rulebook.specs.declared.WriteAnswer.{WriteAnswer}
 use Rattle.rulebook.specs.PaperNumbers.{Panel, verdictNumber, placeNumber, foundPanel, startPanel, stepPanel, writePanel, checkPanel}
-use Rattle.rulebook.specs.Weights.{stakesFit}
-use Rattle.rulebook.specs.Inputs.{refuseIf, placeVerdict, verdict, feed}
+use Rattle.rulebook.specs.Weights.{slotOk, stakesFit}
+use Rattle.rulebook.specs.Ledger.{cellAt}
+use Rattle.rulebook.specs.Votes.{placeOf}
+use Rattle.rulebook.specs.Inputs.{refuseIf, isOther, misfits, verdict, feed}
 use Rattle.rulebook.specs.WellFormed.{outboxWords}
 use Rattle.rulebook.specs.Packets.{certificateAt, certificateBytes, countOf}
 use Rattle.rulebook.specs.Checker.{signed, signedWeight, checkCertificate, checkProof}
@@ -61,9 +64,21 @@ StepShown =
     (ws out : List ℕ) (i : Input) (a : StepAnswer) (ws' left : List ℕ) → StepOf ws out i a ws' left
     → stepPanel a ≡ shown (stepJudged ws out i) (length (feed (ledgerOf ws) i .records) ∷ [])
 
--- 7 and 8 among them are what a vote finds at its place.
+-- A vote to which none of 17, 9, 4, 3, 2, 6, 5 is due.
+pub record VotePassed (ws out : List ℕ) (v : Vote) : Type 0 where
+  pub sound : soundWords ws ≡ true
+  pub room : outboxWords ≤ length out
+  pub kind : isOther (v .kind) ≡ false
+  pub slot : slotOk (v .slot .0) ≡ true
+  pub node : v .node .0 < ledgerOf ws .count
+  pub notOwn : ¬ (v .node .0 ≡ ledgerOf ws .own)
+  pub block : misfits (v .kind) (v .block) ≡ false
+
+-- It is answered by what it finds at its place: 7 where "that very vote .. is already kept", 8 where "another stands in its place", else 0.
 abbrev pub PlaceShown : Type 0
-PlaceShown = (p : Place) → placeNumber p ≡ verdictNumber (placeVerdict p)
+PlaceShown =
+    (ws out : List ℕ) (v : Vote) (a : StepAnswer) (ws' left : List ℕ) → VotePassed ws out v → StepOf ws out (input.Vote v) a ws' left
+    → stepPanel a .number ≡ placeNumber (placeOf (cellAt (ledgerOf ws) (v .slot .0) (v .node .0)) (v .kind) (v .block))
 
 -- "Writers: 17, 9, 4, 3, 5, 18": a writer answers the number of its bytes.
 abbrev pub CertificateShown : Type 0
