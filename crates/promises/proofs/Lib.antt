@@ -2,5 +2,6 @@
 pub mod Numbered
 pub mod Refused
 pub mod Shown
+pub mod ShownChecks
 pub mod Spelled
 pub mod Held

@@ -1,14 +1,15 @@
 -- "When an answer is an enum, a definition gives this paper's number and values for each case of that enum. The promises use that
 -- definition": what the panel shows of each public operation's answer.
 use mathlib.Core.Path.{_≡_}
-use mathlib.Core.Bool.{true, false, not}
+use mathlib.Core.Bool.{true, false, not, _&&_}
 use mathlib.Core.List.{List, [], _∷_}
 use Prim.Native.Nat.{ℕ, _≤_, _<_}
 use lib.ListN.{length, replicate}
-use lib.Dec.{ltb}
+use lib.Dec.{eqb, ltb}
+use Rattle.rulebook.specs.declared.Certificate.{Certificate}
 use Rattle.rulebook.specs.declared.CertificateKind.{CertificateKind}
+use Rattle.rulebook.specs.declared.CertificateKind.the-variants as certificate
 use Rattle.rulebook.specs.declared.CheckAnswer.{CheckAnswer}
-use Rattle.rulebook.specs.declared.CheckAnswer.the-variants as check
 use Rattle.rulebook.specs.declared.Found.{Found}
 use Rattle.rulebook.specs.declared.Found.the-variants as found
 use Rattle.rulebook.specs.declared.Input.{Input}
@@ -20,14 +21,14 @@ use Rattle.rulebook.specs.declared.Verdict.{Verdict}
 use Rattle.rulebook.specs.declared.Verdict.the-variants.{Fine, Refused}
 use Rattle.rulebook.specs.declared.Vote.{Vote}
 use Rattle.rulebook.specs.declared.WriteAnswer.{WriteAnswer}
-use Rattle.rulebook.specs.PaperNumbers.{Panel, verdictNumber, placeNumber, foundPanel, startPanel, stepPanel, writePanel, checkPanel}
+use Rattle.rulebook.specs.PaperNumbers.{Panel, certificateKind, verdictNumber, placeNumber, foundPanel, startPanel, stepPanel, writePanel, checkPanel}
 use Rattle.rulebook.specs.Weights.{slotOk, stakesFit}
 use Rattle.rulebook.specs.Ledger.{cellAt}
 use Rattle.rulebook.specs.Votes.{placeOf}
 use Rattle.rulebook.specs.Inputs.{refuseIf, isOther, misfits, verdict, feed}
 use Rattle.rulebook.specs.WellFormed.{outboxWords}
 use Rattle.rulebook.specs.Packets.{certificateAt, certificateBytes, countOf}
-use Rattle.rulebook.specs.Checker.{signed, signedWeight, checkCertificate, checkProof}
+use Rattle.rulebook.specs.Checker.{signed, signedWeight, judge, checkCertificate, checkProof}
 use Rattle.rulebook.specs.Writers.{certificateFor, certificateVerdict, proofVerdict, proofBytes}
 use Rattle.record.specs.Layout.{ledgerOf}
 use Rattle.soundness.specs.Sound.{soundWords}
@@ -93,10 +94,48 @@ ProofShown =
     (ws buffer : List ℕ) (s b : ℕ) (a : WriteAnswer) (after : List ℕ) → Writes (proofOn ws (length buffer) s b) buffer a after
     → writePanel a ≡ shown (soundFirst ws (proofVerdict (ledgerOf ws) (length buffer) s b)) (length (proofBytes (ledgerOf ws) s b) ∷ [])
 
--- Whether a check refused, and with what.
-unfoldable pub checkVerdict : CheckAnswer → Verdict
-checkVerdict (check.Accepted a) = Fine
-checkVerdict (check.Refused r) = Refused r
+-- The first refusal, else the later verdict.
+unfoldable pub elseThen : Verdict → Verdict → Verdict
+elseThen Fine v = v
+elseThen (Refused r) v = Refused r
+
+-- "per certificate 12 and 13 as met, 4, 3, 5, 14, 15", and then what is asked of the certificate and of the place after it.
+unfoldable pub wholeThen : List ℕ → Found → (Certificate → ℕ → Verdict) → Verdict
+wholeThen stakes (found.Whole c next) f = elseThen (judge stakes c) (f c next)
+wholeThen stakes found.Early f = Refused refusal.BadLength
+wholeThen stakes found.Malformed f = Refused refusal.BadNumber
+
+-- "leftover bytes last".
+unfoldable pub nothingAfter : List ℕ → ℕ → Verdict
+nothingAfter packet next = refuseIf (ltb next (length packet)) refusal.BadLength Fine
+
+-- "Checker: 1; then ..".
+unfoldable pub certificateChecked : List ℕ → List ℕ → Verdict
+certificateChecked stakes packet =
+    refuseIf (not (stakesFit stakes (length stakes))) refusal.BadSizes
+    (wholeThen stakes (certificateAt packet 0) (λ c next. nothingAfter packet next))
+
+-- "16 if its kind is not 1 or 2": what follows a first certificate of kind 1, and of kind 2.
+unfoldable pub firstThen : CertificateKind → Verdict → Verdict → Verdict
+firstThen certificate.FastFinal v w = v
+firstThen certificate.Notar v w = w
+firstThen certificate.NotarFallback v w = Refused refusal.NotAProof
+firstThen certificate.Skip v w = Refused refusal.NotAProof
+firstThen certificate.Final v w = Refused refusal.NotAProof
+firstThen certificate.Other v w = Refused refusal.NotAProof
+
+-- "for kind 2 the second whole, then 16 if not kind 5 of that slot".
+unfoldable pub secondChecked : List ℕ → List ℕ → Certificate → ℕ → Verdict
+secondChecked stakes packet c next =
+    wholeThen stakes (certificateAt packet next)
+    (λ d end. refuseIf (not (eqb (d .kind) 5 && eqb (d .slot) (c .slot))) refusal.NotAProof (nothingAfter packet end))
+
+-- "Proof: first certificate whole; ..".
+unfoldable pub proofChecked : List ℕ → List ℕ → Verdict
+proofChecked stakes packet =
+    refuseIf (not (stakesFit stakes (length stakes))) refusal.BadSizes
+    (wholeThen stakes (certificateAt packet 0)
+    (λ c next. firstThen (certificateKind (c .kind)) (nothingAfter packet next) (secondChecked stakes packet c next)))
 
 -- "kind, slot, block, signer count and weight", as they stand in the certificate that was read and as its masks have them.
 unfoldable pub toldOf : List ℕ → Found → List ℕ
@@ -106,13 +145,15 @@ toldOf stakes found.Malformed = replicate 5 0
 
 -- "An accepted check answers kind, slot, block, signer count and weight (for a proof: those of its first certificate). A refusal gives
 -- zeros there"; where the first certificate cannot be read, the number is that of reading it, 12 or 13.
-pub record ChecksAs (stakes packet : List ℕ) (a : CheckAnswer) : Type 0 where
-  pub panel : checkPanel a ≡ shown (checkVerdict a) (toldOf stakes (certificateAt packet 0))
+pub record ChecksAs (stakes packet : List ℕ) (v : Verdict) (a : CheckAnswer) : Type 0 where
+  pub panel : checkPanel a ≡ shown v (toldOf stakes (certificateAt packet 0))
   pub unread : stakesFit stakes (length stakes) ≡ true → ¬ (foundPanel (certificateAt packet 0) .number ≡ 0)
       → checkPanel a .number ≡ foundPanel (certificateAt packet 0) .number
 
 abbrev pub CertificateCheckShown : Type 0
-CertificateCheckShown = (stakes packet : List ℕ) (a : CheckAnswer) → a ≡ checkCertificate stakes packet → ChecksAs stakes packet a
+CertificateCheckShown =
+    (stakes packet : List ℕ) (a : CheckAnswer) → a ≡ checkCertificate stakes packet → ChecksAs stakes packet (certificateChecked stakes packet) a
 
 abbrev pub ProofCheckShown : Type 0
-ProofCheckShown = (stakes packet : List ℕ) (a : CheckAnswer) → a ≡ checkProof stakes packet → ChecksAs stakes packet a
+ProofCheckShown =
+    (stakes packet : List ℕ) (a : CheckAnswer) → a ≡ checkProof stakes packet → ChecksAs stakes packet (proofChecked stakes packet) a
