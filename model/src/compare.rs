@@ -15,8 +15,15 @@ const LARGEST_BATCH: usize = 60;
 pub struct Task {
     pub seed: u64,
     pub count: u64,
-    pub seconds: Option<u64>,
+    pub limit: Option<Limit>,
     pub program: Vec<String>,
+}
+
+/// No batch begins after so many seconds; by then at least so many scripts
+/// must have been compared.
+pub struct Limit {
+    pub seconds: u64,
+    pub least: u64,
 }
 
 struct Batch {
@@ -33,13 +40,13 @@ struct Expected {
     command: String,
 }
 
-/// Answers whether all compared scripts agree.
+/// Answers whether all compared scripts agree, and are enough.
 pub fn compare(task: &Task) -> bool {
     let begun = Instant::now();
-    let deadline = task.seconds.map(|seconds| begun + Duration::from_secs(seconds));
+    let deadline = task.limit.as_ref().map(|limit| begun + Duration::from_secs(limit.seconds));
     let last = task.seed.saturating_add(task.count);
     let mut next = task.seed;
-    let (mut scripts, mut answers) = (0, 0);
+    let (mut scripts, mut answers) = (0u64, 0);
     while next < last && deadline.map_or(true, |d| Instant::now() < d) {
         let batch = fill_batch(next, last);
         next += batch.seeds.len() as u64;
@@ -50,11 +57,17 @@ pub fn compare(task: &Task) -> bool {
                 return false;
             }
         }
-        scripts += batch.seeds.len();
+        scripts += batch.seeds.len() as u64;
     }
     let seconds = begun.elapsed().as_secs_f64();
     println!("{scripts} scripts from seed {} agree, {answers} answer lines, {seconds:.1} s", task.seed);
-    true
+    match &task.limit {
+        Some(limit) if scripts < limit.least => {
+            println!("too few: at least {} scripts are to be compared", limit.least);
+            false
+        }
+        _ => true,
+    }
 }
 
 fn fill_batch(first: u64, last: u64) -> Batch {

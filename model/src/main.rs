@@ -18,7 +18,7 @@ use std::process::ExitCode;
 const USAGE: &str = "usage:
   model run                                 obeys the script on standard input
   model gen SEED                            prints the script of that seed
-  model compare SEED COUNT [SECONDS] -- PROGRAM [WORD..]
+  model compare SEED COUNT [SECONDS LEAST] -- PROGRAM [WORD..]
                                             runs PROGRAM beside the model
   model cover SEED COUNT                    counts what those scripts reach";
 
@@ -61,12 +61,15 @@ fn compare_task(words: &[&str]) -> Option<compare::Task> {
     if program.is_empty() {
         return None;
     }
-    let (seed, count, seconds) = match words[..bar] {
+    let (seed, count, limit) = match words[..bar] {
         [seed, count] => (seed, count, None),
-        [seed, count, seconds] => (seed, count, Some(seconds.parse().ok()?)),
+        [seed, count, seconds, least] => {
+            let limit = compare::Limit { seconds: seconds.parse().ok()?, least: least.parse().ok()? };
+            (seed, count, Some(limit))
+        }
         _ => return None,
     };
-    Some(compare::Task { seed: seed.parse().ok()?, count: count.parse().ok()?, seconds, program })
+    Some(compare::Task { seed: seed.parse().ok()?, count: count.parse().ok()?, limit, program })
 }
 
 fn run() -> io::Result<bool> {
