@@ -9,10 +9,10 @@ ghost use Rattle.rulebook.specs.Rules.{windowOpen, mayFinal, fallbackWeights, m
 ghost use Rattle.record.specs.Layout.{ledgerOf};
 ghost use Rattle.pool.specs.Weighing.{Weighing, Passed};
 ghost use Rattle.candidates.specs.Judging.{Windowed, Judging, isNew};
+use cells::has_fallback;
 use pool::counted_before;
 use pool::held;
 use pool::weigh;
-use record::has_fallback;
 use record::load_cell;
 use record::own_cell;
 use rulebook::Cell;

@@ -1,2 +1,2 @@
 -- What the contracts of the checker's inner functions cite beside the rule book.
-pub mod Told
+pub mod InPacket

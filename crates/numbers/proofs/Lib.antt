@@ -1,4 +1,3 @@
 -- Laws that the proofs of numbers cite.
 pub mod Turns
-pub mod Fell
 pub mod Stores

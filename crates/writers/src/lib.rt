@@ -74,12 +74,12 @@ fn lay_proof(rec: &[u64], buffer: &mut [u8], s: Slot, b: u64) -> usize
     let t = table(rec);
     if held(rec, t, CertificateKind::FastFinal, s, b) {
         let fast = certificate_for(rec, CertificateKind::FastFinal, s, b);
-        return numbers::write_certificate(buffer, 0, fast);
+        return five_numbers::write_certificate(buffer, 0, fast);
     }
     let notar = certificate_for(rec, CertificateKind::Notar, s, b);
     let last = certificate_for(rec, CertificateKind::Final, s, 0);
-    let next = numbers::write_certificate(buffer, 0, notar);
-    numbers::write_certificate(buffer, next, last)
+    let next = five_numbers::write_certificate(buffer, 0, notar);
+    five_numbers::write_certificate(buffer, next, last)
 }
 
 // Writes the certificate of a kind for a slot and a block, where it is held.
@@ -100,7 +100,7 @@ pub fn write_certificate(
         Verdict::Refused(r) => WriteAnswer::Refused(r),
         Verdict::Fine => {
             let c = certificate_for(rec, kind, slot, block);
-            WriteAnswer::Written(numbers::write_certificate(buffer, 0, c))
+            WriteAnswer::Written(five_numbers::write_certificate(buffer, 0, c))
         }
     }
 }

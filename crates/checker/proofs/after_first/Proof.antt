@@ -1,5 +1,5 @@
 -- By the kind of the first certificate.
-use Rattle.checker.specs.Told.{continued, followed}
+use Rattle.checker.specs.InPacket.{continued, followed}
 use mathlib.Core.Path.{ap, _∙_}
 use borrow.Author.Needs.{needs}
 use Rattle.checker.proofs.after_first.Statement.{statement}
@@ -7,7 +7,7 @@ use Rattle.checker.proofs.after_first.Tie as tie
 use Rattle.checker.proofs.after_first.Reads as reads
 use Rattle.checker.proofs.after_first.Lts as lts
 use Rattle.checker.proofs.finish.Reads as finish-reads
-use Rattle.checker.proofs.one_at.Reads as one-at-reads
+use Rattle.certificates.proofs.one_at.Reads as one-at-reads
 use Rattle.checker.proofs.second.Reads as second-reads
 
 enum-told : tie.Need-enum-told

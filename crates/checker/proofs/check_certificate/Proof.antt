@@ -1,6 +1,6 @@
 -- The table is made once; then by what is told of the certificate.
 use Rattle.checker.proofs.Laws.{made-sound, made-test, single-answer}
-use Rattle.checker.specs.Told.{alone}
+use Rattle.checker.specs.InPacket.{alone}
 use Rattle.rulebook.specs.Checker.{checkCertificate}
 use Rattle.rulebook.specs.Tools.{given}
 use borrow.Author.Tests.{not-true, not-false}
@@ -11,7 +11,7 @@ use Rattle.checker.proofs.check_certificate.Tie as tie
 use Rattle.checker.proofs.check_certificate.Reads as reads
 use Rattle.checker.proofs.check_certificate.Lts as lts
 use Rattle.checker.proofs.finish.Reads as finish-reads
-use Rattle.checker.proofs.one_at.Reads as one-at-reads
+use Rattle.certificates.proofs.one_at.Reads as one-at-reads
 use Rattle.stakes.proofs.make_table.Reads as make-table-reads
 
 make-table-requires : tie.Need-make-table-requires

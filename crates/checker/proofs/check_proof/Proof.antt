@@ -1,6 +1,6 @@
 -- The table is made once; then by what is told of the first certificate.
 use Rattle.checker.proofs.Laws.{made-sound, made-test, proof-answer}
-use Rattle.checker.specs.Told.{proven}
+use Rattle.checker.specs.InPacket.{proven}
 use Rattle.rulebook.specs.Checker.{checkProof}
 use Rattle.rulebook.specs.Tools.{given}
 use borrow.Author.Tests.{not-true, not-false}
@@ -11,7 +11,7 @@ use Rattle.checker.proofs.check_proof.Tie as tie
 use Rattle.checker.proofs.check_proof.Reads as reads
 use Rattle.checker.proofs.check_proof.Lts as lts
 use Rattle.checker.proofs.after_first.Reads as after-first-reads
-use Rattle.checker.proofs.one_at.Reads as one-at-reads
+use Rattle.certificates.proofs.one_at.Reads as one-at-reads
 use Rattle.stakes.proofs.make_table.Reads as make-table-reads
 
 make-table-requires : tie.Need-make-table-requires

@@ -1,6 +1,6 @@
 -- By the comparison of the place with the length.
 use borrow.Author.Tests.{lt-ltb, le-ltb}
-use Rattle.checker.specs.Told.{finished}
+use Rattle.checker.specs.InPacket.{finished}
 use Rattle.rulebook.specs.Tools.{given}
 use Rattle.checker.proofs.finish.Statement.{statement}
 use Rattle.checker.proofs.finish.Tie as tie

@@ -1,5 +1,5 @@
 -- Kind 5 alone.
-use Rattle.checker.specs.Told.{isFinalKind}
+use Rattle.checker.specs.InPacket.{isFinalKind}
 use borrow.Author.Needs.{needs}
 use Rattle.checker.proofs.is_final.Statement.{statement}
 use Rattle.checker.proofs.is_final.Tie as tie

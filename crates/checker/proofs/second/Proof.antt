@@ -1,5 +1,5 @@
 -- By what was told of the second certificate.
-use Rattle.checker.specs.Told.{followed}
+use Rattle.checker.specs.InPacket.{followed}
 use Rattle.rulebook.specs.Tools.{given}
 use mathlib.Core.Path.{sym}
 use borrow.Author.Needs.{needs}

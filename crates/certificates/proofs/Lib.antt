@@ -1,0 +1,2 @@
+-- Laws that the proofs of one certificate cite.
+pub mod Judged

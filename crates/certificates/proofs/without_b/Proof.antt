@@ -1,0 +1,66 @@
+-- Kinds 1, 2 and 5.
+use Rattle.rulebook.specs.Checker.{withoutB}
+use borrow.Author.Needs.{needs}
+use Rattle.certificates.proofs.without_b.Statement.{statement}
+use Rattle.certificates.proofs.without_b.Tie as tie
+use Rattle.certificates.proofs.without_b.Reads as reads
+use Rattle.certificates.proofs.without_b.Lts as lts
+
+enum-told : tie.Need-enum-told
+enum-told c = search needs
+
+enum-told-2 : tie.Need-enum-told-2
+enum-told-2 c = search needs
+
+enum-told-3 : tie.Need-enum-told-3
+enum-told-3 c = search needs
+
+enum-told-4 : tie.Need-enum-told-4
+enum-told-4 c = search needs
+
+enum-told-5 : tie.Need-enum-told-5
+enum-told-5 c = search needs
+
+enum-told-6 : tie.Need-enum-told-6
+enum-told-6 c = search needs
+
+returns : tie.Need-returns
+unfolding withoutB
+returns c = search needs
+
+returns-2 : tie.Need-returns-2
+unfolding withoutB
+returns-2 c = search needs
+
+returns-3 : tie.Need-returns-3
+unfolding withoutB
+returns-3 c = search needs
+
+returns-4 : tie.Need-returns-4
+unfolding withoutB
+returns-4 c = search needs
+
+returns-5 : tie.Need-returns-5
+unfolding withoutB
+returns-5 c = search needs
+
+returns-6 : tie.Need-returns-6
+unfolding withoutB
+returns-6 c = search needs
+
+pub without-b-spec : {M : Type 1} → statement M
+without-b-spec =
+    tie.close
+    (tie.spec
+    enum-told
+    enum-told-2
+    enum-told-3
+    enum-told-4
+    enum-told-5
+    enum-told-6
+    returns
+    returns-2
+    returns-3
+    returns-4
+    returns-5
+    returns-6)

@@ -1,0 +1,2 @@
+-- What the contracts of one certificate cite beside the rule book.
+pub mod Told

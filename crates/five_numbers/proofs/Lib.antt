@@ -1,0 +1,3 @@
+-- Laws that the proofs of five numbers cite.
+pub mod Fell
+pub mod Five

@@ -1,0 +1,2 @@
+-- What the contracts of five numbers cite beside the rule book.
+pub mod Failed
