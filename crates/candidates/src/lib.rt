@@ -1,21 +1,21 @@
-// The tests of rules C to F: what they ask of the own votes and of the weights, and the block that D and F act on. Nothing
-// is weighed where the cheap tests settle it.
+// The tests of rules D to F: what they ask of the weights, and the block that D and F act on. Nothing is weighed where the
+// cheap tests settle it.
 ghost use mathlib.Core.Path.{_≡_};
 ghost use Prim.Native.Nat.{max};
 ghost use Rattle.rulebook.specs.declared.Who.the-variants as who;
 ghost use Rattle.rulebook.specs.Tools.{lower, lowest, largest};
 ghost use Rattle.rulebook.specs.Pool.{weigh, names};
-ghost use Rattle.rulebook.specs.Rules.{windowOpen, mayFinal, fallbackWeights, mayFallback, fallsBack, fallbackBlock, skipWeights, maySkipFallback, isFinal};
+ghost use Rattle.rulebook.specs.Rules.{fallbackWeights, fallsBack, fallbackBlock, skipWeights, isFinal};
 ghost use Rattle.record.specs.Layout.{ledgerOf};
 ghost use Rattle.pool.specs.Weighing.{Weighing, Passed};
-ghost use Rattle.candidates.specs.Judging.{Windowed, Judging, isNew};
-use cells::has_fallback;
+ghost use Rattle.candidates.specs.Judging.{Judging, isNew};
+use own_votes::may_fallback;
+use own_votes::window_open;
 use pool::counted_before;
 use pool::held;
 use pool::weigh;
 use record::load_cell;
 use record::own_cell;
-use rulebook::Cell;
 use rulebook::CertificateKind;
 use rulebook::Node;
 use rulebook::Slot;
@@ -23,43 +23,6 @@ use rulebook::Threshold;
 use rulebook::Weight;
 use rulebook::Who;
 use stakes::StakeTable;
-
-// C: an own notar vote, no own fallback of either kind, no own final.
-pub fn may_final(c: Cell) -> bool
-    ensures { λ r. ⌜ r ≡ mayFinal c ⌝ }
-{
-    ((c.notar != 0) & (c.finalvote == 0)) & ((c.fallback1 == 0) & (c.skipfallback == 0))
-}
-
-// D: no own final, notar-fallback b not cast, and not three others.
-pub fn may_fallback(c: Cell, b: u64) -> bool
-    ensures { λ r. ⌜ r ≡ mayFallback c b ⌝ }
-{
-    let cast = has_fallback(b, c);
-    (c.finalvote == 0) & (!cast & (c.fallback3 == 0))
-}
-
-// E: no own final, skip-fallback not cast.
-pub fn may_skip_fallback(c: Cell) -> bool
-    ensures { λ r. ⌜ r ≡ maySkipFallback c ⌝ }
-{
-    (c.finalvote == 0) & (c.skipfallback == 0)
-}
-
-// Whether some slot of the window of s is without an own initial vote.
-pub fn window_open(rec: &[u64], s: Slot) -> bool
-    requires { ⌜ Windowed (now rec) (s .0) ⌝ }
-    ensures { λ r. ⌜ r ≡ windowOpen (ledgerOf (now (rec .entry))) (s .0) ⌝ }
-{
-    let first = (s.0 - 1) / 4 * 4 + 1;
-    for i in 0..4 {
-        let c = own_cell(rec, Slot(first + i));
-        if (c.notar == 0) & (c.skip == 0) {
-            return true;
-        }
-    }
-    false
-}
 
 // D's weights: notar(b) reaches 40, or notar(b) reaches 20 and skip + notar(b) reaches 60.
 pub fn fallback_weights(rec: &[u64], t: StakeTable, s: Slot, b: u64) -> bool

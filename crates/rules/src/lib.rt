@@ -10,7 +10,7 @@ ghost use Rattle.voter.specs.Voting.{Onward};
 ghost use Rattle.candidates.specs.Judging.{Judging};
 ghost use Rattle.fallbacks.specs.UnderWay.{UnderWayAt};
 use candidates::final_candidate;
-use candidates::may_final;
+use own_votes::may_final;
 use pool::held;
 use pool::ready;
 use pool::some_ready;

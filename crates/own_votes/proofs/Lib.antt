@@ -1,0 +1,2 @@
+-- Laws that the proofs of the own votes cite.
+pub mod WindowLaws
