@@ -4,6 +4,7 @@ use crate::answers::malformed;
 use crate::answers::number;
 use crate::answers::packet;
 use crate::answers::records;
+use hex::read_hex;
 use page::say;
 use quointrowel::qr_block;
 use quointrowel::qr_check_certificate;
@@ -14,7 +15,6 @@ use quointrowel::qr_timeout;
 use quointrowel::qr_vote;
 use quointrowel::qr_write_certificate;
 use quointrowel::qr_write_proof;
-use script::read_hex;
 use script::read_numbers;
 use script::word_at;
 

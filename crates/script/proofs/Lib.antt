@@ -1,5 +1,4 @@
 -- Laws that the proofs of the readers cite.
 pub mod Stretches
 pub mod Digits
-pub mod Pairs
 pub mod Reading

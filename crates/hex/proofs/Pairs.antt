@@ -10,7 +10,7 @@ use lib.Dec.{eqb, leb}
 use borrow.Author.Tests.{eq-eqb, ne-eqb, le-leb, lt-leb, leb-true}
 use Rattle.rulebook.specs.Tools.{allTo}
 use Rattle.rulebook.proofs.ToolLaws.{choose-on, choose-off, and-both, all-more, all-at}
-use Rattle.script.specs.Digits.{hexPair, isDash, pairsGood, spellsBytes, putPairs, Pairs, hex, hexOf, hexInto, HexIn}
+use Rattle.hex.specs.Bytes.{hexPair, isDash, pairsGood, spellsBytes, putPairs, Pairs, hex, hexOf, hexInto, HexIn}
 
 -- ---- a dash
 

@@ -1,8 +1,8 @@
 -- One byte, and that a dash.
-use Rattle.script.proofs.Pairs.{dash-other, dash-says}
+use Rattle.hex.proofs.Pairs.{dash-other, dash-says}
 use borrow.Author.Needs.{needs}
-use Rattle.script.proofs.is_dash.Statement.{statement}
-use Rattle.script.proofs.is_dash.Tie as tie
+use Rattle.hex.proofs.is_dash.Statement.{statement}
+use Rattle.hex.proofs.is_dash.Tie as tie
 
 returns : tie.Need-returns
 returns c =

@@ -1,9 +1,9 @@
 -- An even number of digits, room, and digits alone.
 use mathlib.Core.Path.{_∙_}
-use Rattle.script.proofs.Pairs.{bytes-odd, bytes-many, bytes-say}
+use Rattle.hex.proofs.Pairs.{bytes-odd, bytes-many, bytes-say}
 use borrow.Author.Needs.{needs}
-use Rattle.script.proofs.spells_bytes.Statement.{statement}
-use Rattle.script.proofs.spells_bytes.Tie as tie
+use Rattle.hex.proofs.spells_bytes.Statement.{statement}
+use Rattle.hex.proofs.spells_bytes.Tie as tie
 
 returns : tie.Need-returns
 returns c =

@@ -1,12 +1,12 @@
 -- Two digits below 16 make a byte.
 use Rattle.rulebook.proofs.ToolLaws.{choose-on, choose-off}
 use Rattle.script.proofs.Digits.{both-small}
-use Rattle.script.specs.Digits.{hexPair}
+use Rattle.hex.specs.Bytes.{hexPair}
 use mathlib.Core.Path.{sym}
 use native.Mathlib.Omega.{arith}
 use borrow.Author.Needs.{needs}
-use Rattle.script.proofs.hex_pair.Statement.{statement}
-use Rattle.script.proofs.hex_pair.Tie as tie
+use Rattle.hex.proofs.hex_pair.Statement.{statement}
+use Rattle.hex.proofs.hex_pair.Tie as tie
 
 mul-wide : tie.Need-mul-wide
 mul-wide c = search needs

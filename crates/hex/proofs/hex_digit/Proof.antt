@@ -1,12 +1,12 @@
 -- The three ranges of digits, first to last.
 use Rattle.rulebook.proofs.ToolLaws.{choose-on, choose-off}
 use Rattle.script.proofs.Digits.{digit-says, between}
-use Rattle.script.specs.Digits.{hexDigit}
+use Rattle.hex.specs.Bytes.{hexDigit}
 use mathlib.Core.Path.{_∙_, sym}
 use native.Mathlib.Omega.{arith}
 use borrow.Author.Needs.{needs}
-use Rattle.script.proofs.hex_digit.Statement.{statement}
-use Rattle.script.proofs.hex_digit.Tie as tie
+use Rattle.hex.proofs.hex_digit.Statement.{statement}
+use Rattle.hex.proofs.hex_digit.Tie as tie
 
 is-digit-requires : tie.Need-is-digit-requires
 is-digit-requires c κs = search needs

@@ -3,11 +3,11 @@ use mathlib.Core.Path.{_≡_, sym, ap, _∙_}
 use mathlib.Core.Bool.{true}
 use Prim.Native.Nat.{_-_, _≤_}
 use native.Mathlib.Omega.{arith}
-use Rattle.script.specs.Digits.{pairsGood}
-use Rattle.script.proofs.Pairs.{pairs-none, pairs-more, pairs-bad}
+use Rattle.hex.specs.Bytes.{pairsGood}
+use Rattle.hex.proofs.Pairs.{pairs-none, pairs-more, pairs-bad}
 use borrow.Author.Needs.{needs}
-use Rattle.script.proofs.all_pairs.Statement.{statement}
-use Rattle.script.proofs.all_pairs.Tie as tie
+use Rattle.hex.proofs.all_pairs.Statement.{statement}
+use Rattle.hex.proofs.all_pairs.Tie as tie
 
 abbrev Inv-loop : tie.InvT-loop
 Inv-loop word n i₀ i =

@@ -3,11 +3,11 @@ use mathlib.Core.Path.{_≡_, refl, sym, ap, _∙_}
 use Prim.Native.Nat.{ℕ, _-_, _≤_}
 use native.Mathlib.Omega.{arith}
 use lib.ListN.{length, length-set}
-use Rattle.script.specs.Digits.{putPairs}
-use Rattle.script.proofs.Pairs.{pair-at, put-none, put-more, put-end}
+use Rattle.hex.specs.Bytes.{putPairs}
+use Rattle.hex.proofs.Pairs.{pair-at, put-none, put-more, put-end}
 use borrow.Author.Needs.{needs}
-use Rattle.script.proofs.put_pairs.Statement.{statement}
-use Rattle.script.proofs.put_pairs.Tie as tie
+use Rattle.hex.proofs.put_pairs.Statement.{statement}
+use Rattle.hex.proofs.put_pairs.Tie as tie
 
 abbrev Inv-loop : tie.InvT-loop
 Inv-loop word n out₀ i₀ out i =

@@ -1,10 +1,10 @@
 -- A dash, a word that is not good, and one whose bytes are put.
 use mathlib.Core.Path.{_∙_, sym}
 use borrow.Author.Tests.{not-true, not-false}
-use Rattle.script.proofs.Pairs.{bytes-pairs, hex-dash, hex-bad, hex-good}
+use Rattle.hex.proofs.Pairs.{bytes-pairs, hex-dash, hex-bad, hex-good}
 use borrow.Author.Needs.{needs}
-use Rattle.script.proofs.read_hex.Statement.{statement}
-use Rattle.script.proofs.read_hex.Tie as tie
+use Rattle.hex.proofs.read_hex.Statement.{statement}
+use Rattle.hex.proofs.read_hex.Tie as tie
 
 is-dash-requires : tie.Need-is-dash-requires
 is-dash-requires c κs = search needs

@@ -1,0 +1,2 @@
+-- Laws that the proofs of hex cite.
+pub mod Pairs

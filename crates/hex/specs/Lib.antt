@@ -1,0 +1,2 @@
+-- What the readers of a packet cite.
+pub mod Bytes
