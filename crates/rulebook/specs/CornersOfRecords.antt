@@ -1,0 +1,83 @@
+-- Computed cases of 17: a record in range that has something in every place, and the same record with one place spoiled.
+use mathlib.Core.Bool.{Bool, true, false, not, _&&_}
+use mathlib.Core.List.{List, [], _∷_}
+use Prim.Native.Nat.{ℕ, _+_, _^_}
+use lib.ListN.{set, replicate}
+use lib.Dec.{T}
+use Rattle.rulebook.specs.declared.Cell.{Cell}
+use Rattle.rulebook.specs.declared.Block.{Block}
+use Rattle.rulebook.specs.declared.Input.{Input}
+use Rattle.rulebook.specs.PaperNumbers.{stepPanel}
+use Rattle.rulebook.specs.Ledger.{Ledger, Row, noBlock, rowAt, putRow, putCell, putKept, putTimedOut, putFinal}
+use Rattle.rulebook.specs.WellFormed.{wellFormed, step}
+use Rattle.rulebook.specs.Scripts.{vote, cell, ring, equal, all}
+use Rattle.rulebook.specs.Computes.{rules}
+
+abbrev blockOf : ℕ → ℕ → ℕ → Block
+blockOf n p a = record { number = n; parentslot = record { 0 = p }; parent = a }
+
+-- Two nodes of stakes 6 and 4. In range though odd: own votes and a timeout without an armed window, a final vote beside fallbacks, a
+-- fallback for the block of the notar vote, a final mark without certificates; the last slot is used too.
+abbrev odd : Ledger
+odd =
+    putCell (putFinal (putTimedOut (putKept (putKept (ring (6 ∷ 4 ∷ []) (cell 7 0 7 6 5 1 1 ∷ cell 0 1 5 0 0 0 0 ∷ [])) 1 (blockOf 7 0 1)) 16 (blockOf 7 15 3)) 9) 16 1) 16 1
+    (cell 0 0 8 9 0 1 0)
+
+-- A cell in the place of node n's in slot s.
+abbrev withCell : ℕ → ℕ → Cell → Bool
+withCell s n c = wellFormed (putCell odd s n c)
+
+-- The votes of a node: flags above 1, two initial votes, fallbacks not from the front, one of them twice.
+abbrev cells : Bool
+cells =
+    let fits = withCell 1 1 in
+    all (not (fits (cell 7 1 0 0 0 0 0)) ∷ not (fits (cell 0 2 0 0 0 0 0)) ∷ not (fits (cell 0 0 0 0 0 2 0)) ∷ not (fits (cell 0 0 0 0 0 0 2))
+    ∷ not (fits (cell 0 0 0 6 0 0 0)) ∷ not (fits (cell 0 0 0 0 6 0 0)) ∷ not (fits (cell 0 0 5 0 6 0 0))
+    ∷ not (fits (cell 0 0 5 5 0 0 0)) ∷ not (fits (cell 0 0 5 6 6 0 0)) ∷ not (fits (cell 0 0 5 6 5 0 0)) ∷ not (withCell 16 1 (cell 0 2 0 0 0 0 0)) ∷ [])
+
+-- The cell of no node, in slot s.
+abbrev blankOnly : ℕ → ℕ → Bool
+blankOnly s n =
+    all (not (withCell s n (cell 1 0 0 0 0 0 0)) ∷ not (withCell s n (cell 0 1 0 0 0 0 0)) ∷ not (withCell s n (cell 0 0 1 0 0 0 0)) ∷ not (withCell s n (cell 0 0 0 1 0 0 0))
+    ∷ not (withCell s n (cell 0 0 0 0 1 0 0)) ∷ not (withCell s n (cell 0 0 0 0 0 1 0)) ∷ not (withCell s n (cell 0 0 0 0 0 0 1)) ∷ [])
+
+-- Unused cells: the first and the last past the nodes, and those of row 0.
+abbrev unusedCells : Bool
+unusedCells = all (blankOnly 1 2 ∷ not (withCell 1 63 (cell 0 1 0 0 0 0 0)) ∷ blankOnly 0 0 ∷ not (withCell 0 63 (cell 0 1 0 0 0 0 0)) ∷ [])
+
+-- A kept block obeys 5 and 11; where none is kept its parent is 0 too.
+abbrev keptBlocks : Bool
+keptBlocks =
+    let fits : Block → Bool = (λ b. wellFormed (putKept odd 2 b)) in
+    all (not (fits (blockOf 7 1 0)) ∷ not (fits (blockOf 7 2 5)) ∷ not (fits (blockOf 7 3 5)) ∷ not (fits (blockOf 7 0 5)) ∷ not (fits (blockOf 0 1 0)) ∷ not (fits (blockOf 0 0 1)) ∷ [])
+
+-- A timeout mark above 1; row 0's words, each.
+abbrev marks : Bool
+marks =
+    let r = rowAt odd 2 in
+    all (not (wellFormed (putRow odd 2 (record { kept = r .kept; timedOut = 2; final = r .final; cells = r .cells }))) ∷ not (wellFormed (putTimedOut odd 0))
+    ∷ not (wellFormed (putFinal odd 0 7)) ∷ not (wellFormed (putKept odd 0 (blockOf 7 0 0))) ∷ not (wellFormed (putKept odd 0 (blockOf 0 1 0)))
+    ∷ not (wellFormed (putKept odd 0 (blockOf 0 0 1))) ∷ [])
+
+-- The record with another header.
+abbrev headed : ℕ → ℕ → ℕ → ℕ → List ℕ → List ℕ → Bool
+headed c t o g a w = wellFormed (record { count = c; total = t; own = o; genesis = g; armed = a; stakes = w; rows = odd .rows })
+
+-- Count, total, own number, genesis; each armed flag; a stake of 0, one past the count, a total above 2^48.
+abbrev heads : Bool
+heads =
+    let a = odd .armed in
+    let w = odd .stakes in
+    all (not (headed 0 0 0 1 a (replicate 64 0)) ∷ not (headed 3 10 0 1 a w) ∷ not (headed 1 6 0 1 a w) ∷ not (headed 2 9 0 1 a w) ∷ not (headed 2 11 0 1 a w)
+    ∷ not (headed 2 10 2 1 a w) ∷ not (headed 2 10 0 0 a w) ∷ not (headed 2 10 0 1 (set a 0 2) w) ∷ not (headed 2 10 0 1 (set a 1 2) w) ∷ not (headed 2 10 0 1 (set a 2 2) w)
+    ∷ not (headed 2 10 0 1 (set a 3 2) w) ∷ not (headed 2 6 0 1 a (set w 1 0)) ∷ not (headed 2 10 0 1 a (set w 63 1)) ∷ not (headed 2 (2 ^ 48 + 1) 0 1 a (set (set w 0 (2 ^ 48)) 1 1)) ∷ [])
+
+-- 17 before 9, 9 before all else; 383 words are too few, 384 are enough.
+abbrev stepOrder : Bool
+stepOrder =
+    let number : Ledger → ℕ → Input → ℕ = (λ l room i. stepPanel (step l room i .answer) .number) in
+    equal (number (putTimedOut odd 0) 0 (vote 9 0 0 0) ∷ number odd 383 (vote 9 0 0 0) ∷ number odd 384 (vote 9 0 0 0) ∷ []) (17 ∷ 9 ∷ 4 ∷ [])
+
+cornersOfRecords : T (all (cells ∷ unusedCells ∷ keptBlocks ∷ marks ∷ heads ∷ stepOrder ∷ []))
+unfolding rules
+cornersOfRecords = tt

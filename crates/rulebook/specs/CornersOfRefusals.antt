@@ -1,0 +1,86 @@
+-- Computed cases of the refusals: every number in its place in the order, and each of the ways in which an input earns it.
+use mathlib.Core.Bool.{Bool, true, false, _&&_}
+use mathlib.Core.List.{List, [], _∷_, _++_}
+use Prim.Native.Nat.{ℕ, _-_, _^_}
+use lib.ListN.{replicate}
+use lib.Dec.{T}
+use Rattle.rulebook.specs.PaperNumbers.{verdictNumber, writePanel, certificateKind}
+use Rattle.rulebook.specs.Ledger.{Ledger, noCell, putArmed, putTimedOut}
+use Rattle.rulebook.specs.Inputs.{startVerdict}
+use Rattle.rulebook.specs.Writers.{writeCertificate, writeProof, over}
+use Rattle.rulebook.specs.Scripts.{vote, block, timeout, look, answers, stored, cell, ring, equal, equals, all}
+use Rattle.rulebook.specs.Computes.{rules}
+
+-- Three nodes of stakes 8, 1, 1, the first window armed: nothing that nodes 1 and 2 say reaches any threshold.
+abbrev three : Ledger
+three = putArmed (ring (8 ∷ 1 ∷ 1 ∷ []) []) 1
+
+-- Each vote is wrong in every later way too, as far as one vote can be; 5 for each kind.
+abbrev voteOrder : Bool
+voteOrder =
+    equals (answers three (vote 0 99 17 0 ∷ vote 6 99 17 0 ∷ vote 1 99 17 0 ∷ vote 1 99 0 0 ∷ vote 1 3 1 0 ∷ vote 1 0 1 0
+    ∷ vote 1 1 1 0 ∷ vote 2 1 1 0 ∷ vote 3 1 1 5 ∷ vote 4 1 1 5 ∷ vote 5 1 1 5 ∷ []))
+    ((4 ∷ []) ∷ (4 ∷ []) ∷ (3 ∷ []) ∷ (3 ∷ []) ∷ (2 ∷ []) ∷ (6 ∷ []) ∷ (5 ∷ []) ∷ (5 ∷ []) ∷ (5 ∷ []) ∷ (5 ∷ []) ∷ (5 ∷ []) ∷ [])
+
+-- 7 before 8, in each place of a cell; the last slot has its places too.
+abbrev places : Bool
+places =
+    equals (answers three (vote 1 1 1 7 ∷ vote 1 1 1 7 ∷ vote 1 1 1 8 ∷ vote 3 1 1 0 ∷ vote 3 2 1 0 ∷ vote 3 2 1 0 ∷ vote 1 2 1 7
+    ∷ vote 2 1 1 7 ∷ vote 2 1 1 22 ∷ vote 2 1 1 23 ∷ vote 2 1 1 22 ∷ vote 2 1 1 24
+    ∷ vote 4 1 1 0 ∷ vote 4 1 1 0 ∷ vote 5 1 16 0 ∷ vote 5 1 16 0 ∷ []))
+    ((0 ∷ []) ∷ (7 ∷ []) ∷ (8 ∷ []) ∷ (8 ∷ []) ∷ (0 ∷ []) ∷ (7 ∷ []) ∷ (8 ∷ []) ∷ (0 ∷ []) ∷ (0 ∷ []) ∷ (0 ∷ []) ∷ (7 ∷ []) ∷ (8 ∷ [])
+    ∷ (0 ∷ []) ∷ (7 ∷ []) ∷ (0 ∷ []) ∷ (7 ∷ []) ∷ [])
+
+-- 11 for a parent in the slot itself, above it, or in slot 0 with another number than genesis, also where that very block is kept;
+-- 7 needs number, parent's slot and parent equal.
+abbrev blockOrder : Bool
+blockOrder =
+    equals (answers (stored three (block 2 8 0 7 ∷ block 3 9 1 7 ∷ [])) (block 17 0 18 0 ∷ block 0 0 18 0 ∷ block 2 0 2 0 ∷ block 2 8 2 0 ∷ block 2 8 2 7
+    ∷ block 2 8 3 7 ∷ block 2 8 0 7 ∷ block 3 9 1 7 ∷ block 3 9 1 6 ∷ block 3 9 2 7 ∷ block 3 8 1 7 ∷ []))
+    ((3 ∷ []) ∷ (3 ∷ []) ∷ (5 ∷ []) ∷ (5 ∷ []) ∷ (11 ∷ []) ∷ (11 ∷ []) ∷ (11 ∷ []) ∷ (7 ∷ []) ∷ (8 ∷ []) ∷ (8 ∷ []) ∷ (8 ∷ []) ∷ [])
+
+abbrev timeoutOrder : Bool
+timeoutOrder =
+    equals (answers (putTimedOut (putTimedOut three 5) 1) (timeout 17 ∷ timeout 0 ∷ timeout 5 ∷ timeout 1 ∷ []))
+    ((3 ∷ []) ∷ (3 ∷ []) ∷ (10 ∷ []) ∷ (7 ∷ []) ∷ [])
+
+-- A refused input runs no rule: the window is armed by the look after it.
+abbrev noRuleRun : Bool
+noRuleRun = equals (answers (ring (8 ∷ 1 ∷ 1 ∷ []) []) (vote 9 1 1 0 ∷ timeout 1 ∷ look ∷ [])) ((4 ∷ []) ∷ (10 ∷ []) ∷ (0 ∷ 7 ∷ 1 ∷ 0 ∷ []) ∷ [])
+
+-- 1: no node, more than 64, a stake of 0, a total above 2^48, an own number past the table, genesis 0.
+abbrev starts : Bool
+starts =
+    equal (verdictNumber (startVerdict [] 0 1) ∷ verdictNumber (startVerdict (replicate 65 1) 0 1) ∷ verdictNumber (startVerdict (replicate 64 1) 63 1)
+    ∷ verdictNumber (startVerdict (1 ∷ 0 ∷ []) 0 1) ∷ verdictNumber (startVerdict ((2 ^ 48) ∷ 1 ∷ []) 0 1) ∷ verdictNumber (startVerdict ((2 ^ 48 - 1) ∷ 1 ∷ []) 0 1)
+    ∷ verdictNumber (startVerdict (1 ∷ []) 1 1) ∷ verdictNumber (startVerdict (1 ∷ []) 0 0) ∷ [])
+    (1 ∷ 1 ∷ 0 ∷ 1 ∷ 1 ∷ 0 ∷ 1 ∷ 1 ∷ [])
+
+-- ---- the writers
+
+-- In slot 1 block 7 has 80 percent of notar votes and kinds 1, 2, 3 and 5 are held; kind 4 is not.
+abbrev voted : Ledger
+voted = ring (6 ∷ 2 ∷ 2 ∷ []) (cell 7 0 0 0 0 0 1 ∷ cell 7 0 7 0 0 0 0 ∷ cell 0 1 7 0 0 1 0 ∷ [])
+
+abbrev writerOrder : Bool
+writerOrder =
+    let certificate : ℕ → ℕ → ℕ → ℕ → ℕ = (λ room k s b. writePanel (writeCertificate voted room (certificateKind k) s b .answer) .number) in
+    let proof : ℕ → ℕ → ℕ → ℕ = (λ room s b. writePanel (writeProof voted room s b .answer) .number) in
+    equal (certificate 31 9 0 0 ∷ certificate 32 9 0 0 ∷ certificate 32 1 0 0 ∷ certificate 32 1 17 0 ∷ certificate 32 1 1 0 ∷ certificate 32 2 1 0 ∷ certificate 32 3 1 0
+    ∷ certificate 32 4 1 7 ∷ certificate 32 5 1 7 ∷ certificate 32 1 1 8 ∷ certificate 32 4 1 0 ∷ certificate 32 1 1 7 ∷ certificate 32 2 1 7 ∷ certificate 32 3 1 7
+    ∷ certificate 32 5 1 0 ∷ proof 63 0 0 ∷ proof 64 0 0 ∷ proof 64 1 0 ∷ proof 64 1 8 ∷ proof 64 1 7 ∷ [])
+    (9 ∷ 4 ∷ 3 ∷ 3 ∷ 5 ∷ 5 ∷ 5 ∷ 5 ∷ 5 ∷ 18 ∷ 18 ∷ 0 ∷ 0 ∷ 0 ∷ 0 ∷ 9 ∷ 3 ∷ 5 ∷ 18 ∷ 0 ∷ [])
+
+-- All stored signers, a node with both votes in mask A alone; a refused writer writes nothing; bytes past a packet stay.
+abbrev written : Bool
+written =
+    let certificate : ℕ → ℕ → List ℕ = (λ k b. writeCertificate voted 32 (certificateKind k) 1 b .bytes) in
+    let skipped = ring (3 ∷ 3 ∷ 4 ∷ []) (cell 0 1 0 0 0 1 0 ∷ cell 7 0 0 0 0 1 1 ∷ cell 7 0 0 0 0 0 1 ∷ []) in
+    equals (certificate 1 7 ∷ certificate 2 7 ∷ certificate 3 7 ∷ certificate 5 0 ∷ certificate 4 0 ∷ writeProof voted 64 1 7 .bytes ∷ writeProof voted 63 1 7 .bytes
+    ∷ writeCertificate skipped 32 (certificateKind 4) 1 0 .bytes ∷ writeProof skipped 64 1 7 .bytes ∷ over (1 ∷ 2 ∷ []) (6 ∷ 7 ∷ 8 ∷ 9 ∷ []) ∷ over [] (6 ∷ 7 ∷ []) ∷ [])
+    ((1 ∷ 1 ∷ 7 ∷ 3 ∷ 0 ∷ []) ∷ (2 ∷ 1 ∷ 7 ∷ 3 ∷ 0 ∷ []) ∷ (3 ∷ 1 ∷ 7 ∷ 3 ∷ 4 ∷ []) ∷ (5 ∷ 1 ∷ 0 ∷ 1 ∷ 0 ∷ []) ∷ [] ∷ (1 ∷ 1 ∷ 7 ∷ 3 ∷ 0 ∷ []) ∷ []
+    ∷ (4 ∷ 1 ∷ 0 ∷ 1 ∷ 2 ∷ []) ∷ (2 ∷ 1 ∷ 7 ∷ 6 ∷ 0 ∷ 5 ∷ 1 ∷ 0 ∷ 6 ∷ 0 ∷ []) ∷ (1 ∷ 2 ∷ 8 ∷ 9 ∷ []) ∷ (6 ∷ 7 ∷ []) ∷ [])
+
+cornersOfRefusals : T (all (voteOrder ∷ places ∷ blockOrder ∷ timeoutOrder ∷ noRuleRun ∷ starts ∷ writerOrder ∷ written ∷ []))
+unfolding rules
+cornersOfRefusals = tt

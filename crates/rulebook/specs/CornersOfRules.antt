@@ -1,0 +1,239 @@
+-- Computed cases of the voting rules, where B1 to B10 cannot tell two rule books apart.
+use mathlib.Core.Bool.{Bool, true, false, not, _&&_}
+use mathlib.Core.List.{List, [], _∷_, _++_}
+use Prim.Native.Nat.{ℕ, _-_}
+use lib.Dec.{T}
+use Rattle.rulebook.specs.declared.Cell.{Cell}
+use Rattle.rulebook.specs.declared.Input.{Input}
+use Rattle.rulebook.specs.declared.CertificateKind.{CertificateKind}
+use Rattle.rulebook.specs.declared.CertificateKind.the-variants as certificate
+use Rattle.rulebook.specs.Tools.{choose}
+use Rattle.rulebook.specs.Weights.{isFirst, windowOf, firstOf}
+use Rattle.rulebook.specs.Ledger.{Ledger, noCell, putArmed, putFinal}
+use Rattle.rulebook.specs.Pool.{held, ready}
+use Rattle.rulebook.specs.Scripts.{vote, block, timeout, look, votes, answers, stored, told, cell, ring, equal, equals, all}
+use Rattle.rulebook.specs.Bench.{alone}
+use Rattle.rulebook.specs.Computes.{rules}
+
+-- ---- rings whose stakes are tenths of the total
+
+abbrev notar : ℕ → Cell
+notar b = cell b 0 0 0 0 0 0
+
+abbrev skip : Cell
+skip = cell 0 1 0 0 0 0 0
+
+abbrev fallback : ℕ → Cell
+fallback b = cell 0 0 b 0 0 0 0
+
+-- A notar vote and a final vote.
+abbrev notarFinal : ℕ → Cell
+notarFinal b = cell b 0 0 0 0 0 1
+
+-- The ring with its first window armed.
+abbrev armed : List ℕ → List Cell → Ledger
+armed stakes cells = putArmed (ring stakes cells) 1
+
+-- The own node's skips in a list of slots.
+abbrev ownSkips : List ℕ → List Input
+ownSkips [] = []
+ownSkips (s ∷ ss) = vote 3 0 s 0 ∷ ownSkips ss
+
+-- Armed, and skipped by the own node in slots 2 to 4, so that D and E cast no skip.
+abbrev closed : List ℕ → List Cell → Ledger
+closed stakes cells = stored (armed stakes cells) (ownSkips (2 ∷ 3 ∷ 4 ∷ []))
+
+-- The ledger with another total.
+abbrev withTotal : Ledger → ℕ → Ledger
+withTotal l t =
+    record { count = l .count; total = t; own = l .own; genesis = l .genesis; armed = l .armed; stakes = l .stakes; rows = l .rows }
+
+-- ---- the order of the rules in a slot: A before B and C, B before F, C before D before E before F; B1 has A before B
+
+abbrev AbeforeC : Bool
+AbeforeC = equal (told (ring (6 ∷ 4 ∷ []) (notar 7 ∷ noCell ∷ []))) (7 ∷ 1 ∷ 0 ∷ 5 ∷ 1 ∷ 0 ∷ 6 ∷ 1 ∷ 7 ∷ [])
+
+abbrev BbeforeF : Bool
+BbeforeF =
+    equal (told (stored (armed (1 ∷ 8 ∷ 1 ∷ []) (noCell ∷ notar 7 ∷ noCell ∷ [])) (block 1 7 0 1 ∷ [])))
+    (1 ∷ 1 ∷ 7 ∷ 5 ∷ 1 ∷ 0 ∷ 6 ∷ 1 ∷ 7 ∷ [])
+
+-- D's skips are cast beside the own final, its fallback is not.
+abbrev CbeforeD : Bool
+CbeforeD =
+    equal (told (armed (1 ∷ 5 ∷ 4 ∷ []) (notar 7 ∷ notar 7 ∷ notar 8 ∷ [])))
+    (5 ∷ 1 ∷ 0 ∷ 3 ∷ 2 ∷ 0 ∷ 3 ∷ 3 ∷ 0 ∷ 3 ∷ 4 ∷ 0 ∷ [])
+
+-- Skips before the fallbacks, the lower block first whichever node names it, and E after an own notar-fallback.
+abbrev DbeforeE : Bool
+DbeforeE =
+    let l = armed (1 ∷ 4 ∷ 4 ∷ 1 ∷ []) (noCell ∷ notar 9 ∷ notar 8 ∷ noCell ∷ []) in
+    equals (answers l (block 1 7 0 1 ∷ []))
+    ((0 ∷ 1 ∷ 1 ∷ 7 ∷ 3 ∷ 2 ∷ 0 ∷ 3 ∷ 3 ∷ 0 ∷ 3 ∷ 4 ∷ 0 ∷ 2 ∷ 1 ∷ 8 ∷ 2 ∷ 1 ∷ 9 ∷ 4 ∷ 1 ∷ 0 ∷ []) ∷ [])
+
+abbrev EbeforeF : Bool
+EbeforeF =
+    equal (told (armed (1 ∷ 5 ∷ 4 ∷ []) (notarFinal 7 ∷ notarFinal 7 ∷ skip ∷ []))) (3 ∷ 2 ∷ 0 ∷ 3 ∷ 3 ∷ 0 ∷ 3 ∷ 4 ∷ 0 ∷ 6 ∷ 1 ∷ 7 ∷ [])
+
+-- ---- the order of the slots
+
+-- An own notar in slot 3 alone: C, then E's skips enable D in slot 1, which comes before F in slot 3, since the rules start again from slot 1.
+abbrev restart : Bool
+restart =
+    equal (told (stored (armed (1 ∷ 4 ∷ 1 ∷ 4 ∷ []) []) (vote 1 1 1 9 ∷ votes 1 (0 ∷ 1 ∷ 2 ∷ []) 3 7 ++ (vote 3 3 3 0 ∷ votes 5 (1 ∷ 2 ∷ 3 ∷ []) 3 0))))
+    (5 ∷ 3 ∷ 0 ∷ 3 ∷ 1 ∷ 0 ∷ 3 ∷ 2 ∷ 0 ∷ 3 ∷ 4 ∷ 0 ∷ 2 ∷ 1 ∷ 9 ∷ 6 ∷ 3 ∷ 7 ∷ [])
+
+-- Two final blocks, both unreported.
+abbrev slotsAscend : Bool
+slotsAscend =
+    equal (told (stored (armed (1 ∷ 8 ∷ 1 ∷ []) []) (vote 1 1 3 11 ∷ vote 1 1 2 9 ∷ []))) (6 ∷ 2 ∷ 9 ∷ 6 ∷ 3 ∷ 11 ∷ [])
+
+-- ---- slots, windows and parents
+
+abbrev sixteen : List ℕ
+sixteen = 1 ∷ 2 ∷ 3 ∷ 4 ∷ 5 ∷ 6 ∷ 7 ∷ 8 ∷ 9 ∷ 10 ∷ 11 ∷ 12 ∷ 13 ∷ 14 ∷ 15 ∷ 16 ∷ []
+
+-- Of each slot whether it is a first one, its window, and the window's first slot.
+abbrev windowsOf : List ℕ → List (List ℕ)
+windowsOf [] = []
+windowsOf (s ∷ ss) = (choose (isFirst s) 1 0 ∷ windowOf s ∷ firstOf s ∷ []) ∷ windowsOf ss
+
+-- "Slots 1 to 16, windows of 4: first slots 1, 5, 9, 13."
+abbrev windowsOfFour : Bool
+windowsOfFour =
+    equals (windowsOf sixteen)
+    ((1 ∷ 0 ∷ 1 ∷ []) ∷ (0 ∷ 0 ∷ 1 ∷ []) ∷ (0 ∷ 0 ∷ 1 ∷ []) ∷ (0 ∷ 0 ∷ 1 ∷ []) ∷ (1 ∷ 1 ∷ 5 ∷ []) ∷ (0 ∷ 1 ∷ 5 ∷ []) ∷ (0 ∷ 1 ∷ 5 ∷ []) ∷ (0 ∷ 1 ∷ 5 ∷ [])
+    ∷ (1 ∷ 2 ∷ 9 ∷ []) ∷ (0 ∷ 2 ∷ 9 ∷ []) ∷ (0 ∷ 2 ∷ 9 ∷ []) ∷ (0 ∷ 2 ∷ 9 ∷ []) ∷ (1 ∷ 3 ∷ 13 ∷ []) ∷ (0 ∷ 3 ∷ 13 ∷ []) ∷ (0 ∷ 3 ∷ 13 ∷ []) ∷ (0 ∷ 3 ∷ 13 ∷ []) ∷ [])
+
+-- A block in each slot of a list, its parent in the slot before; all have genesis's number.
+abbrev blocksIn : List ℕ → List Input
+blocksIn [] = []
+blocksIn (s ∷ ss) = block s 1 (s - 1) 1 ∷ blocksIn ss
+
+-- Notar, final, and the block reported.
+abbrev finalized : ℕ → List ℕ
+finalized s = 0 ∷ 1 ∷ s ∷ 1 ∷ 5 ∷ s ∷ 0 ∷ 6 ∷ s ∷ 1 ∷ []
+
+-- A node alone, block after block through all slots: slots 5, 9 and 13 have their parent in the slot before.
+abbrev sixteenBlocks : Bool
+sixteenBlocks =
+    equals (answers (putArmed alone 1) (blocksIn sixteen))
+    (finalized 1 ∷ finalized 2 ∷ finalized 3 ∷ (finalized 4 ++ (7 ∷ 5 ∷ 0 ∷ [])) ∷ finalized 5 ∷ finalized 6 ∷ finalized 7 ∷ (finalized 8 ++ (7 ∷ 9 ∷ 0 ∷ []))
+    ∷ finalized 9 ∷ finalized 10 ∷ finalized 11 ∷ (finalized 12 ++ (7 ∷ 13 ∷ 0 ∷ [])) ∷ finalized 13 ∷ finalized 14 ∷ finalized 15 ∷ finalized 16 ∷ [])
+
+-- The same node, timeout after timeout: genesis is a ready parent of every window, and in the last a block of slot 1 is not.
+abbrev sixteenSkips : Bool
+sixteenSkips =
+    equals (answers alone (look ∷ timeout 1 ∷ timeout 5 ∷ timeout 9 ∷ block 13 7 1 9 ∷ timeout 13 ∷ timeout 16 ∷ []))
+    ((0 ∷ 7 ∷ 1 ∷ 0 ∷ []) ∷ (0 ∷ 3 ∷ 1 ∷ 0 ∷ 3 ∷ 2 ∷ 0 ∷ 3 ∷ 3 ∷ 0 ∷ 3 ∷ 4 ∷ 0 ∷ 7 ∷ 5 ∷ 0 ∷ [])
+    ∷ (0 ∷ 3 ∷ 5 ∷ 0 ∷ 3 ∷ 6 ∷ 0 ∷ 3 ∷ 7 ∷ 0 ∷ 3 ∷ 8 ∷ 0 ∷ 7 ∷ 9 ∷ 0 ∷ []) ∷ (0 ∷ 3 ∷ 9 ∷ 0 ∷ 3 ∷ 10 ∷ 0 ∷ 3 ∷ 11 ∷ 0 ∷ 3 ∷ 12 ∷ 0 ∷ 7 ∷ 13 ∷ 0 ∷ [])
+    ∷ (0 ∷ []) ∷ (0 ∷ 3 ∷ 13 ∷ 0 ∷ 3 ∷ 14 ∷ 0 ∷ 3 ∷ 15 ∷ 0 ∷ 3 ∷ 16 ∷ 0 ∷ []) ∷ (0 ∷ []) ∷ [])
+
+-- Node 1's skips in a list of slots.
+abbrev skips : List ℕ → List Input
+skips [] = []
+skips (s ∷ ss) = vote 3 1 s 0 ∷ skips ss
+
+-- A parent in slot 1 for slot 13, with slots 2 to 12 skipped, or one of them not; B asks for the kept block's own parent.
+abbrev farParent : Bool
+farParent =
+    let l = stored (ring (4 ∷ 6 ∷ []) (noCell ∷ notar 7 ∷ [])) (skips (2 ∷ 3 ∷ 4 ∷ 5 ∷ 6 ∷ 7 ∷ 8 ∷ 9 ∷ 10 ∷ 12 ∷ [])) in
+    let all = stored l (vote 3 1 11 0 ∷ []) in
+    let three : List ℕ = 7 ∷ 1 ∷ 0 ∷ 7 ∷ 5 ∷ 0 ∷ 7 ∷ 9 ∷ 0 ∷ [] in
+    equals (told (stored l (block 13 30 1 7 ∷ [])) ∷ told (stored all (block 13 30 1 7 ∷ [])) ∷ told (stored all (block 13 30 1 8 ∷ [])) ∷ [])
+    (three ∷ (three ++ (7 ∷ 13 ∷ 0 ∷ 1 ∷ 13 ∷ 30 ∷ [])) ∷ (three ++ (7 ∷ 13 ∷ 0 ∷ [])) ∷ [])
+
+-- A block that fallback votes alone name is a parent, in each of a cell's places; a block of the slot itself is none.
+abbrev parents : Bool
+parents =
+    let arms : Cell → Cell → List ℕ = (λ c d. told (stored (armed (4 ∷ 3 ∷ 3 ∷ []) (noCell ∷ c ∷ d ∷ [])) (votes 3 (1 ∷ 2 ∷ []) 2 0 ++ (votes 3 (1 ∷ 2 ∷ []) 3 0 ++ votes 3 (1 ∷ 2 ∷ []) 4 0)))) in
+    equals (arms (fallback 9) (fallback 9) ∷ arms (cell 0 0 21 9 0 0 0) (cell 0 0 22 9 0 0 0) ∷ arms (cell 0 0 21 22 9 0 0) (cell 0 0 23 24 9 0 0)
+    ∷ arms (notar 9) (cell 8 0 21 22 9 0 0) ∷ arms (fallback 9) (fallback 8) ∷ [])
+    ((7 ∷ 5 ∷ 0 ∷ []) ∷ (7 ∷ 5 ∷ 0 ∷ []) ∷ (7 ∷ 5 ∷ 0 ∷ []) ∷ (7 ∷ 5 ∷ 0 ∷ []) ∷ [] ∷ [])
+    && not (ready (ring (4 ∷ 6 ∷ []) (noCell ∷ notar 7 ∷ [])) 1 1 7)
+
+-- Off a window's first slot the parent stands in the slot before, and the own vote there is for it; equal numbers in several slots are
+-- told apart.
+abbrev chain : Bool
+chain =
+    let l = ring (1 ∷ 9 ∷ []) [] in
+    equals (answers l (block 2 8 1 7 ∷ block 3 9 1 7 ∷ block 1 7 0 1 ∷ []))
+    ((0 ∷ 7 ∷ 1 ∷ 0 ∷ []) ∷ (0 ∷ []) ∷ (0 ∷ 1 ∷ 1 ∷ 7 ∷ 1 ∷ 2 ∷ 8 ∷ []) ∷ [])
+    && equals (answers l (block 1 7 0 1 ∷ block 2 7 1 7 ∷ block 3 9 1 7 ∷ block 4 9 3 9 ∷ []))
+    ((0 ∷ 7 ∷ 1 ∷ 0 ∷ 1 ∷ 1 ∷ 7 ∷ []) ∷ (0 ∷ 1 ∷ 2 ∷ 7 ∷ []) ∷ (0 ∷ []) ∷ (0 ∷ []) ∷ [])
+
+-- A timeout for a slot with an own initial vote casts nothing; another slot of the window is taken on its own.
+abbrev timeouts : Bool
+timeouts =
+    equals (answers (ring (1 ∷ 9 ∷ []) []) (block 1 7 0 1 ∷ timeout 1 ∷ timeout 2 ∷ timeout 2 ∷ []))
+    ((0 ∷ 7 ∷ 1 ∷ 0 ∷ 1 ∷ 1 ∷ 7 ∷ []) ∷ (0 ∷ []) ∷ (0 ∷ 3 ∷ 2 ∷ 0 ∷ 3 ∷ 3 ∷ 0 ∷ 3 ∷ 4 ∷ 0 ∷ []) ∷ (7 ∷ []) ∷ [])
+
+-- ---- certificates held: the weights of the votes of each kind, at the threshold and one below
+
+abbrev holds : CertificateKind → ℕ → ℕ → List Cell → Bool
+holds k w b cells = held (ring (w ∷ (10 - w) ∷ []) cells) k 1 b && not (held (ring ((w - 1) ∷ (11 - w) ∷ []) cells) k 1 b)
+
+abbrev thresholds : Bool
+thresholds =
+    let two : CertificateKind → List Cell → Bool = (λ k cells. held (ring (3 ∷ 3 ∷ 4 ∷ []) cells) k 1 7) in
+    all (holds certificate.FastFinal 8 7 (notar 7 ∷ notar 8 ∷ []) ∷ holds certificate.Notar 6 7 (notar 7 ∷ fallback 7 ∷ [])
+    ∷ holds certificate.NotarFallback 6 7 (fallback 7 ∷ notar 8 ∷ []) ∷ holds certificate.Skip 6 0 (skip ∷ notar 7 ∷ [])
+    ∷ holds certificate.Final 6 0 (cell 0 0 0 0 0 0 1 ∷ skip ∷ []) ∷ two certificate.NotarFallback (notar 7 ∷ fallback 7 ∷ noCell ∷ [])
+    ∷ two certificate.Skip (skip ∷ cell 8 0 0 0 0 1 0 ∷ noCell ∷ []) ∷ not (two certificate.NotarFallback (cell 7 0 7 0 0 0 0 ∷ noCell ∷ noCell ∷ [])) ∷ [])
+
+-- ---- C to F: what each asks, and what it does not ask
+
+-- C asks for the own notar's kind 2, no own fallback of either kind, no own final.
+abbrev finalVotes : Bool
+finalVotes =
+    let own : Cell → Cell → List ℕ = (λ c d. told (closed (1 ∷ 5 ∷ 4 ∷ []) (c ∷ d ∷ noCell ∷ []))) in
+    equals (own (notar 7) (notar 7) ∷ own (notar 7) (fallback 7) ∷ own (cell 7 0 9 0 0 0 0) (notar 7) ∷ own (cell 7 0 0 0 0 1 0) (notar 7) ∷ own (notarFinal 7) (notar 7) ∷ [])
+    ((5 ∷ 1 ∷ 0 ∷ []) ∷ [] ∷ [] ∷ [] ∷ [] ∷ [])
+
+-- D by two fifths alone, and by one fifth with the skips, each not at one less; initial votes alone weigh; not without an own initial
+-- vote, nor for its own block, nor beside an own final.
+abbrev fallbacks : Bool
+fallbacks =
+    let cast : ℕ → ℕ → Cell → Cell → Cell → List ℕ = (λ own other a b c. told (closed (own ∷ other ∷ (10 - own - other) ∷ []) (a ∷ b ∷ c ∷ []))) in
+    equals (cast 1 4 skip (notar 8) noCell ∷ cast 1 3 skip (notar 8) (fallback 8) ∷ cast 4 2 skip (notar 8) noCell ∷ cast 3 2 skip (notar 8) (cell 0 0 0 0 0 1 0)
+    ∷ cast 5 1 skip (notar 8) noCell ∷ cast 1 4 noCell (notar 8) noCell ∷ cast 1 4 (notar 8) (notar 8) noCell ∷ cast 1 4 (notar 7) (notar 8) noCell
+    ∷ cast 1 4 (cell 7 0 0 0 0 1 0) (notar 8) noCell ∷ cast 1 4 (cell 0 1 0 0 0 0 1) (notar 8) noCell ∷ [])
+    ((2 ∷ 1 ∷ 8 ∷ []) ∷ [] ∷ (2 ∷ 1 ∷ 8 ∷ []) ∷ [] ∷ [] ∷ [] ∷ [] ∷ (2 ∷ 1 ∷ 8 ∷ []) ∷ (2 ∷ 1 ∷ 8 ∷ []) ∷ [] ∷ [])
+
+-- "three were cast": no fourth fallback, though its block has the weight.
+abbrev threeCast : Bool
+threeCast =
+    let own : Cell → List ℕ = (λ c. told (closed (1 ∷ 4 ∷ 5 ∷ []) (c ∷ notar 24 ∷ noCell ∷ []))) in
+    equals (own (cell 0 1 21 22 0 0 0) ∷ own (cell 0 1 21 22 23 0 0) ∷ own (cell 0 1 21 24 0 0 0) ∷ []) ((2 ∷ 1 ∷ 24 ∷ []) ∷ [] ∷ [] ∷ [])
+
+-- Beside an own final D and E still cast the window's skips, whichever slot lacks an own initial vote.
+abbrev skipsBesideFinal : Bool
+skipsBesideFinal =
+    let lacking : Cell → Cell → List ℕ → List ℕ = (λ c d ss. told (stored (armed (1 ∷ 4 ∷ 5 ∷ []) (c ∷ d ∷ noCell ∷ [])) (ownSkips ss))) in
+    equals (lacking (cell 0 1 0 0 0 0 1) (notar 8) (2 ∷ 3 ∷ []) ∷ lacking (notarFinal 7) (notar 8) (2 ∷ 3 ∷ []) ∷ lacking (notarFinal 7) skip (2 ∷ 3 ∷ []) ∷ lacking (notarFinal 7) skip (2 ∷ 4 ∷ [])
+    ∷ lacking (notarFinal 7) skip (3 ∷ 4 ∷ []) ∷ [])
+    ((3 ∷ 4 ∷ 0 ∷ []) ∷ (3 ∷ 4 ∷ 0 ∷ []) ∷ (3 ∷ 4 ∷ 0 ∷ []) ∷ (3 ∷ 3 ∷ 0 ∷ []) ∷ (3 ∷ 2 ∷ 0 ∷ []) ∷ [])
+
+-- E by two fifths, not at one less; initial votes alone weigh, also in the largest; after an own notar-fallback, not beside an own
+-- skip, a second time or beside an own final.
+abbrev skipFallbacks : Bool
+skipFallbacks =
+    let cast : ℕ → Cell → Cell → Cell → List ℕ = (λ other a b c. told (closed (2 ∷ other ∷ (8 - other) ∷ []) (a ∷ b ∷ c ∷ []))) in
+    equals (cast 4 (notar 7) skip noCell ∷ cast 3 (notar 7) skip (cell 0 0 0 0 0 1 0) ∷ cast 4 (notar 7) (cell 0 1 7 0 0 0 0) noCell ∷ cast 4 (cell 7 0 9 0 0 0 0) skip noCell
+    ∷ cast 4 skip skip noCell ∷ cast 4 (cell 7 0 0 0 0 1 0) skip noCell ∷ cast 4 (notarFinal 7) skip noCell ∷ cast 4 noCell skip noCell ∷ [])
+    ((4 ∷ 1 ∷ 0 ∷ []) ∷ [] ∷ (4 ∷ 1 ∷ 0 ∷ []) ∷ (4 ∷ 1 ∷ 0 ∷ []) ∷ [] ∷ [] ∷ [] ∷ [] ∷ [])
+    && equal (told (closed (2 ∷ 2 ∷ 2 ∷ 4 ∷ []) (notar 7 ∷ notar 8 ∷ skip ∷ noCell ∷ []))) (4 ∷ 1 ∷ 0 ∷ [])
+
+-- F by kind 1, or kinds 2 and 5 together; once per slot; the lowest block where a total that is not the sum lets two be final.
+abbrev finals : Bool
+finals =
+    let cast : ℕ → Cell → Cell → List ℕ = (λ other b c. told (armed (1 ∷ other ∷ (9 - other) ∷ []) (noCell ∷ b ∷ c ∷ []))) in
+    let two : Cell → Cell → List ℕ = (λ b c. told (withTotal (armed (1 ∷ 4 ∷ 4 ∷ []) (noCell ∷ b ∷ c ∷ [])) 5)) in
+    equals (cast 8 (notar 7) noCell ∷ cast 7 (notar 7) noCell ∷ cast 6 (notarFinal 7) noCell ∷ cast 6 (notar 7) noCell ∷ cast 5 (notarFinal 7) (cell 0 0 7 0 0 0 1)
+    ∷ told (putFinal (armed (1 ∷ 8 ∷ 1 ∷ []) (noCell ∷ notar 7 ∷ noCell ∷ [])) 1 7) ∷ two (notar 8) (notar 9) ∷ two (notar 9) (notar 8) ∷ [])
+    ((6 ∷ 1 ∷ 7 ∷ []) ∷ [] ∷ (6 ∷ 1 ∷ 7 ∷ []) ∷ [] ∷ [] ∷ [] ∷ (6 ∷ 1 ∷ 8 ∷ []) ∷ (6 ∷ 1 ∷ 8 ∷ []) ∷ [])
+
+cornersOfRules : T (all (AbeforeC ∷ BbeforeF ∷ CbeforeD ∷ DbeforeE ∷ EbeforeF ∷ restart ∷ slotsAscend ∷ windowsOfFour ∷ sixteenBlocks ∷ sixteenSkips
+    ∷ farParent ∷ parents ∷ chain ∷ timeouts ∷ thresholds ∷ finalVotes ∷ fallbacks ∷ threeCast ∷ skipsBesideFinal ∷ skipFallbacks ∷ finals ∷ []))
+unfolding rules
+cornersOfRules = tt
