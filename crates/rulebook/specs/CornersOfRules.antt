@@ -105,21 +105,13 @@ windowsOfFour =
     ((1 ∷ 0 ∷ 1 ∷ []) ∷ (0 ∷ 0 ∷ 1 ∷ []) ∷ (0 ∷ 0 ∷ 1 ∷ []) ∷ (0 ∷ 0 ∷ 1 ∷ []) ∷ (1 ∷ 1 ∷ 5 ∷ []) ∷ (0 ∷ 1 ∷ 5 ∷ []) ∷ (0 ∷ 1 ∷ 5 ∷ []) ∷ (0 ∷ 1 ∷ 5 ∷ [])
     ∷ (1 ∷ 2 ∷ 9 ∷ []) ∷ (0 ∷ 2 ∷ 9 ∷ []) ∷ (0 ∷ 2 ∷ 9 ∷ []) ∷ (0 ∷ 2 ∷ 9 ∷ []) ∷ (1 ∷ 3 ∷ 13 ∷ []) ∷ (0 ∷ 3 ∷ 13 ∷ []) ∷ (0 ∷ 3 ∷ 13 ∷ []) ∷ (0 ∷ 3 ∷ 13 ∷ []) ∷ [])
 
--- A block in each slot of a list, its parent in the slot before; all have genesis's number.
-abbrev blocksIn : List ℕ → List Input
-blocksIn [] = []
-blocksIn (s ∷ ss) = block s 1 (s - 1) 1 ∷ blocksIn ss
-
--- Notar, final, and the block reported.
-abbrev finalized : ℕ → List ℕ
-finalized s = 0 ∷ 1 ∷ s ∷ 1 ∷ 5 ∷ s ∷ 0 ∷ 6 ∷ s ∷ 1 ∷ []
-
--- A node alone, block after block through all slots: slots 5, 9 and 13 have their parent in the slot before.
-abbrev sixteenBlocks : Bool
-sixteenBlocks =
-    equals (answers (putArmed alone 1) (blocksIn sixteen))
-    (finalized 1 ∷ finalized 2 ∷ finalized 3 ∷ (finalized 4 ++ (7 ∷ 5 ∷ 0 ∷ [])) ∷ finalized 5 ∷ finalized 6 ∷ finalized 7 ∷ (finalized 8 ++ (7 ∷ 9 ∷ 0 ∷ []))
-    ∷ finalized 9 ∷ finalized 10 ∷ finalized 11 ∷ (finalized 12 ++ (7 ∷ 13 ∷ 0 ∷ [])) ∷ finalized 13 ∷ finalized 14 ∷ finalized 15 ∷ finalized 16 ∷ [])
+-- A node alone: in slots 5, 9 and 13 a block of the slot before is ready; equal numbers in several slots, genesis's among them.
+abbrev nextDoor : Bool
+nextDoor =
+    let before : ℕ → Bool = (λ s. ready (stored alone (vote 1 0 (s - 1) 7 ∷ [])) s (s - 1) 7) in
+    all (before 5 ∷ before 9 ∷ before 13 ∷ [])
+    && equals (answers (putArmed alone 1) (block 1 1 0 1 ∷ block 2 1 1 1 ∷ []))
+    ((0 ∷ 1 ∷ 1 ∷ 1 ∷ 5 ∷ 1 ∷ 0 ∷ 6 ∷ 1 ∷ 1 ∷ []) ∷ (0 ∷ 1 ∷ 2 ∷ 1 ∷ 5 ∷ 2 ∷ 0 ∷ 6 ∷ 2 ∷ 1 ∷ []) ∷ [])
 
 -- The same node, timeout after timeout: genesis is a ready parent of every window, and in the last a block of slot 1 is not.
 abbrev sixteenSkips : Bool
@@ -233,7 +225,7 @@ finals =
     ∷ told (putFinal (armed (1 ∷ 8 ∷ 1 ∷ []) (noCell ∷ notar 7 ∷ noCell ∷ [])) 1 7) ∷ two (notar 8) (notar 9) ∷ two (notar 9) (notar 8) ∷ [])
     ((6 ∷ 1 ∷ 7 ∷ []) ∷ [] ∷ (6 ∷ 1 ∷ 7 ∷ []) ∷ [] ∷ [] ∷ [] ∷ (6 ∷ 1 ∷ 8 ∷ []) ∷ (6 ∷ 1 ∷ 8 ∷ []) ∷ [])
 
-cornersOfRules : T (all (AbeforeC ∷ BbeforeF ∷ CbeforeD ∷ DbeforeE ∷ EbeforeF ∷ restart ∷ slotsAscend ∷ windowsOfFour ∷ sixteenBlocks ∷ sixteenSkips
+cornersOfRules : T (all (AbeforeC ∷ BbeforeF ∷ CbeforeD ∷ DbeforeE ∷ EbeforeF ∷ restart ∷ slotsAscend ∷ windowsOfFour ∷ nextDoor ∷ sixteenSkips
     ∷ farParent ∷ parents ∷ chain ∷ timeouts ∷ thresholds ∷ finalVotes ∷ fallbacks ∷ threeCast ∷ skipsBesideFinal ∷ skipFallbacks ∷ finals ∷ []))
 unfolding rules
 cornersOfRules = tt

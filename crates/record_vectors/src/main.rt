@@ -1,0 +1,214 @@
+// Feeds spoiled records to step and to the writers. A line of the input that begins with + puts words into the record that is to
+// be spoiled, PLACE VALUE by PLACE VALUE; a line of numbers puts such words into a copy of it, which is then asked for a look, a
+// certificate and a proof: their numbers are told, and whether record, outbox and buffers are as found. Any other line is a title.
+use kinds::refusal_number;
+use node::step;
+use page::end_line;
+use page::say;
+use page::tell;
+use rulebook::CertificateKind;
+use rulebook::Input;
+use rulebook::Node;
+use rulebook::Slot;
+use rulebook::StartAnswer;
+use rulebook::StepAnswer;
+use rulebook::WriteAnswer;
+use script::read_numbers;
+use soundness::start;
+use writers::write_certificate;
+use writers::write_proof;
+
+const RECORD_WORDS: usize = 7773;
+
+const MOST_NUMBERS: usize = 64;
+
+// The bytes are as they were lent.
+fn untouched(bytes: &[u8]) -> bool {
+    let mut same = true;
+    for i in 0..bytes.len() {
+        if bytes[i] != 9 {
+            same = false;
+        }
+    }
+    same
+}
+
+// The same words, one for one.
+fn equal(words: &[u64], other: &[u64]) -> bool {
+    let mut same = words.len() == other.len();
+    for i in 0..words.len() {
+        if i < other.len() {
+            if words[i] != other[i] {
+                same = false;
+            }
+        }
+    }
+    same
+}
+
+fn put(rec: &mut [u64], place: usize, value: u64) {
+    if place < rec.len() {
+        rec[place] = value;
+    }
+}
+
+fn copy_word(from: &[u64], to: &mut [u64], i: usize) {
+    if i < from.len() {
+        put(to, i, from[i]);
+    }
+}
+
+fn copy(from: &[u64], to: &mut [u64]) {
+    for i in 0..from.len() {
+        copy_word(from, to, i);
+    }
+}
+
+// Puts in number i of a line, where it is the value of the place in front of it.
+fn put_value(rec: &mut [u64], numbers: &[u64], count: usize, i: usize) {
+    if i < numbers.len() {
+        if 0 < i {
+            if (i < count) & (i % 2 == 1) {
+                put(rec, numbers[i - 1] as usize, numbers[i]);
+            }
+        }
+    }
+}
+
+fn put_all(rec: &mut [u64], numbers: &[u64], count: usize) {
+    for i in 0..numbers.len() {
+        put_value(rec, numbers, count, i);
+    }
+}
+
+fn number(n: u64) {
+    say(b" ");
+    tell(n);
+}
+
+fn tell_step(answer: StepAnswer) {
+    match answer {
+        StepAnswer::Done(n) => number(0),
+        StepAnswer::Refused(r) => number(refusal_number(r)),
+    }
+}
+
+fn tell_write(answer: WriteAnswer) {
+    match answer {
+        WriteAnswer::Written(n) => number(0),
+        WriteAnswer::Refused(r) => number(refusal_number(r)),
+    }
+}
+
+// A look, a certificate and a proof asked of a record; then whether it is still the other one, and all lent memory as lent.
+fn ask(rec: &mut [u64], other: &[u64]) {
+    let lent = [9u64; 384];
+    let mut outbox = [9u64; 384];
+    let mut first = [9u8; 32];
+    let mut second = [9u8; 64];
+    tell_step(step(rec, &mut outbox, Input::Look));
+    tell_write(write_certificate(rec, &mut first, CertificateKind::Notar, Slot(1), 7));
+    tell_write(write_proof(rec, &mut second, Slot(1), 7));
+    if equal(rec, other) & equal(&outbox, &lent) & untouched(&first) & untouched(&second) {
+        say(b" as found\n");
+    } else {
+        say(b" changed\n");
+    }
+}
+
+// Asks two copies of the record with these words put in.
+fn spoil(sound: &[u64], numbers: &[u64], count: usize) {
+    let mut rec = [0u64; RECORD_WORDS];
+    let mut other = [0u64; RECORD_WORDS];
+    copy(sound, &mut rec);
+    copy(sound, &mut other);
+    put_all(&mut rec, numbers, count);
+    put_all(&mut other, numbers, count);
+    ask(&mut rec, &other);
+}
+
+fn adds(line: &[u8]) -> bool {
+    if line.len() == 0 {
+        return false;
+    }
+    line[0] == b'+'
+}
+
+fn obey(line: &[u8], sound: &mut [u64]) {
+    let mut numbers = [0u64; MOST_NUMBERS];
+    say(line);
+    if adds(line) {
+        let words = read_numbers(line, 1, &mut numbers);
+        put_all(sound, &numbers, words.count);
+        end_line();
+        return;
+    }
+    let words = read_numbers(line, 0, &mut numbers);
+    if words.good {
+        spoil(sound, &numbers, words.count);
+    } else {
+        end_line();
+    }
+}
+
+fn part(bytes: &[u8], from: usize, to: usize, sound: &mut [u64]) {
+    if to > bytes.len() {
+        return;
+    }
+    if from > to {
+        return;
+    }
+    obey(&bytes[from..to], sound);
+}
+
+// Looks at a byte: a line feed has the line before it obeyed. Answers where the line begins that goes on.
+fn pass(bytes: &[u8], from: usize, i: usize, sound: &mut [u64]) -> usize {
+    if i < bytes.len() {
+        if bytes[i] == b'\n' {
+            part(bytes, from, i, sound);
+            return i + 1;
+        }
+    }
+    from
+}
+
+fn lines(bytes: &[u8], sound: &mut [u64]) {
+    let mut from = 0;
+    for i in 0..bytes.len() {
+        from = pass(bytes, from, i, sound);
+    }
+}
+
+// The node whose record is spoiled: two nodes of stakes 6 and 4.
+fn begin(rec: &mut [u64]) {
+    let mut stakes = [6u64; 2];
+    stakes[1] = 4;
+    match start(rec, &stakes, Node(0), 1) {
+        StartAnswer::Started => number(0),
+        StartAnswer::Refused(r) => number(refusal_number(r)),
+    }
+    end_line();
+}
+
+// A record of a wrong length.
+fn lengths() {
+    let mut short = [0u64; 7772];
+    let other = [0u64; 7772];
+    say(b"7772 words");
+    ask(&mut short, &other);
+    let mut long = [0u64; 7774];
+    let another = [0u64; 7774];
+    say(b"7774 words");
+    ask(&mut long, &another);
+}
+
+fn main() {
+    let mut sound = [0u64; RECORD_WORDS];
+    let mut buffer = io::large_buffer();
+    say(b"start");
+    begin(&mut sound);
+    let got = libc::read(0, &mut buffer);
+    let n = io::count(got, &buffer);
+    lines(&buffer[..n], &mut sound);
+    lengths();
+}
