@@ -1,146 +1,37 @@
-// A node's record shown to people: the board, slot by slot, and the list of stored votes. Every function takes any words; one
-// that reads a record looks first whether they are one.
+// A node's record shown to people: the board, slot by slot, and the list of stored votes. Every function takes any words; what
+// they show is read by `shown`.
 use page::end_line;
 use page::say;
 use page::tell;
 use page::tell_size;
-use record::count;
-use record::final_block;
-use record::kept_block;
-use record::load_cell;
-use record::own;
-use record::record_words;
-use record::timed_out;
-use record::total;
-use rulebook::Block;
 use rulebook::Cell;
 use rulebook::CertificateKind;
 use rulebook::Node;
 use rulebook::Slot;
 use rulebook::Who;
+use shown::block_after;
+use shown::cell_of;
+use shown::fallback_after;
+use shown::final_of;
+use shown::held_in;
+use shown::is_blank;
+use shown::kept_of;
+use shown::nodes_of;
+use shown::own_of;
+use shown::percent;
+use shown::timed_out_in;
+use shown::total_of;
+use shown::touched;
+use shown::weight_of;
 use soundness::sound;
-use soundness::table;
-
-const NOTHING: Cell = Cell {
-    notar: 0,
-    skip: 0,
-    fallback1: 0,
-    fallback2: 0,
-    fallback3: 0,
-    skipfallback: 0,
-    finalvote: 0,
-};
-
-// ---- reading any words
-
-// How many nodes the words count, 0 where they are no record.
-fn nodes_of(rec: &[u64]) -> usize {
-    if rec.len() != record_words() {
-        return 0;
-    }
-    count(rec)
-}
-
-// The own number.
-fn own_of(rec: &[u64]) -> usize {
-    if rec.len() != record_words() {
-        return 0;
-    }
-    let me = own(rec);
-    me.0
-}
-
-// The total stake.
-fn total_of(rec: &[u64]) -> u64 {
-    if rec.len() != record_words() {
-        return 0;
-    }
-    let t = total(rec);
-    t.0
-}
-
-// What is kept of a node in a slot.
-fn cell_of(rec: &[u64], s: usize, n: usize) -> Cell {
-    if rec.len() != record_words() {
-        return NOTHING;
-    }
-    if s > 16 {
-        return NOTHING;
-    }
-    if n > 63 {
-        return NOTHING;
-    }
-    load_cell(rec, Slot(s), Node(n))
-}
-
-// The block kept in a slot.
-fn kept_of(rec: &[u64], s: usize) -> Block {
-    let none = Block {
-        number: 0,
-        parentslot: Slot(0),
-        parent: 0,
-    };
-    if rec.len() != record_words() {
-        return none;
-    }
-    if s > 16 {
-        return none;
-    }
-    kept_block(rec, Slot(s))
-}
-
-// The block reported final in a slot.
-fn final_of(rec: &[u64], s: usize) -> u64 {
-    if rec.len() != record_words() {
-        return 0;
-    }
-    if s > 16 {
-        return 0;
-    }
-    final_block(rec, Slot(s))
-}
-
-// Whether a slot's timeout was taken.
-fn timed_out_in(rec: &[u64], s: usize) -> bool {
-    if rec.len() != record_words() {
-        return false;
-    }
-    if s > 16 {
-        return false;
-    }
-    timed_out(rec, Slot(s))
-}
-
-// The weight in a slot of those who count.
-fn weight_of(rec: &[u64], s: usize, who: Who) -> u64 {
-    if s > 16 {
-        return 0;
-    }
-    if !sound(rec) {
-        return 0;
-    }
-    let w = pool::weigh(rec, table(rec), Slot(s), who);
-    w.0
-}
-
-// Whether a slot holds a certificate.
-fn held_in(rec: &[u64], s: usize, kind: CertificateKind, b: u64) -> bool {
-    if s > 16 {
-        return false;
-    }
-    if !sound(rec) {
-        return false;
-    }
-    pool::held(rec, table(rec), kind, Slot(s), b)
-}
 
 // ---- the list of votes
 
 // One stored vote.
-fn vote_line(s: usize, n: usize, kind: u64, block: u64) {
-    tell_size(s);
+fn vote_line(s: Slot, n: Node, kind: u64, block: u64) {
+    tell_size(s.0);
     say(b" ");
-    tell_size(n);
+    tell_size(n.0);
     say(b" ");
     tell(kind);
     say(b" ");
@@ -149,29 +40,14 @@ fn vote_line(s: usize, n: usize, kind: u64, block: u64) {
 }
 
 // One stored vote, where there is one.
-fn vote_if(there: bool, s: usize, n: usize, kind: u64, block: u64) {
+fn vote_if(there: bool, s: Slot, n: Node, kind: u64, block: u64) {
     if there {
         vote_line(s, n, kind, block);
     }
 }
 
-// A block that comes after another in the order of numbers; 0 is none.
-fn comes_next(b: u64, after: u64, best: u64) -> u64 {
-    if (b <= after) | ((best != 0) & (best <= b)) {
-        return best;
-    }
-    b
-}
-
-// The lowest fallback block above a block, 0 where there is none.
-fn fallback_after(c: Cell, after: u64) -> u64 {
-    let first = comes_next(c.fallback1, after, 0);
-    let second = comes_next(c.fallback2, after, first);
-    comes_next(c.fallback3, after, second)
-}
-
 // The notar-fallback votes of a cell, lowest block first.
-fn fallback_lines(c: Cell, s: usize, n: usize) {
+fn fallback_lines(c: Cell, s: Slot, n: Node) {
     let first = fallback_after(c, 0);
     vote_if(first != 0, s, n, 2, first);
     let second = if first == 0 {
@@ -189,7 +65,7 @@ fn fallback_lines(c: Cell, s: usize, n: usize) {
 }
 
 // The votes of a node in a slot, by kind.
-fn cell_lines(c: Cell, s: usize, n: usize) {
+fn cell_lines(c: Cell, s: Slot, n: Node) {
     vote_if(c.notar != 0, s, n, 1, c.notar);
     fallback_lines(c, s, n);
     vote_if(c.skip != 0, s, n, 3, 0);
@@ -198,10 +74,10 @@ fn cell_lines(c: Cell, s: usize, n: usize) {
 }
 
 // The votes of a slot, by node.
-fn slot_lines(rec: &[u64], s: usize) {
+fn slot_lines(rec: &[u64], s: Slot) {
     let nodes = nodes_of(rec);
     for n in 0..nodes {
-        cell_lines(cell_of(rec, s, n), s, n);
+        cell_lines(cell_of(rec, s, Node(n)), s, Node(n));
     }
 }
 
@@ -212,30 +88,19 @@ pub fn votes(rec: &[u64]) {
         return;
     }
     for s in 1..17 {
-        slot_lines(rec, s);
+        slot_lines(rec, Slot(s));
     }
 }
 
 // ---- the board
 
 // A weight, and its percent of the total rounded down.
-fn tell_weight(rec: &[u64], s: usize, who: Who) {
+fn tell_weight(rec: &[u64], s: Slot, who: Who) {
     let w = weight_of(rec, s, who);
-    tell(w);
+    tell(w.0);
     say(b" (");
     tell(percent(w, total_of(rec)));
     say(b"%)");
-}
-
-// A weight's percent of the total, rounded down.
-fn percent(w: u64, t: u64) -> u64 {
-    if t == 0 {
-        return 0;
-    }
-    if w > 281474976710656 {
-        return 0;
-    }
-    w * 100 / t
 }
 
 // A vote's name, with its block where it carries one.
@@ -250,7 +115,7 @@ fn tell_vote(there: bool, name: &[u8], block: u64) {
 }
 
 // The kept block with its parent.
-fn kept_line(rec: &[u64], s: usize) {
+fn kept_line(rec: &[u64], s: Slot) {
     let b = kept_of(rec, s);
     let p = b.parentslot;
     if b.number != 0 {
@@ -265,7 +130,7 @@ fn kept_line(rec: &[u64], s: usize) {
 }
 
 // The own votes.
-fn own_line(rec: &[u64], s: usize) {
+fn own_line(rec: &[u64], s: Slot) {
     let c = cell_of(rec, s, own_of(rec));
     if !is_blank(c) {
         say(b"  own");
@@ -289,16 +154,10 @@ fn own_fallback(b: u64) {
     }
 }
 
-// Nothing is kept of a node.
-fn is_blank(c: Cell) -> bool {
-    let initial = (c.notar == 0) & (c.skip == 0);
-    let fallback = (c.fallback1 == 0) & ((c.fallback2 == 0) & (c.fallback3 == 0));
-    initial & (fallback & ((c.skipfallback == 0) & (c.finalvote == 0)))
-}
-
 // The weight of skip votes.
-fn skip_line(rec: &[u64], s: usize) {
-    if weight_of(rec, s, Who::Skip) != 0 {
+fn skip_line(rec: &[u64], s: Slot) {
+    let w = weight_of(rec, s, Who::Skip);
+    if w.0 != 0 {
         say(b"  skip ");
         tell_weight(rec, s, Who::Skip);
         end_line();
@@ -306,7 +165,7 @@ fn skip_line(rec: &[u64], s: usize) {
 }
 
 // The certificates held for a block: kinds 1, 2 and 3.
-fn tell_held(rec: &[u64], s: usize, b: u64) {
+fn tell_held(rec: &[u64], s: Slot, b: u64) {
     if held_in(rec, s, CertificateKind::FastFinal, b) {
         say(b" fast-final");
     }
@@ -319,7 +178,7 @@ fn tell_held(rec: &[u64], s: usize, b: u64) {
 }
 
 // A block that votes name: its notar weight and the certificates held for it.
-fn block_line(rec: &[u64], s: usize, b: u64) {
+fn block_line(rec: &[u64], s: Slot, b: u64) {
     say(b"  block ");
     tell(b);
     say(b" notar ");
@@ -334,26 +193,8 @@ fn block_line(rec: &[u64], s: usize, b: u64) {
     }
 }
 
-// The lowest block above another that a cell names, or the best so far.
-fn named_next(c: Cell, after: u64, best: u64) -> u64 {
-    let first = comes_next(c.notar, after, best);
-    let second = comes_next(c.fallback1, after, first);
-    let third = comes_next(c.fallback2, after, second);
-    comes_next(c.fallback3, after, third)
-}
-
-// The lowest block above another that the votes of a slot name, 0 where there is none.
-fn block_after(rec: &[u64], s: usize, after: u64) -> u64 {
-    let nodes = nodes_of(rec);
-    let mut best: u64 = 0;
-    for n in 0..nodes {
-        best = named_next(cell_of(rec, s, n), after, best);
-    }
-    best
-}
-
 // The blocks that votes name, lowest first: at most four a node.
-fn block_lines(rec: &[u64], s: usize) {
+fn block_lines(rec: &[u64], s: Slot) {
     let mut b = block_after(rec, s, 0);
     let mut turns: usize = 256;
     while turns > 0 {
@@ -367,7 +208,7 @@ fn block_lines(rec: &[u64], s: usize) {
 }
 
 // The certificates held for no block, and the block reported final.
-fn end_lines(rec: &[u64], s: usize) {
+fn end_lines(rec: &[u64], s: Slot) {
     if held_in(rec, s, CertificateKind::Skip, 0) {
         say(b"  skip certificate\n");
     }
@@ -382,27 +223,11 @@ fn end_lines(rec: &[u64], s: usize) {
     }
 }
 
-// Whether some node's votes in a slot are stored.
-fn has_votes(rec: &[u64], s: usize) -> bool {
-    let nodes = nodes_of(rec);
-    let mut some = false;
-    for n in 0..nodes {
-        some = some | !is_blank(cell_of(rec, s, n));
-    }
-    some
-}
-
-// Whether a slot has anything to show.
-fn touched(rec: &[u64], s: usize) -> bool {
-    let b = kept_of(rec, s);
-    (b.number != 0) | (timed_out_in(rec, s) | has_votes(rec, s))
-}
-
 // One slot.
-fn slot_board(rec: &[u64], s: usize) {
+fn slot_board(rec: &[u64], s: Slot) {
     if touched(rec, s) {
         say(b"slot ");
-        tell_size(s);
+        tell_size(s.0);
         if timed_out_in(rec, s) {
             say(b", timed out");
         }
@@ -422,13 +247,15 @@ pub fn board(rec: &[u64]) {
         return;
     }
     say(b"node ");
-    tell_size(own_of(rec));
+    let me = own_of(rec);
+    tell_size(me.0);
     say(b" of ");
     tell_size(nodes_of(rec));
     say(b", total stake ");
-    tell(total_of(rec));
+    let all = total_of(rec);
+    tell(all.0);
     end_line();
     for s in 1..17 {
-        slot_board(rec, s);
+        slot_board(rec, Slot(s));
     }
 }

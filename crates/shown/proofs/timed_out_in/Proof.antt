@@ -1,0 +1,35 @@
+-- Words of another length, a slot past the last, and the mark.
+use mathlib.Core.Bool.{not}
+use mathlib.Core.Path.{_∙_, ap}
+use Prim.Native.Nat.{_-_}
+use native.Mathlib.Omega.{arith}
+use borrow.Author.Needs.{needs}
+use Rattle.rulebook.specs.Ledger.{Ledger, Row, noRow, rowAt, none}
+use Rattle.shown.proofs.Laws.{short-row, past-row, whole-ledger}
+use Rattle.shown.proofs.timed_out_in.Statement.{statement}
+use Rattle.shown.proofs.timed_out_in.Tie as tie
+
+record-words-requires : tie.Need-record-words-requires
+record-words-requires c κs = search needs
+
+returns : tie.Need-returns
+unfolding noRow
+returns c =
+    ap (λ (r : Row). not (none (r .timedOut))) (short-row (c .before .before .before .args .rec .now) _ (c .before .record-words .ensures) (c .if1 .taken) (c .before .before .before .args .s .0))
+
+returns-2 : tie.Need-returns-2
+unfolding noRow
+returns-2 c =
+    ap (λ (r : Row). not (none (r .timedOut))) (past-row (c .before .before .before .before .before .args .rec .now) _ (c .before .before .before .record-words .ensures) (c .before .before .if1 .left) (c .before .before .before .before .before .args .s .0) (omega arith))
+
+timed-out-requires : tie.Need-timed-out-requires
+timed-out-requires c κs =
+    record { long = c .before .before .if1 .left ∙ c .before .before .before .record-words .ensures; slot = omega arith }
+
+returns-3 : tie.Need-returns-3
+returns-3 c =
+    c .timed-out .ensures ∙ ap (λ (l : Ledger). not (none (rowAt l (c .before .before .before .before .before .before .args .s .0) .timedOut))) (whole-ledger (c .before .before .before .before .before .before .args .rec .now) _ (c .before .before .before .before .record-words .ensures) (c .before .before .before .if1 .left))
+
+pub timed-out-in-spec : {M : Type 1} → statement M
+timed-out-in-spec =
+    tie.close (tie.spec record-words-requires returns returns-2 timed-out-requires returns-3)

@@ -1,0 +1,2 @@
+-- What a record shows to people.
+pub mod Shown
