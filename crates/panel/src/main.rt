@@ -1,9 +1,9 @@
 // The panel: answers a script, one command a line, read from standard input or from the file that the first argument names.
+mod acts;
 mod answers;
-mod commands;
 
 ghost use Prim.Native.Nat.{_<_};
-use commands::obey;
+use acts::obey;
 use page::say;
 
 // A line has at most 4096 bytes without its end; two more are kept, so that a longer one shows.

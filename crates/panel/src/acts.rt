@@ -1,9 +1,12 @@
-// The commands of a script: which one a line is, and what it asks of the face.
+// What each command of a script asks of the face, and how it is answered.
+ghost use Rattle.commands.specs.Commands.{Heard};
 use crate::answers::checked;
 use crate::answers::malformed;
 use crate::answers::number;
 use crate::answers::packet;
 use crate::answers::records;
+use commands::Command;
+use commands::command_of;
 use hex::read_hex;
 use page::say;
 use quointrowel::qr_block;
@@ -17,87 +20,6 @@ use quointrowel::qr_write_certificate;
 use quointrowel::qr_write_proof;
 use script::read_numbers;
 use script::word_at;
-
-// The commands, and one case for every other word.
-enum Command {
-    Start,
-    Vote,
-    Block,
-    Timeout,
-    Look,
-    Cert,
-    Proof,
-    Check,
-    CheckProof,
-    Board,
-    Votes,
-    Help,
-    Other,
-}
-
-// Whether two texts are the same.
-fn same(a: &[u8], b: &[u8]) -> bool {
-    if a.len() != b.len() {
-        return false;
-    }
-    for i in 0..a.len() {
-        if a[i] != b[i] {
-            return false;
-        }
-    }
-    true
-}
-
-// The commands that tell a node something.
-fn input_of(word: &[u8]) -> Command {
-    if same(word, b"start") {
-        Command::Start
-    } else if same(word, b"vote") {
-        Command::Vote
-    } else if same(word, b"block") {
-        Command::Block
-    } else if same(word, b"timeout") {
-        Command::Timeout
-    } else if same(word, b"look") {
-        Command::Look
-    } else {
-        question_of(word)
-    }
-}
-
-// The commands that ask something.
-fn question_of(word: &[u8]) -> Command {
-    if same(word, b"cert") {
-        Command::Cert
-    } else if same(word, b"proof") {
-        Command::Proof
-    } else if same(word, b"check") {
-        Command::Check
-    } else if same(word, b"checkproof") {
-        Command::CheckProof
-    } else {
-        view_of(word)
-    }
-}
-
-// The commands for people.
-fn view_of(word: &[u8]) -> Command {
-    if same(word, b"board") {
-        Command::Board
-    } else if same(word, b"votes") {
-        Command::Votes
-    } else if same(word, b"help") {
-        Command::Help
-    } else {
-        Command::Other
-    }
-}
-
-// Whether the rest of a line is so many numbers, which then stand in args.
-fn has_numbers(line: &[u8], at: usize, args: &mut [u64], many: usize) -> bool {
-    let n = read_numbers(line, at, args);
-    n.good & (n.count == many)
-}
 
 // A word as a place or a count.
 fn size(x: u64) -> usize {
@@ -124,20 +46,13 @@ fn start_with(rec: &mut [u64], args: &[u64], many: usize) -> u64 {
 fn start(line: &[u8], at: usize, rec: &mut [u64]) {
     let mut args = [0u64; 67];
     let n = read_numbers(line, at, &mut args);
-    if !n.good | (n.count < 2) {
-        malformed();
-        return;
-    }
     number(start_with(rec, &args, n.count));
 }
 
 // vote KIND NODE SLOT BLOCK
 fn vote(line: &[u8], at: usize, rec: &mut [u64], outbox: &mut [u64]) {
     let mut args = [0u64; 4];
-    if !has_numbers(line, at, &mut args, 4) {
-        malformed();
-        return;
-    }
+    read_numbers(line, at, &mut args);
     let mut made = 0;
     let n = qr_vote(
         rec,
@@ -154,10 +69,7 @@ fn vote(line: &[u8], at: usize, rec: &mut [u64], outbox: &mut [u64]) {
 // block SLOT NUMBER PARENTSLOT PARENT
 fn block(line: &[u8], at: usize, rec: &mut [u64], outbox: &mut [u64]) {
     let mut args = [0u64; 4];
-    if !has_numbers(line, at, &mut args, 4) {
-        malformed();
-        return;
-    }
+    read_numbers(line, at, &mut args);
     let mut made = 0;
     let n = qr_block(
         rec,
@@ -174,39 +86,23 @@ fn block(line: &[u8], at: usize, rec: &mut [u64], outbox: &mut [u64]) {
 // timeout SLOT
 fn timeout(line: &[u8], at: usize, rec: &mut [u64], outbox: &mut [u64]) {
     let mut args = [0u64; 1];
-    if !has_numbers(line, at, &mut args, 1) {
-        malformed();
-        return;
-    }
+    read_numbers(line, at, &mut args);
     let mut made = 0;
     let n = qr_timeout(rec, outbox, &mut made, size(args[0]));
     records(n, made, outbox);
 }
 
 // look
-fn look(line: &[u8], at: usize, rec: &mut [u64], outbox: &mut [u64]) {
-    if !ends(line, at) {
-        malformed();
-        return;
-    }
+fn look(rec: &mut [u64], outbox: &mut [u64]) {
     let mut made = 0;
     let n = qr_look(rec, outbox, &mut made);
     records(n, made, outbox);
 }
 
-// Whether no word follows.
-fn ends(line: &[u8], at: usize) -> bool {
-    let w = word_at(line, at);
-    w.from == w.to
-}
-
 // cert KIND SLOT BLOCK
 fn cert(line: &[u8], at: usize, rec: &[u64]) {
     let mut args = [0u64; 3];
-    if !has_numbers(line, at, &mut args, 3) {
-        malformed();
-        return;
-    }
+    read_numbers(line, at, &mut args);
     let mut buffer = [0u8; 32];
     let mut written = 0;
     let n = qr_write_certificate(
@@ -223,10 +119,7 @@ fn cert(line: &[u8], at: usize, rec: &[u64]) {
 // proof SLOT BLOCK
 fn proof(line: &[u8], at: usize, rec: &[u64]) {
     let mut args = [0u64; 2];
-    if !has_numbers(line, at, &mut args, 2) {
-        malformed();
-        return;
-    }
+    read_numbers(line, at, &mut args);
     let mut buffer = [0u8; 64];
     let mut written = 0;
     let n = qr_write_proof(rec, &mut buffer, &mut written, size(args[0]), args[1]);
@@ -238,16 +131,8 @@ fn check(line: &[u8], at: usize, whole: bool) {
     let w = word_at(line, at);
     let from = w.from;
     let to = w.to;
-    if to <= from {
-        malformed();
-        return;
-    }
     let mut bytes = [0u8; 2048];
     let hex = read_hex(&line[from..to], &mut bytes);
-    if !hex.good {
-        malformed();
-        return;
-    }
     let length = hex.size;
     check_stakes(line, to, &bytes[0..length], whole);
 }
@@ -256,10 +141,6 @@ fn check(line: &[u8], at: usize, whole: bool) {
 fn check_stakes(line: &[u8], at: usize, bytes: &[u8], whole: bool) {
     let mut stakes = [0u64; 65];
     let n = read_numbers(line, at, &mut stakes);
-    if !n.good {
-        malformed();
-        return;
-    }
     check_with(&stakes, n.count, bytes, whole);
 }
 
@@ -285,11 +166,7 @@ fn check_packet(stakes: &[u64], bytes: &[u8], whole: bool) {
 }
 
 // help
-fn help(line: &[u8], at: usize) {
-    if !ends(line, at) {
-        malformed();
-        return;
-    }
+fn help() {
     say(b"start OWN GENESIS STAKE..            0\n");
     say(b"vote KIND NODE SLOT BLOCK            0 N kind,slot,block ..\n");
     say(b"block SLOT NUMBER PARENTSLOT PARENT  0 N kind,slot,block ..\n");
@@ -303,11 +180,7 @@ fn help(line: &[u8], at: usize) {
 }
 
 // board, votes
-fn view(line: &[u8], at: usize, rec: &[u64], list: bool) {
-    if !ends(line, at) {
-        malformed();
-        return;
-    }
+fn view(rec: &[u64], list: bool) {
     if list {
         board::votes(rec);
     } else {
@@ -315,28 +188,30 @@ fn view(line: &[u8], at: usize, rec: &[u64], list: bool) {
     }
 }
 
-// Answers a line; nothing where it has no word.
-pub fn obey(line: &[u8], rec: &mut [u64], outbox: &mut [u64]) {
+// Answers a line; nothing where it has no word. A line that is none of the commands leaves record and outbox as they were, and so
+// does every command that only asks.
+pub fn obey(line: &[u8], rec: &mut [u64], outbox: &mut [u64])
+    ensures { λ _. ⌜ Heard (now (line .entry)) (now (rec .entry)) (now (outbox .entry)) (now (rec .exit)) (now (outbox .exit)) ⌝ }
+{
     let w = word_at(line, 0);
-    let from = w.from;
     let at = w.to;
-    if at <= from {
+    if at <= w.from {
         return;
     }
-    let c = input_of(&line[from..at]);
+    let c = command_of(line);
     match c {
         Command::Start => start(line, at, rec),
         Command::Vote => vote(line, at, rec, outbox),
         Command::Block => block(line, at, rec, outbox),
         Command::Timeout => timeout(line, at, rec, outbox),
-        Command::Look => look(line, at, rec, outbox),
+        Command::Look => look(rec, outbox),
         Command::Cert => cert(line, at, rec),
         Command::Proof => proof(line, at, rec),
         Command::Check => check(line, at, false),
         Command::CheckProof => check(line, at, true),
-        Command::Board => view(line, at, rec, false),
-        Command::Votes => view(line, at, rec, true),
-        Command::Help => help(line, at),
+        Command::Board => view(rec, false),
+        Command::Votes => view(rec, true),
+        Command::Help => help(),
         Command::Other => malformed(),
     }
 }

@@ -1,0 +1,189 @@
+-- Each command asks for what follows it.
+use Prim.Native.Nat.{_-_}
+use borrow.Author.Needs.{needs}
+use Rattle.commands.specs.Commands.{argumentsFit}
+use Rattle.commands.proofs.arguments_fit.Statement.{statement}
+use Rattle.commands.proofs.arguments_fit.Tie as tie
+
+enum-told : tie.Need-enum-told
+enum-told c = search needs
+
+at-least-requires : tie.Need-at-least-requires
+at-least-requires c κs = search needs
+
+enum-told-2 : tie.Need-enum-told-2
+enum-told-2 c = search needs
+
+exactly-requires : tie.Need-exactly-requires
+exactly-requires c κs = search needs
+
+enum-told-3 : tie.Need-enum-told-3
+enum-told-3 c = search needs
+
+exactly-requires-2 : tie.Need-exactly-requires-2
+exactly-requires-2 c κs = search needs
+
+enum-told-4 : tie.Need-enum-told-4
+enum-told-4 c = search needs
+
+exactly-requires-3 : tie.Need-exactly-requires-3
+exactly-requires-3 c κs = search needs
+
+enum-told-5 : tie.Need-enum-told-5
+enum-told-5 c = search needs
+
+exactly-requires-4 : tie.Need-exactly-requires-4
+exactly-requires-4 c κs = search needs
+
+enum-told-6 : tie.Need-enum-told-6
+enum-told-6 c = search needs
+
+exactly-requires-5 : tie.Need-exactly-requires-5
+exactly-requires-5 c κs = search needs
+
+enum-told-7 : tie.Need-enum-told-7
+enum-told-7 c = search needs
+
+exactly-requires-6 : tie.Need-exactly-requires-6
+exactly-requires-6 c κs = search needs
+
+enum-told-8 : tie.Need-enum-told-8
+enum-told-8 c = search needs
+
+packet-and-stakes-requires : tie.Need-packet-and-stakes-requires
+packet-and-stakes-requires c κs = search needs
+
+enum-told-9 : tie.Need-enum-told-9
+enum-told-9 c = search needs
+
+packet-and-stakes-requires-2 : tie.Need-packet-and-stakes-requires-2
+packet-and-stakes-requires-2 c κs = search needs
+
+enum-told-10 : tie.Need-enum-told-10
+enum-told-10 c = search needs
+
+exactly-requires-7 : tie.Need-exactly-requires-7
+exactly-requires-7 c κs = search needs
+
+enum-told-11 : tie.Need-enum-told-11
+enum-told-11 c = search needs
+
+exactly-requires-8 : tie.Need-exactly-requires-8
+exactly-requires-8 c κs = search needs
+
+enum-told-12 : tie.Need-enum-told-12
+enum-told-12 c = search needs
+
+exactly-requires-9 : tie.Need-exactly-requires-9
+exactly-requires-9 c κs = search needs
+
+enum-told-13 : tie.Need-enum-told-13
+enum-told-13 c = search needs
+
+returns : tie.Need-returns
+unfolding argumentsFit
+returns c =
+    simp (c .before .enum-told .given .1, c .at-least .ensures)
+
+returns-2 : tie.Need-returns-2
+unfolding argumentsFit
+returns-2 c =
+    simp (c .before .enum-told2 .given .1, c .exactly .ensures)
+
+returns-3 : tie.Need-returns-3
+unfolding argumentsFit
+returns-3 c =
+    simp (c .before .enum-told3 .given .1, c .exactly2 .ensures)
+
+returns-4 : tie.Need-returns-4
+unfolding argumentsFit
+returns-4 c =
+    simp (c .before .enum-told4 .given .1, c .exactly3 .ensures)
+
+returns-5 : tie.Need-returns-5
+unfolding argumentsFit
+returns-5 c =
+    simp (c .before .enum-told5 .given .1, c .exactly4 .ensures)
+
+returns-6 : tie.Need-returns-6
+unfolding argumentsFit
+returns-6 c =
+    simp (c .before .enum-told6 .given .1, c .exactly5 .ensures)
+
+returns-7 : tie.Need-returns-7
+unfolding argumentsFit
+returns-7 c =
+    simp (c .before .enum-told7 .given .1, c .exactly6 .ensures)
+
+returns-8 : tie.Need-returns-8
+unfolding argumentsFit
+returns-8 c =
+    simp (c .before .enum-told8 .given .1, c .packet-and-stakes .ensures)
+
+returns-9 : tie.Need-returns-9
+unfolding argumentsFit
+returns-9 c =
+    simp (c .before .enum-told9 .given .1, c .packet-and-stakes2 .ensures)
+
+returns-10 : tie.Need-returns-10
+unfolding argumentsFit
+returns-10 c =
+    simp (c .before .enum-told10 .given .1, c .exactly7 .ensures)
+
+returns-11 : tie.Need-returns-11
+unfolding argumentsFit
+returns-11 c =
+    simp (c .before .enum-told11 .given .1, c .exactly8 .ensures)
+
+returns-12 : tie.Need-returns-12
+unfolding argumentsFit
+returns-12 c =
+    simp (c .before .enum-told12 .given .1, c .exactly9 .ensures)
+
+returns-13 : tie.Need-returns-13
+unfolding argumentsFit
+returns-13 c =
+    simp (c .enum-told13 .given .1)
+
+pub arguments-fit-spec : {M : Type 1} → statement M
+arguments-fit-spec =
+    tie.close
+    (tie.spec
+    enum-told
+    at-least-requires
+    enum-told-2
+    exactly-requires
+    enum-told-3
+    exactly-requires-2
+    enum-told-4
+    exactly-requires-3
+    enum-told-5
+    exactly-requires-4
+    enum-told-6
+    exactly-requires-5
+    enum-told-7
+    exactly-requires-6
+    enum-told-8
+    packet-and-stakes-requires
+    enum-told-9
+    packet-and-stakes-requires-2
+    enum-told-10
+    exactly-requires-7
+    enum-told-11
+    exactly-requires-8
+    enum-told-12
+    exactly-requires-9
+    enum-told-13
+    returns
+    returns-2
+    returns-3
+    returns-4
+    returns-5
+    returns-6
+    returns-7
+    returns-8
+    returns-9
+    returns-10
+    returns-11
+    returns-12
+    returns-13)

@@ -1,0 +1,124 @@
+-- The commands of a script, and the lines that are none.
+use mathlib.Core.Path.{_≡_}
+use mathlib.Core.Bool.{Bool, true, false, _&&_}
+use mathlib.Core.List.{List, [], _∷_}
+use Prim.Native.Nat.{ℕ, _-_}
+use lib.Dec.{eqb, leb, ltb}
+use lib.ListN.{length, getD, take, drop}
+use Rattle.rulebook.specs.Tools.{choose, allTo}
+use Rattle.hex.specs.Bytes.{hexOf}
+use Rattle.script.specs.Numbers.{wordFrom, wordTo, numbersOf}
+use Rattle.commands.specs.declared.Command.{Command}
+use Rattle.commands.specs.declared.Command.the-variants as command
+
+-- Two texts are the same: as long as each other, and the same byte at each place.
+unfoldable pub sameText : List ℕ → List ℕ → Bool
+sameText a b = eqb (length a) (length b) && allTo (length a) (λ i. eqb (getD a i 0) (getD b i 0))
+
+-- The commands' words, letter by letter.
+abbrev pub startText : List ℕ
+startText = 115 ∷ 116 ∷ 97 ∷ 114 ∷ 116 ∷ []
+
+abbrev pub voteText : List ℕ
+voteText = 118 ∷ 111 ∷ 116 ∷ 101 ∷ []
+
+abbrev pub blockText : List ℕ
+blockText = 98 ∷ 108 ∷ 111 ∷ 99 ∷ 107 ∷ []
+
+abbrev pub timeoutText : List ℕ
+timeoutText = 116 ∷ 105 ∷ 109 ∷ 101 ∷ 111 ∷ 117 ∷ 116 ∷ []
+
+abbrev pub lookText : List ℕ
+lookText = 108 ∷ 111 ∷ 111 ∷ 107 ∷ []
+
+abbrev pub certText : List ℕ
+certText = 99 ∷ 101 ∷ 114 ∷ 116 ∷ []
+
+abbrev pub proofText : List ℕ
+proofText = 112 ∷ 114 ∷ 111 ∷ 111 ∷ 102 ∷ []
+
+abbrev pub checkText : List ℕ
+checkText = 99 ∷ 104 ∷ 101 ∷ 99 ∷ 107 ∷ []
+
+abbrev pub checkProofText : List ℕ
+checkProofText = 99 ∷ 104 ∷ 101 ∷ 99 ∷ 107 ∷ 112 ∷ 114 ∷ 111 ∷ 111 ∷ 102 ∷ []
+
+abbrev pub boardText : List ℕ
+boardText = 98 ∷ 111 ∷ 97 ∷ 114 ∷ 100 ∷ []
+
+abbrev pub votesText : List ℕ
+votesText = 118 ∷ 111 ∷ 116 ∷ 101 ∷ 115 ∷ []
+
+abbrev pub helpText : List ℕ
+helpText = 104 ∷ 101 ∷ 108 ∷ 112 ∷ []
+
+-- The command that a word is, asked for in three lists: "board", "votes" and "help" are for people,
+unfoldable pub viewOf : List ℕ → Command
+viewOf w = choose (sameText w boardText) command.Board (choose (sameText w votesText) command.Votes (choose (sameText w helpText) command.Help (command.Other)))
+
+-- "cert", "proof", "check" and "checkproof" ask something,
+unfoldable pub questionOf : List ℕ → Command
+questionOf w =
+    choose (sameText w certText) command.Cert (choose (sameText w proofText) command.Proof (choose (sameText w checkText) command.Check (choose (sameText w checkProofText) command.CheckProof (viewOf w))))
+
+-- and "start", "vote", "block", "timeout" and "look" tell the node something.
+unfoldable pub inputOf : List ℕ → Command
+inputOf w =
+    choose (sameText w startText) command.Start (choose (sameText w voteText) command.Vote (choose (sameText w blockText) command.Block (choose (sameText w timeoutText) command.Timeout (choose (sameText w lookText) command.Look (questionOf w)))))
+
+-- From a place on, a line holds numbers and nothing else: so many, or so many at least.
+unfoldable pub exactly : List ℕ → ℕ → ℕ → Bool
+exactly line at many = let n = numbersOf line at [] .answer in n .good && eqb (n .count) many
+
+unfoldable pub atLeast : List ℕ → ℕ → ℕ → Bool
+atLeast line at many = let n = numbersOf line at [] .answer in n .good && leb many (n .count)
+
+-- The next word of a line.
+abbrev pub wordOf : List ℕ → ℕ → List ℕ
+wordOf line at = take (wordTo line at - wordFrom line at) (drop (wordFrom line at) line)
+
+-- A packet in hex, of at most 2048 bytes, and then numbers.
+unfoldable pub packetAndStakes : List ℕ → ℕ → Bool
+packetAndStakes line at =
+    ltb (wordFrom line at) (wordTo line at) && (hexOf (wordOf line at) 2048 .good && atLeast line (wordTo line at) 0)
+
+-- What follows the command's word, from a place on, is what the command asks for.
+unfoldable pub argumentsFit : Command → List ℕ → ℕ → Bool
+argumentsFit command.Start line at = atLeast line at 2
+argumentsFit command.Vote line at = exactly line at 4
+argumentsFit command.Block line at = exactly line at 4
+argumentsFit command.Timeout line at = exactly line at 1
+argumentsFit command.Look line at = exactly line at 0
+argumentsFit command.Cert line at = exactly line at 3
+argumentsFit command.Proof line at = exactly line at 2
+argumentsFit command.Check line at = packetAndStakes line at
+argumentsFit command.CheckProof line at = packetAndStakes line at
+argumentsFit command.Board line at = exactly line at 0
+argumentsFit command.Votes line at = exactly line at 0
+argumentsFit command.Help line at = exactly line at 0
+argumentsFit command.Other line at = false
+
+-- The command that a line is, `Other` where it is none.
+unfoldable pub commandOf : List ℕ → Command
+commandOf line = let c = inputOf (wordOf line 0) in choose (argumentsFit c line (wordTo line 0)) c command.Other
+
+-- The commands that can change a node.
+unfoldable pub tells : Command → Bool
+tells command.Start = true
+tells command.Vote = true
+tells command.Block = true
+tells command.Timeout = true
+tells command.Look = true
+tells command.Cert = false
+tells command.Proof = false
+tells command.Check = false
+tells command.CheckProof = false
+tells command.Board = false
+tells command.Votes = false
+tells command.Help = false
+tells command.Other = false
+
+-- A line that tells the node nothing, a line that is no command among them, leaves record and outbox as they were.
+pub record Heard (line rec outbox recLeft outboxLeft : List ℕ) : Type 0 where
+  pub words : tells (commandOf line) ≡ false → recLeft ≡ rec
+  pub records : tells (commandOf line) ≡ false → outboxLeft ≡ outbox

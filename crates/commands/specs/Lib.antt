@@ -1,0 +1,2 @@
+-- Which command a line of a script is.
+pub mod Commands

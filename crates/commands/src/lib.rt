@@ -1,0 +1,166 @@
+// Which command a line of a script is: by its first word, and by what follows it.
+ghost use mathlib.Core.Path.{_≡_};
+ghost use Rattle.commands.specs.Commands.{sameText, inputOf, questionOf, viewOf, exactly, atLeast, packetAndStakes, argumentsFit, commandOf};
+use hex::read_hex;
+use script::read_numbers;
+use script::word_at;
+
+// The commands, and one case for every other line.
+pub enum Command {
+    Start,
+    Vote,
+    Block,
+    Timeout,
+    Look,
+    Cert,
+    Proof,
+    Check,
+    CheckProof,
+    Board,
+    Votes,
+    Help,
+    Other,
+}
+
+// Whether two texts are the same.
+fn same(a: &[u8], b: &[u8]) -> bool
+    ensures { λ r. ⌜ r ≡ sameText (now (a .entry)) (now (b .entry)) ⌝ }
+{
+    if a.len() != b.len() {
+        return false;
+    }
+    for i in 0..a.len() {
+        if a[i] != b[i] {
+            return false;
+        }
+    }
+    true
+}
+
+// The commands that tell a node something.
+fn input_of(word: &[u8]) -> Command
+    ensures { λ r. ⌜ r ≡ inputOf (now (word .entry)) ⌝ }
+{
+    if same(word, b"start") {
+        return Command::Start;
+    }
+    if same(word, b"vote") {
+        return Command::Vote;
+    }
+    if same(word, b"block") {
+        return Command::Block;
+    }
+    if same(word, b"timeout") {
+        return Command::Timeout;
+    }
+    if same(word, b"look") {
+        return Command::Look;
+    }
+    question_of(word)
+}
+
+// The commands that ask something.
+fn question_of(word: &[u8]) -> Command
+    ensures { λ r. ⌜ r ≡ questionOf (now (word .entry)) ⌝ }
+{
+    if same(word, b"cert") {
+        return Command::Cert;
+    }
+    if same(word, b"proof") {
+        return Command::Proof;
+    }
+    if same(word, b"check") {
+        return Command::Check;
+    }
+    if same(word, b"checkproof") {
+        return Command::CheckProof;
+    }
+    view_of(word)
+}
+
+// The commands for people.
+fn view_of(word: &[u8]) -> Command
+    ensures { λ r. ⌜ r ≡ viewOf (now (word .entry)) ⌝ }
+{
+    if same(word, b"board") {
+        return Command::Board;
+    }
+    if same(word, b"votes") {
+        return Command::Votes;
+    }
+    if same(word, b"help") {
+        return Command::Help;
+    }
+    Command::Other
+}
+
+// Whether the rest of a line is so many numbers.
+fn exactly(line: &[u8], at: usize, many: usize) -> bool
+    ensures { λ r. ⌜ r ≡ exactly (now (line .entry)) at many ⌝ }
+{
+    let mut none = [0u64; 0];
+    let n = read_numbers(line, at, &mut none);
+    n.good & (n.count == many)
+}
+
+// Whether the rest of a line is so many numbers or more.
+fn at_least(line: &[u8], at: usize, many: usize) -> bool
+    ensures { λ r. ⌜ r ≡ atLeast (now (line .entry)) at many ⌝ }
+{
+    let mut none = [0u64; 0];
+    let n = read_numbers(line, at, &mut none);
+    n.good & (many <= n.count)
+}
+
+// Whether the rest of a line is a packet in hex, of at most 2048 bytes, and then numbers.
+fn packet_and_stakes(line: &[u8], at: usize) -> bool
+    ensures { λ r. ⌜ r ≡ packetAndStakes (now (line .entry)) at ⌝ }
+{
+    let w = word_at(line, at);
+    let from = w.from;
+    let to = w.to;
+    if to <= from {
+        return false;
+    }
+    let mut bytes = [0u8; 2048];
+    let hex = read_hex(&line[from..to], &mut bytes);
+    if !hex.good {
+        return false;
+    }
+    at_least(line, to, 0)
+}
+
+// Whether what follows a command's word is what it asks for.
+fn arguments_fit(c: Command, line: &[u8], at: usize) -> bool
+    ensures { λ r. ⌜ r ≡ argumentsFit c (now (line .entry)) at ⌝ }
+{
+    match c {
+        Command::Start => at_least(line, at, 2),
+        Command::Vote => exactly(line, at, 4),
+        Command::Block => exactly(line, at, 4),
+        Command::Timeout => exactly(line, at, 1),
+        Command::Look => exactly(line, at, 0),
+        Command::Cert => exactly(line, at, 3),
+        Command::Proof => exactly(line, at, 2),
+        Command::Check => packet_and_stakes(line, at),
+        Command::CheckProof => packet_and_stakes(line, at),
+        Command::Board => exactly(line, at, 0),
+        Command::Votes => exactly(line, at, 0),
+        Command::Help => exactly(line, at, 0),
+        Command::Other => false,
+    }
+}
+
+// The command that a line is.
+pub fn command_of(line: &[u8]) -> Command
+    ensures { λ r. ⌜ r ≡ commandOf (now (line .entry)) ⌝ }
+{
+    let w = word_at(line, 0);
+    let from = w.from;
+    let to = w.to;
+    let c = input_of(&line[from..to]);
+    if arguments_fit(c, line, to) {
+        return c;
+    }
+    Command::Other
+}
