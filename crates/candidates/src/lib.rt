@@ -30,14 +30,17 @@ pub fn fallback_weights(rec: &[u64], t: StakeTable, s: Slot, b: u64) -> bool
     ensures { λ r. ⌜ r ≡ fallbackWeights (ledgerOf (now (rec .entry))) (s .0) b ⌝ }
 {
     let notar = weigh(rec, t, s, Who::Notar(b));
-    if Threshold::FORTY.reached(notar, t.total) {
+    let to_forty = Threshold::FORTY.missing(notar, t.total);
+    if to_forty.0 == 0 {
         return true;
     }
-    if !Threshold::TWENTY.reached(notar, t.total) {
+    let to_twenty = Threshold::TWENTY.missing(notar, t.total);
+    if to_twenty.0 != 0 {
         return false;
     }
     let skip = weigh(rec, t, s, Who::Skip);
-    Threshold::SIXTY.reached(Weight(skip.0 + notar.0), t.total)
+    let to_sixty = Threshold::SIXTY.missing(Weight(skip.0 + notar.0), t.total);
+    to_sixty.0 == 0
 }
 
 // Whether D applies to b: the own vote is not notar b, something would be cast, and the weights.
@@ -104,10 +107,12 @@ pub fn is_final(rec: &[u64], t: StakeTable, s: Slot, b: u64) -> bool
     ensures { λ r. ⌜ r ≡ isFinal (ledgerOf (now (rec .entry))) (s .0) b ⌝ }
 {
     let notar = weigh(rec, t, s, Who::Notar(b));
-    if Threshold::EIGHTY.reached(notar, t.total) {
+    let to_eighty = Threshold::EIGHTY.missing(notar, t.total);
+    if to_eighty.0 == 0 {
         return true;
     }
-    if !Threshold::SIXTY.reached(notar, t.total) {
+    let to_sixty = Threshold::SIXTY.missing(notar, t.total);
+    if to_sixty.0 != 0 {
         return false;
     }
     held(rec, t, CertificateKind::Final, s, 0)
@@ -165,10 +170,12 @@ pub fn skip_weights(rec: &[u64], t: StakeTable, s: Slot) -> bool
     let skips = weigh(rec, t, s, Who::Skip);
     let notars = weigh(rec, t, s, Who::AnyNotar);
     let sum = skips.0 + notars.0;
-    if !Threshold::FORTY.reached(Weight(sum), t.total) {
+    let at_most = Threshold::FORTY.missing(Weight(sum), t.total);
+    if at_most.0 != 0 {
         return false;
     }
     let most = largest_notar(rec, t, s);
     let rest = sum - most.0;
-    Threshold::FORTY.reached(Weight(rest), t.total)
+    let short = Threshold::FORTY.missing(Weight(rest), t.total);
+    short.0 == 0
 }

@@ -14,13 +14,15 @@ use Rattle.rulebook.specs.declared.Refusal.the-variants as refusal
 use Rattle.rulebook.specs.declared.Verdict.{Verdict}
 use Rattle.rulebook.specs.declared.Verdict.the-variants as verdict
 use Rattle.rulebook.specs.Tools.{part}
-use Rattle.rulebook.specs.Weights.{slotOk, stakeIn, weight, totalTo, reaches}
+use Rattle.rulebook.specs.declared.Weight.{Weight}
+use Rattle.rulebook.specs.Weights.{slotOk, stakeIn, weight, totalTo, reaches, missing}
 use Rattle.rulebook.specs.PaperNumbers.{certificateKind}
 use Rattle.rulebook.specs.Pool.{fifthsOf}
 use Rattle.rulebook.specs.Inputs.{refuseIf}
 use Rattle.rulebook.specs.Packets.{bit, countOf}
-use Rattle.rulebook.specs.Checker.{isOtherKind, blockMisfits, badSigners, signed, signedWeight, acceptedOf, judged, judgeKind, judge}
+use Rattle.rulebook.specs.Checker.{isOtherKind, blockMisfits, badSigners, signed, signedWeight, lacking, judgeWeight, acceptedOf, judged, judgeKind, judge}
 use Rattle.rulebook.proofs.ToolLaws.{sum-same}
+use Rattle.rulebook.proofs.WeightLaws.{none-missing, some-missing}
 use Rattle.stakes.specs.declared.StakeTable.{StakeTable}
 use Rattle.stakes.specs.declared.Weighed.{Weighed}
 use Rattle.stakes.specs.Table.{weighed}
@@ -79,25 +81,36 @@ signers-same t s k c = ap (λ (n : ℕ). badSigners n k c) (stakes-length t s)
 
 -- 15, and what is told else.
 pub too-light : (ws : List ℕ) (k : CertificateKind) (c : Certificate) (next : ℕ)
-    → reaches (fifthsOf k) (totalTo ws (length ws)) (signedWeight ws c) ≡ false → weighedIn ws k c next ≡ checked.Bad refusal.TooLight
-unfolding weighedIn refuseIf judged told
-too-light ws k c next e = rw e
+    → reaches (fifthsOf k) (totalTo ws (length ws)) (signedWeight ws c) ≡ false → (m : Weight) → m .0 ≡ lacking ws k c
+    → checked.Bad (refusal.TooLight m) ≡ weighedIn ws k c next
+unfolding weighedIn judgeWeight refuseIf judged told
+too-light ws k c next e m f = rw e (ap (λ (x : ℕ). checked.Bad (refusal.TooLight (record { 0 = x }))) f)
 
 pub heavy-enough : (ws : List ℕ) (k : CertificateKind) (c : Certificate) (next : ℕ)
     → reaches (fifthsOf k) (totalTo ws (length ws)) (signedWeight ws c) ≡ true → weighedIn ws k c next ≡ checked.Good (acceptedOf ws c) next
-unfolding weighedIn refuseIf judged told
+unfolding weighedIn judgeWeight refuseIf judged told
 heavy-enough ws k c next e = rw e
 
--- What was weighed on the table reaches what the kind needs exactly where the stakes do.
-pub reach-same : (t : StakeTable) → Sound t → (k : CertificateKind) (c : Certificate) (w : Weighed)
-    → w ≡ weighed (t .stakes) (t .count) (λ n. bit (c .maska) n || bit (c .maskb) n) → (n : ℕ) → n ≡ fifthsOf k → (r : Bool)
-    → r ≡ reaches n (t .total .0) (w .weight .0)
-    → reaches (fifthsOf k) (totalTo (stakesOf t) (length (stakesOf t))) (signedWeight (stakesOf t) c) ≡ r
-reach-same t s k c w q n e r h =
+-- What was weighed on the table lacks what the stakes lack.
+pub lacks-same : (t : StakeTable) → Sound t → (k : CertificateKind) (c : Certificate) (w : Weighed)
+    → w ≡ weighed (t .stakes) (t .count) (λ n. bit (c .maska) n || bit (c .maskb) n) → (n : ℕ) → n ≡ fifthsOf k → (m : ℕ)
+    → m ≡ missing n (t .total .0) (w .weight .0) → m ≡ lacking (stakesOf t) k c
+unfolding lacking
+lacks-same t s k c w q n e m h =
     let v : w .weight .0 ≡ signedWeight (stakesOf t) c = ap (λ (x : Weighed). x .weight .0) (stakes-weighed t s c w q) in
-    sym
-    (h ∙ ap (λ (x : ℕ). reaches x (t .total .0) (w .weight .0)) e
-    ∙ ap₂ (λ (x y : ℕ). reaches (fifthsOf k) x y) (stakes-total t s) v)
+    h ∙ ap (λ (x : ℕ). missing x (t .total .0) (w .weight .0)) e
+    ∙ ap₂ (λ (x y : ℕ). missing (fifthsOf k) x y) (stakes-total t s) v
+
+-- Something lacking is a weight below the threshold, and nothing lacking is not.
+pub lacks-some : (ws : List ℕ) (k : CertificateKind) (c : Certificate) (m : ℕ) → m ≡ lacking ws k c → (m ≡ 0 → ⊥)
+    → reaches (fifthsOf k) (totalTo ws (length ws)) (signedWeight ws c) ≡ false
+unfolding lacking
+lacks-some ws k c m e z = some-missing (fifthsOf k) (totalTo ws (length ws)) (signedWeight ws c) m e z
+
+pub lacks-none : (ws : List ℕ) (k : CertificateKind) (c : Certificate) (m : ℕ) → m ≡ lacking ws k c → m ≡ 0
+    → reaches (fifthsOf k) (totalTo ws (length ws)) (signedWeight ws c) ≡ true
+unfolding lacking
+lacks-none ws k c m e z = none-missing (fifthsOf k) (totalTo ws (length ws)) (signedWeight ws c) m e z
 
 -- What is told of a certificate that was weighed.
 pub weighed-told : (t : StakeTable) → (k : CertificateKind) (c : Certificate) → Heard t k c → (w : Weighed)
@@ -139,7 +152,7 @@ pub judge-is : (t : StakeTable) → Sound t → (k : CertificateKind) (c : Certi
 unfolding judge judgeKind weighedIn
 judge-is t s k c next e v h =
     let ws = stakesOf t in
-    let last = refuseIf (not (reaches (fifthsOf k) (totalTo ws (length ws)) (signedWeight ws c))) refusal.TooLight verdict.Fine in
+    let last = judgeWeight ws k c in
     ap (λ (x : CertificateKind). told ws (judged (judgeKind ws x c) c next)) (sym e)
     ∙ fault-then ws c next (isOtherKind k) (not (slotOk (c .slot))) (blockMisfits k (c .block)) (badSigners (length ws) k c) last
     ∙ ap (λ (x : Verdict). unless x (told ws (judged last c next)))

@@ -1,6 +1,6 @@
 -- What is told of one certificate on a stake table.
 use mathlib.Core.Path.{_≡_}
-use mathlib.Core.Bool.{Bool, not}
+use mathlib.Core.Bool.{Bool}
 use mathlib.Core.List.{List}
 use Prim.Native.Nat.{ℕ, _≤_}
 use lib.ListN.{length, take}
@@ -9,11 +9,9 @@ use Rattle.rulebook.specs.declared.CertificateKind.{CertificateKind}
 use Rattle.rulebook.specs.declared.Refusal.the-variants as refusal
 use Rattle.rulebook.specs.declared.Verdict.{Verdict}
 use Rattle.rulebook.specs.declared.Verdict.the-variants as verdict
-use Rattle.rulebook.specs.Weights.{reaches, totalTo}
 use Rattle.rulebook.specs.PaperNumbers.{certificateKind}
-use Rattle.rulebook.specs.Pool.{fifthsOf}
 use Rattle.rulebook.specs.Inputs.{refuseIf}
-use Rattle.rulebook.specs.Checker.{One, good, bad, signedWeight, acceptedOf, judged}
+use Rattle.rulebook.specs.Checker.{One, good, bad, judgeWeight, acceptedOf, judged}
 use Rattle.stakes.specs.declared.StakeTable.{StakeTable}
 use Rattle.stakes.specs.Table.{Fit}
 use Rattle.certificates.specs.declared.Checked.{Checked}
@@ -51,6 +49,4 @@ unless (verdict.Refused r) x = checked.Bad r
 
 -- 15, the last test of a certificate.
 unfoldable pub weighedIn : List ℕ → CertificateKind → Certificate → ℕ → Checked
-weighedIn stakes k c next =
-    told stakes
-    (judged (refuseIf (not (reaches (fifthsOf k) (totalTo stakes (length stakes)) (signedWeight stakes c))) refusal.TooLight verdict.Fine) c next)
+weighedIn stakes k c next = told stakes (judged (judgeWeight stakes k c) c next)

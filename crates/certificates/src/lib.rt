@@ -56,7 +56,7 @@ fn bad_signers(count: usize, k: CertificateKind, c: Certificate) -> bool
     (past_a | past_b) | (both | (no_b & (c.maskb != 0)))
 }
 
-// 15, or what is told of the certificate: the signers are weighed once.
+// 15 with what is missing, or what is told of the certificate: the signers are weighed once.
 fn weigh_in(t: StakeTable, k: CertificateKind, c: Certificate, next: usize) -> Checked
     requires { ⌜ Heard t k c ⌝ }
     ensures { λ r. ⌜ r ≡ weighedIn (stakesOf t) k c next ⌝ }
@@ -65,8 +65,9 @@ fn weigh_in(t: StakeTable, k: CertificateKind, c: Certificate, next: usize) -> C
     let w = stakes::weigh(t, c.maska, c.maskb);
     let weight = w.weight;
     let needed = threshold_of(k);
-    if !needed.reached(weight, total) {
-        return Checked::Bad(Refusal::TooLight);
+    let missing = needed.missing(weight, total);
+    if missing.0 != 0 {
+        return Checked::Bad(Refusal::TooLight(missing));
     }
     let slot = Slot(c.slot as usize);
     Checked::Good(

@@ -9,19 +9,19 @@ use Rattle.rulebook.specs.Ledger.{Ledger, ownCell, noInitial}
 use Rattle.rulebook.specs.Rules.{windowOpen}
 use Rattle.rulebook.proofs.ToolLaws.{some-at}
 
--- The own vote in the window's slot i is missing.
-abbrev pub missing : Ledger → ℕ → ℕ → Bool
-missing l first i = noInitial (ownCell l (first + i))
+-- No own initial vote in the window's slot i.
+abbrev pub unvoted : Ledger → ℕ → ℕ → Bool
+unvoted l first i = noInitial (ownCell l (first + i))
 
 pub first-is : (s : ℕ) → (s - 1) / 4 * 4 + 1 ≡ firstOf s
 unfolding firstOf windowOf
 first-is s = omega arith
 
 module _ (l : Ledger) (s first : ℕ) (e : first ≡ firstOf s) where
-  pub open-found : (i : ℕ) → i < 4 → missing l first i ≡ true → windowOpen l s ≡ true
+  pub open-found : (i : ℕ) → i < 4 → unvoted l first i ≡ true → windowOpen l s ≡ true
   unfolding windowOpen
-  open-found i h d = some-at 4 i (λ j. noInitial (ownCell l (firstOf s + j))) h (ap (λ (f : ℕ). missing l f i) (sym e) ∙ d)
+  open-found i h d = some-at 4 i (λ j. noInitial (ownCell l (firstOf s + j))) h (ap (λ (f : ℕ). unvoted l f i) (sym e) ∙ d)
 
-  pub open-none : someTo 4 (missing l first) ≡ false → windowOpen l s ≡ false
+  pub open-none : someTo 4 (unvoted l first) ≡ false → windowOpen l s ≡ false
   unfolding windowOpen
-  open-none d = ap (λ (f : ℕ). someTo 4 (missing l f)) (sym e) ∙ d
+  open-none d = ap (λ (f : ℕ). someTo 4 (unvoted l f)) (sym e) ∙ d
