@@ -7,7 +7,7 @@ use Rattle.rulebook.specs.declared.StepAnswer.{StepAnswer}
 use Rattle.rulebook.specs.declared.Input.{Input}
 use Rattle.rulebook.specs.declared.WriteAnswer.{WriteAnswer}
 use Rattle.rulebook.specs.declared.CheckAnswer.{CheckAnswer}
-use Rattle.rulebook.specs.PaperNumbers.{startPanel, stepPanel, writePanel, checkPanel}
+use Rattle.rulebook.specs.PaperNumbers.{startPanel, stepPanel, writePanel, checkPanel, checkMissing}
 use Rattle.rulebook.specs.Writers as writer
 use Rattle.node.specs.Stepping.{StepOf, stepLeaves}
 use Rattle.soundness.specs.Starting.{StartOf}
@@ -42,9 +42,11 @@ wrote w buffer a n k after s e d =
       bytes = s .bytes;
     }
 
-pub checked : (b a : CheckAnswer) (n : ℕ) (vs : List ℕ) → a ≡ b → n ≡ checkPanel a .number → vs ≡ checkPanel a .values → Checked b n vs
-checked b a n vs s e d =
+pub checked : (b a : CheckAnswer) (n : ℕ) (vs : List ℕ) (m : ℕ) → a ≡ b → n ≡ checkPanel a .number → vs ≡ checkPanel a .values → m ≡ checkMissing a
+    → Checked b n vs m
+checked b a n vs m s e d f =
     record {
       numbered = e ∙ ap (λ (x : CheckAnswer). checkPanel x .number) s;
       valued = d ∙ ap (λ (x : CheckAnswer). checkPanel x .values) s;
+      lacked = f ∙ ap checkMissing s;
     }

@@ -29,6 +29,6 @@ pub wrote-one : {w : writer.Wrote} {buffer after after' : List ℕ} {n n' count 
 wrote-one a b = (a .numbered ∙ sym (b .numbered), beside-one (a .counted) (b .counted), a .bytes ∙ sym (b .bytes))
 
 -- qr_check_certificate, qr_check_proof.
-pub checked-one : {answer : CheckAnswer} {n n' : ℕ} {values values' : List ℕ} → Checked answer n values → Checked answer n' values'
-    → (n ≡ n') × (values ≡ values')
-checked-one a b = (a .numbered ∙ sym (b .numbered), a .valued ∙ sym (b .valued))
+pub checked-one : {answer : CheckAnswer} {n n' missing missing' : ℕ} {values values' : List ℕ} → Checked answer n values missing → Checked answer n' values' missing'
+    → (n ≡ n') × (values ≡ values') × (missing ≡ missing')
+checked-one a b = (a .numbered ∙ sym (b .numbered), a .valued ∙ sym (b .valued), a .lacked ∙ sym (b .lacked))

@@ -5,7 +5,7 @@ use Prim.Native.Nat.{ℕ}
 use Rattle.rulebook.specs.declared.Accepted.{Accepted}
 use Rattle.rulebook.specs.declared.CheckAnswer.{CheckAnswer}
 use Rattle.rulebook.specs.declared.Input.{Input}
-use Rattle.rulebook.specs.PaperNumbers.{certificateNumber, startPanel, stepPanel, writePanel, checkPanel}
+use Rattle.rulebook.specs.PaperNumbers.{certificateNumber, startPanel, stepPanel, writePanel, checkPanel, checkMissing}
 use Rattle.rulebook.specs.Writers.{over}
 use Rattle.rulebook.specs.Writers as written
 pub use Rattle.inputs.specs.Inputs.{voteInput, blockInput, timeoutInput}
@@ -38,7 +38,8 @@ pub record Wrote (wrote : written.Wrote) (buffer : List ℕ) (number count : ℕ
   pub counted : Beside count (writePanel (wrote .answer) .values)
   pub bytes : after ≡ over (wrote .bytes) buffer
 
--- A check: its number and its five values.
-pub record Checked (answer : CheckAnswer) (number : ℕ) (values : List ℕ) : Type 0 where
+-- A check: its number, its five values, and what is missing beside 15.
+pub record Checked (answer : CheckAnswer) (number : ℕ) (values : List ℕ) (missing : ℕ) : Type 0 where
   pub numbered : number ≡ checkPanel answer .number
   pub valued : values ≡ checkPanel answer .values
+  pub lacked : missing ≡ checkMissing answer

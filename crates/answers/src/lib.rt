@@ -1,8 +1,9 @@
 // What the operations answer, as numbers and values on the panel: the definitions of the paper's numbers say which.
 ghost use mathlib.Core.Path.{_≡_};
-ghost use Rattle.rulebook.specs.PaperNumbers.{startPanel, stepPanel, writePanel, checkPanel};
+ghost use Rattle.rulebook.specs.PaperNumbers.{startPanel, stepPanel, writePanel, checkPanel, checkMissing};
 ghost use Rattle.answers.specs.Face.{Beside, acceptedValues};
 use kinds::kind_number;
+use kinds::refusal_missing;
 use kinds::refusal_number;
 use rulebook::Accepted;
 use rulebook::CheckAnswer;
@@ -77,6 +78,19 @@ pub fn check_values(a: CheckAnswer) -> [u64; 5]
     match a {
         CheckAnswer::Accepted(x) => accepted_values(x),
         CheckAnswer::Refused(_) => [0, 0, 0, 0, 0],
+    }
+}
+
+// What is missing to the threshold, 0 unless the number is 15.
+pub fn check_missing(a: CheckAnswer) -> u64
+    ensures { λ r. ⌜ r ≡ checkMissing a ⌝ }
+{
+    match a {
+        CheckAnswer::Accepted(_) => 0,
+        CheckAnswer::Refused(r) => {
+            let missing = refusal_missing(r);
+            missing.0
+        }
     }
 }
 

@@ -1,14 +1,16 @@
 // B9 and further packets, checked: one line each, compared with the stored output. A line tells the packet, the number of the
-// answer and the values beside it: kind, slot, block, signer count, weight.
+// answer and the values beside it: kind, slot, block, signer count, weight; behind 15, what is missing.
 use checker::check_certificate;
 use checker::check_proof;
 use kinds::kind_number;
+use kinds::refusal_missing;
 use kinds::refusal_number;
 use page::end_line;
 use page::say;
 use page::tell;
 use page::tell_bytes;
 use rulebook::CheckAnswer;
+use rulebook::Refusal;
 
 // A number behind a space.
 fn value(n: u64) {
@@ -16,7 +18,15 @@ fn value(n: u64) {
     tell(n);
 }
 
-// The answer's number and the five values beside it; zeros beside a refusal.
+// A refusal's number, zeros for the five values, and what is missing, 0 unless the number is 15.
+fn refused(r: Refusal) {
+    let missing = refusal_missing(r);
+    value(refusal_number(r));
+    say(b" 0 0 0 0 0");
+    value(missing.0);
+}
+
+// The answer's number, the five values beside it, and what is missing: nothing where it is accepted.
 fn answer(a: CheckAnswer) {
     match a {
         CheckAnswer::Accepted(x) => {
@@ -27,11 +37,9 @@ fn answer(a: CheckAnswer) {
             value(x.block);
             value(x.signers);
             value(x.weight.0);
+            value(0);
         }
-        CheckAnswer::Refused(r) => {
-            value(refusal_number(r));
-            say(b" 0 0 0 0 0");
-        }
+        CheckAnswer::Refused(r) => refused(r),
     }
     end_line();
 }
@@ -169,6 +177,22 @@ fn of_unlike_nodes() {
     certificate(&stakes, b"\x02\x01\x07\x10\x00");
 }
 
+// Eleven nodes of stake 1, and stakes 4, 2, 1: totals that are no multiple of five, one, two and three short.
+fn of_uneven_totals() {
+    let eleven = [1u64; 11];
+    certificate(&eleven, b"\x02\x01\x07\x7f\x00");
+    certificate(&eleven, b"\x02\x01\x07\x3f\x00");
+    certificate(&eleven, b"\x01\x01\x07\xff\x03\x00");
+    certificate(&eleven, b"\x01\x01\x07\xff\x01\x00");
+    certificate(&eleven, b"\x01\x01\x07\x3f\x00");
+    let seven = [4u64, 2, 1];
+    certificate(&seven, b"\x02\x01\x07\x05\x00");
+    certificate(&seven, b"\x02\x01\x07\x01\x00");
+    certificate(&seven, b"\x01\x01\x07\x01\x00");
+    certificate(&seven, b"\x04\x01\x00\x02\x00");
+    certificate(&seven, b"\x02\x01\x07\x02\x04");
+}
+
 // The whole mask, and node 63 alone.
 fn of_64_nodes() {
     let stakes = [1u64; 64];
@@ -243,6 +267,8 @@ fn proofs_of_ten_nodes() {
     proof(&stakes, b"\x02\x01\x07\x3f\x00\x05\x01\x00\x3e\x00");
     proof(&stakes, b"\x02\x01\x07\x3f\x00\x05\x01\x00\xff\x07\x00");
     proof(&stakes, b"\x01\x01\x07\x7f\x00");
+    proof(&stakes, b"\x02\x01\x07\x03\x00\x05\x01\x00\x01\x00");
+    proof(&stakes, b"\x02\x01\x07\x7f\x00\x05\x01\x00\x07\x00");
 }
 
 // 1 for a table that breaks the sizes, before every test of the packet; a total of 2^48 is fine.
@@ -282,6 +308,7 @@ fn main() {
     light_or_left_over();
     of_ten_nodes();
     of_unlike_nodes();
+    of_uneven_totals();
     of_64_nodes();
     good_proofs();
     first_of_a_proof();

@@ -102,10 +102,10 @@ kind-of-number certificate.Final = refl
 kind-of-number certificate.Other = refl
 
 -- A check that answers 0 accepts the kind, slot and block that its values name.
-zero-accepted : {answer : CheckAnswer} {kind slot block signers weight : ℕ} → Checked answer 0 (kind ∷ slot ∷ block ∷ signers ∷ weight ∷ [])
+zero-accepted : {answer : CheckAnswer} {kind slot block signers weight missing : ℕ} → Checked answer 0 (kind ∷ slot ∷ block ∷ signers ∷ weight ∷ []) missing
     → AcceptedAs answer (certificateKind kind) slot block
 unfolding checkPanel
-zero-accepted {answer} {kind} {slot} {block} {signers} {weight} c = go answer (c .numbered) (c .valued)
+zero-accepted {answer} {kind} {slot} {block} {signers} {weight} {missing} c = go answer (c .numbered) (c .valued)
   where
     go : (a : CheckAnswer) → 0 ≡ checkPanel a .number → kind ∷ slot ∷ block ∷ signers ∷ weight ∷ [] ≡ checkPanel a .values → AcceptedAs a (certificateKind kind) slot block
     go (check.Accepted x) e v =
@@ -119,7 +119,7 @@ same-slot : (x y : Slot) (s : ℕ) → x .0 ≡ s → y .0 ≡ s → x ≡ y
 same-slot x y s p q = ap (λ (k : ℕ). record { 0 = k }) (p ∙ sym q)
 
 pub host-safe : HostSafe
-host-safe stakes genesis honest lives ring proof packet kind slot block signers weight kind′ block′ signers′ weight′ g k x y =
+host-safe stakes genesis honest lives ring proof packet kind slot block signers weight missing kind′ block′ signers′ weight′ missing′ g k x y =
     let p = zero-accepted x in
     let q = zero-accepted y in
     let all = ring .nodes .lived in
@@ -129,7 +129,7 @@ host-safe stakes genesis honest lives ring proof packet kind slot block signers 
     (same-slot (q .what .slot) (p .what .slot) slot (q .slotIs) (p .slotIs)))
 
 pub host-proofs-agree : HostProofsAgree
-host-proofs-agree stakes genesis honest lives ring proof rival kind slot block signers weight kind′ block′ signers′ weight′ g k x y =
+host-proofs-agree stakes genesis honest lives ring proof rival kind slot block signers weight missing kind′ block′ signers′ weight′ missing′ g k x y =
     let p = zero-accepted x in
     let q = zero-accepted y in
     let all = ring .nodes .lived in
@@ -157,10 +157,10 @@ zero-written w buffer after count r = (record { answered = refl; bytes = r .byte
     go (write.Refused x) e b = refusal-above x (sym e)
 
 -- What a check answers where its answer accepts.
-named : (answer : CheckAnswer) (number : ℕ) (values : List ℕ) (k : CertificateKind) (slot block : ℕ) → Checked answer number values → AcceptedAs answer k slot block
+named : (answer : CheckAnswer) (number : ℕ) (values : List ℕ) (missing : ℕ) (k : CertificateKind) (slot block : ℕ) → Checked answer number values missing → AcceptedAs answer k slot block
     → NamedAs number values (certificateNumber k) slot block
 unfolding checkPanel
-named answer number values k slot block c a =
+named answer number values missing k slot block c a =
     let w = a .what in
     let v : values ≡ acceptedValues w = c .valued ∙ ap (λ (x : CheckAnswer). checkPanel x .values) (a .accepted) in
     record {
@@ -209,19 +209,19 @@ kind-written ws room k s b n e =
     refuse-fine _ _ _ (refuse-fine _ _ _ v .1) .0
 
 pub host-certificate-accepted : HostCertificateAccepted
-host-certificate-accepted stakes own genesis life h buffer after values kind slot block written number small w c =
+host-certificate-accepted stakes own genesis life h buffer after values kind slot block written number missing small w c =
     let k = certificateKind kind in
     let ws = leftBy (lifeOf life) in
     let on = certificateOn ws (length buffer) k slot block in
     let z = zero-written on buffer after written (subst (λ (x : List ℕ). Wrote (certificateOn x (length buffer) k slot block) buffer 0 written after) (sym (left-is life)) w) in
     let a = code-certificate-accepted stakes own genesis (lifeOf life) (lived-is stakes own genesis life h) buffer after k slot block written (on .answer) (checkCertificate stakes (take written after)) small (z .0) (z .1) refl in
     subst (λ (x : ℕ). NamedAs number values x slot block) (number-of-kind kind (kind-written ws (length buffer) k slot block written (z .1)))
-    (named (checkCertificate stakes (take written after)) number values k slot block c a)
+    (named (checkCertificate stakes (take written after)) number values missing k slot block c a)
 
 pub host-proof-accepted : HostProofAccepted
-host-proof-accepted stakes own genesis life h buffer after values slot block written number small w c =
+host-proof-accepted stakes own genesis life h buffer after values slot block written number missing small w c =
     let ws = leftBy (lifeOf life) in
     let on = proofOn ws (length buffer) slot block in
     let z = zero-written on buffer after written (subst (λ (x : List ℕ). Wrote (proofOn x (length buffer) slot block) buffer 0 written after) (sym (left-is life)) w) in
     let a = code-proof-accepted stakes own genesis (lifeOf life) (lived-is stakes own genesis life h) buffer after slot block written (on .answer) (checkProof stakes (take written after)) small (z .0) (z .1) refl in
-    (certificateNumber (a .0), named (checkProof stakes (take written after)) number values (a .0) slot block c (a .1))
+    (certificateNumber (a .0), named (checkProof stakes (take written after)) number values missing (a .0) slot block c (a .1))

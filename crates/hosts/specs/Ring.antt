@@ -49,19 +49,19 @@ module _ (stakes : List ℕ) (genesis : ℕ → ℕ) (honest : Test) (lives : �
   -- of kind 1, 2 or 3 for another block.
   abbrev pub NoRival : Type 0
   NoRival =
-      (proof packet : List ℕ) (kind slot block signers weight kind′ block′ signers′ weight′ : ℕ)
+      (proof packet : List ℕ) (kind slot block signers weight missing kind′ block′ signers′ weight′ missing′ : ℕ)
       → GenuinePacket honest (toldBallot lives) proof → GenuinePacket honest (toldBallot lives) packet
-      → Checked (checkProof stakes proof) 0 (kind ∷ slot ∷ block ∷ signers ∷ weight ∷ [])
-      → Checked (checkCertificate stakes packet) 0 (kind′ ∷ slot ∷ block′ ∷ signers′ ∷ weight′ ∷ [])
+      → Checked (checkProof stakes proof) 0 (kind ∷ slot ∷ block ∷ signers ∷ weight ∷ []) missing
+      → Checked (checkCertificate stakes packet) 0 (kind′ ∷ slot ∷ block′ ∷ signers′ ∷ weight′ ∷ []) missing′
       → Agrees (certificateKind kind′) block′ block
 
   -- Where qr_check_proof answers 0 to two packets for one slot, it names one block.
   abbrev pub OneBlock : Type 0
   OneBlock =
-      (proof rival : List ℕ) (kind slot block signers weight kind′ block′ signers′ weight′ : ℕ)
+      (proof rival : List ℕ) (kind slot block signers weight missing kind′ block′ signers′ weight′ missing′ : ℕ)
       → GenuinePacket honest (toldBallot lives) proof → GenuinePacket honest (toldBallot lives) rival
-      → Checked (checkProof stakes proof) 0 (kind ∷ slot ∷ block ∷ signers ∷ weight ∷ [])
-      → Checked (checkProof stakes rival) 0 (kind′ ∷ slot ∷ block′ ∷ signers′ ∷ weight′ ∷ [])
+      → Checked (checkProof stakes proof) 0 (kind ∷ slot ∷ block ∷ signers ∷ weight ∷ []) missing
+      → Checked (checkProof stakes rival) 0 (kind′ ∷ slot ∷ block′ ∷ signers′ ∷ weight′ ∷ []) missing′
       → block′ ≡ block
 
 -- SAFETY over the C face.
@@ -107,17 +107,17 @@ pub record NamedAs (number : ℕ) (values : List ℕ) (kind slot block : ℕ) : 
 abbrev pub HostCertificateAccepted : Type 0
 HostCertificateAccepted =
     (stakes : List ℕ) (own genesis : ℕ) (life : HostLife) → HostLived stakes own genesis life
-    → (buffer after values : List ℕ) (kind slot block written number : ℕ) → block < 2 ^ 64
+    → (buffer after values : List ℕ) (kind slot block written number missing : ℕ) → block < 2 ^ 64
     → Wrote (certificateOn (wordsLeft life) (length buffer) (certificateKind kind) slot block) buffer 0 written after
-    → Checked (checkCertificate stakes (take written after)) number values → NamedAs number values kind slot block
+    → Checked (checkCertificate stakes (take written after)) number values missing → NamedAs number values kind slot block
 
 -- Likewise qr_write_proof and qr_check_proof.
 abbrev pub HostProofAccepted : Type 0
 HostProofAccepted =
     (stakes : List ℕ) (own genesis : ℕ) (life : HostLife) → HostLived stakes own genesis life
-    → (buffer after values : List ℕ) (slot block written number : ℕ) → block < 2 ^ 64
+    → (buffer after values : List ℕ) (slot block written number missing : ℕ) → block < 2 ^ 64
     → Wrote (proofOn (wordsLeft life) (length buffer) slot block) buffer 0 written after
-    → Checked (checkProof stakes (take written after)) number values → (kind : ℕ) × NamedAs number values kind slot block
+    → Checked (checkProof stakes (take written after)) number values missing → (kind : ℕ) × NamedAs number values kind slot block
 
 -- What qr_write_certificate and qr_write_proof, answering 0, wrote to the buffer's front at any moment of an honest node's life is genuine, so
 -- that the promises hold of it with no premise on packets.

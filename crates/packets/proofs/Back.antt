@@ -19,6 +19,7 @@ use Rattle.rulebook.specs.declared.Found.the-variants as found
 use Rattle.rulebook.specs.declared.Refusal.the-variants as refusal
 use Rattle.rulebook.specs.declared.Verdict.{Verdict}
 use Rattle.rulebook.specs.declared.Verdict.the-variants as verdict
+use Rattle.rulebook.specs.declared.Weight.{Weight}
 use Rattle.rulebook.specs.declared.WriteAnswer.the-variants as write
 use Rattle.rulebook.specs.Tools.{choose, part, sumTo, someTo}
 use Rattle.rulebook.specs.Weights.{lastSlot, mostNodes, stakeIn, weight, totalTo, reaches, slotOk, stakesFit}
@@ -28,7 +29,7 @@ use Rattle.rulebook.specs.Pool.{hasFallback, counts, weigh, weighs, signersOf, 
 use Rattle.rulebook.specs.Rules.{isFinal}
 use Rattle.rulebook.specs.Inputs.{refuseIf}
 use Rattle.rulebook.specs.Packets.{certificateAt, certificateBytes, bit, maskOf, countOf}
-use Rattle.rulebook.specs.Checker.{good, isOtherKind, blockMisfits, withoutB, badSigners, signed, signedWeight, judgeKind, judge, acceptedOf, judged, oneOf, oneAt, ended, singleOf, checkCertificate, secondOf, firstIn, proofOf, checkProof}
+use Rattle.rulebook.specs.Checker.{good, isOtherKind, blockMisfits, withoutB, badSigners, signed, signedWeight, judgeWeight, judgeKind, judge, acceptedOf, judged, oneOf, oneAt, ended, singleOf, checkCertificate, secondOf, firstIn, proofOf, checkProof}
 use Rattle.rulebook.specs.Writers.{inA, inB, certificateFor, wroteOn, certificateVerdict, writeCertificate, proofVerdict, proofBytes, writeProof}
 use Rattle.rulebook.proofs.ToolLaws.{given-on, given-off, choose-on, choose-off, and-both, both-and, or-cases, by-test, true-not-false, sum-same, sum-const, part-off}
 use Rattle.rulebook.proofs.MaskLaws.{mask-lt, masks-apart, masks-weight, masks-count, count-same}
@@ -125,10 +126,10 @@ none-of : (a b c d : Bool) → a ≡ false → b ≡ false → c ≡ false → d
 none-of a b c d p q r s = rw (p, q, r, s)
 
 -- Five tests that do not refuse.
-all-passed : (a b c d e : Bool) → a ≡ false → b ≡ true → c ≡ false → d ≡ false → e ≡ true
-    → refuseIf a refusal.BadKind (refuseIf (not b) refusal.BadSlot (refuseIf c refusal.BadBlock (refuseIf d refusal.BadSigners (refuseIf (not e) refusal.TooLight verdict.Fine)))) ≡ verdict.Fine
+all-passed : (a b c d e : Bool) (m : Weight) → a ≡ false → b ≡ true → c ≡ false → d ≡ false → e ≡ true
+    → refuseIf a refusal.BadKind (refuseIf (not b) refusal.BadSlot (refuseIf c refusal.BadBlock (refuseIf d refusal.BadSigners (refuseIf (not e) (refusal.TooLight m) verdict.Fine)))) ≡ verdict.Fine
 unfolding refuseIf
-all-passed a b c d e p q r s t = rw (p, q, r, s, t)
+all-passed a b c d e m p q r s t = rw (p, q, r, s, t)
 
 -- ---- the checker on packets that begin with a good certificate
 
@@ -233,10 +234,10 @@ module _ (l : Ledger) (stakes : List ℕ) (t : TableIs l stakes) where
       heavy h = ap₂ (reaches (fifthsOf k)) (sym (t .total)) (signed-weight ∙ sym (weight-is who)) ∙ h
 
       fine : slotOk s ≡ true → blockMisfits k b ≡ false → held l k s b ≡ true → judge stakes cert ≡ verdict.Fine
-      unfolding judge judgeKind
+      unfolding judge judgeKind judgeWeight
       fine so m h =
           ap (λ (x : CertificateKind). judgeKind stakes x cert) (kind-back k z)
-          ∙ all-passed (isOtherKind k) (slotOk s) (blockMisfits k b) (badSigners size k cert) (reaches (fifthsOf k) (totalTo stakes size) (signedWeight stakes cert)) z so m signers-fine (heavy h)
+          ∙ all-passed (isOtherKind k) (slotOk s) (blockMisfits k b) (badSigners size k cert) (reaches (fifthsOf k) (totalTo stakes size) (signedWeight stakes cert)) _ z so m signers-fine (heavy h)
 
       -- The answer is the true one.
       true-answer : acceptedOf stakes cert ≡ acceptedFor l k s b

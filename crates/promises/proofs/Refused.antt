@@ -167,6 +167,6 @@ face-proof-refused ws buffer s b number written after h ne =
 
 pub face-check-refused : FaceCheckRefused
 unfolding checkPanel
-face-check-refused answer number values h ne =
+face-check-refused answer number values missing h ne =
     let x = check-refusal answer (λ e. ne (h .numbered ∙ e)) in
     h .valued ∙ ap (λ (a : CheckAnswer). checkPanel a .values) (x .1)

@@ -9,9 +9,9 @@ use Rattle.promises.specs.Spelling.{FaceAccepted, asCertificate, asProof
 use Rattle.promises.proofs.Numbered.{check-accepted}
 
 accepted : (stakes p : List ℕ) → FaceAccepted stakes p → packet.AcceptedByEither stakes p
-accepted stakes p (asCertificate values h) =
+accepted stakes p (asCertificate values missing h) =
     let x = check-accepted (checkCertificate stakes p) (sym (h .numbered)) in packet.asCertificate (x .0) (x .1)
-accepted stakes p (asProof values h) =
+accepted stakes p (asProof values missing h) =
     let x = check-accepted (checkProof stakes p) (sym (h .numbered)) in packet.asProof (x .0) (x .1)
 
 pub face-one-packet : FaceOnePacket

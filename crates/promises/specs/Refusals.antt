@@ -69,5 +69,5 @@ FaceProofRefused =
 -- qr_check_certificate, qr_check_proof: five zeros.
 abbrev pub FaceCheckRefused : Type 0
 FaceCheckRefused =
-    (answer : CheckAnswer) (number : ℕ) (values : List ℕ) → Checked answer number values → ¬ (number ≡ 0)
+    (answer : CheckAnswer) (number : ℕ) (values : List ℕ) (missing : ℕ) → Checked answer number values missing → ¬ (number ≡ 0)
     → values ≡ 0 ∷ 0 ∷ 0 ∷ 0 ∷ 0 ∷ []

@@ -10,6 +10,7 @@ ghost use Rattle.writers.specs.Writing.{certificateOn, proofOn};
 ghost use Rattle.rulebook.specs.declared.Input.the-variants as input;
 ghost use Rattle.answers.specs.Face.{voteInput, blockInput, timeoutInput, Started, Stepped, Wrote, Checked};
 use answers::bytes_written;
+use answers::check_missing;
 use answers::check_number;
 use answers::check_values;
 use answers::records_made;
@@ -151,20 +152,32 @@ pub extern "C" fn qr_write_proof(
 
 // Checks a packet that is to be one certificate.
 #[no_mangle]
-pub extern "C" fn qr_check_certificate(stakes: &[u64], packet: &[u8], values: &mut [u64; 5]) -> u64
-    ensures { λ r. ⌜ Checked (checkCertificate (now (stakes .entry)) (now (packet .entry))) r (now (values .exit)) ⌝ }
+pub extern "C" fn qr_check_certificate(
+    stakes: &[u64],
+    packet: &[u8],
+    values: &mut [u64; 5],
+    missing: &mut u64,
+) -> u64
+    ensures { λ r. ⌜ Checked (checkCertificate (now (stakes .entry)) (now (packet .entry))) r (now (values .exit)) (now (missing .exit)) ⌝ }
 {
     let a = check_certificate(stakes, packet);
     *values = check_values(a);
+    *missing = check_missing(a);
     check_number(a)
 }
 
 // Checks a packet that is to be a finality proof.
 #[no_mangle]
-pub extern "C" fn qr_check_proof(stakes: &[u64], packet: &[u8], values: &mut [u64; 5]) -> u64
-    ensures { λ r. ⌜ Checked (checkProof (now (stakes .entry)) (now (packet .entry))) r (now (values .exit)) ⌝ }
+pub extern "C" fn qr_check_proof(
+    stakes: &[u64],
+    packet: &[u8],
+    values: &mut [u64; 5],
+    missing: &mut u64,
+) -> u64
+    ensures { λ r. ⌜ Checked (checkProof (now (stakes .entry)) (now (packet .entry))) r (now (values .exit)) (now (missing .exit)) ⌝ }
 {
     let a = check_proof(stakes, packet);
     *values = check_values(a);
+    *missing = check_missing(a);
     check_number(a)
 }

@@ -66,17 +66,21 @@ fn past(mask: u64, count: usize) {
     end();
 }
 
-// Whether a weight reaches 80, 60, 40 and 20 percent.
+// What is missing to 80, 60, 40 and 20 percent.
 fn percents(weight: Weight, total: Weight)
-    requires { ⌜ Weighable 5 (weight .0) (total .0) ⌝ }
+    requires { ⌜ Weighable 5 (total .0) ⌝ }
 {
-    flag(Threshold::EIGHTY.reached(weight, total));
-    flag(Threshold::SIXTY.reached(weight, total));
-    flag(Threshold::FORTY.reached(weight, total));
-    flag(Threshold::TWENTY.reached(weight, total));
+    let eighty = Threshold::EIGHTY.missing(weight, total);
+    let sixty = Threshold::SIXTY.missing(weight, total);
+    let forty = Threshold::FORTY.missing(weight, total);
+    let twenty = Threshold::TWENTY.missing(weight, total);
+    number(eighty.0);
+    number(sixty.0);
+    number(forty.0);
+    number(twenty.0);
 }
 
-// Signers and weight of two masks, and the percentages that it reaches.
+// Signers and weight of two masks, and what is missing to each percentage.
 fn weighing(what: &[u8], words: &[u64], a: u64, b: u64) {
     let made = make_table(words);
     if !made.fits {
@@ -187,10 +191,30 @@ fn thresholds() {
     weighing(b"B3 T=11 ", &eleven, 0xff, 0);
 }
 
+// Totals of 1, 7 and 2^48, at odd distances: a part of a unit is a whole unit missing.
+fn distances() {
+    let one = [1u64; 1];
+    let mut seven = [4u64; 3];
+    seven[1] = 2;
+    seven[2] = 1;
+    let mut most = [168_884_986_026_393u64; 2];
+    most[1] = 112_589_990_684_263;
+    weighing(b"T=1 ", &one, 0, 0);
+    weighing(b"T=1 ", &one, 1, 0);
+    weighing(b"T=7 ", &seven, 0, 4);
+    weighing(b"T=7 ", &seven, 2, 4);
+    weighing(b"T=7 ", &seven, 1, 0);
+    weighing(b"T=7 ", &seven, 1, 2);
+    weighing(b"T=2^48 ", &most, 0, 0);
+    weighing(b"T=2^48 ", &most, 1, 0);
+    weighing(b"T=2^48 ", &most, 0, 2);
+}
+
 fn main() {
     sizes();
     totals();
     masks();
     weights();
     thresholds();
+    distances();
 }

@@ -9,4 +9,4 @@ returns c = search checked
 
 pub qr-check-proof-spec : {M : Type 1} → statement M
 qr-check-proof-spec =
-    tie.close (tie.spec (λ c κs. search needs) (λ c κs. search needs) (λ c κs. search needs) returns)
+    tie.close (tie.spec (λ c κs. search needs) (λ c κs. search needs) (λ c κs. search needs) (λ c κs. search needs) returns)

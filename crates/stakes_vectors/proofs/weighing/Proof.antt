@@ -1,12 +1,10 @@
--- `weighing` calls `weigh` only with a table that was made of words that fit, and its weights fit the threshold test. Assumes nothing.
-use mathlib.Core.Bool.{_||_}
+-- `weighing` calls `weigh` only with a table that was made of words that fit, and its total fits the threshold test. Assumes nothing.
 use native.Mathlib.Omega.{arith}
 use denote.Ref.{now}
 use borrow.Author.Needs.{needs}
 use borrow.Author.Tests.{not-false}
-use Rattle.rulebook.specs.Packets.{bit}
 use Rattle.stakes.specs.Table.{Fit}
-use Rattle.stakes.proofs.Laws.{made-fit, weighed-weighable}
+use Rattle.stakes.proofs.Laws.{made-fit, weighable}
 use Rattle.stakes_vectors.proofs.weighing.Statement.{statement}
 use Rattle.stakes_vectors.proofs.weighing.Tie as tie
 
@@ -38,9 +36,7 @@ number-requires-2 c κs = search needs
 percents-requires : tie.Need-percents-requires
 percents-requires c κs =
     let w = c .before .before .before .before in
-    let s = w .before .before .before .before .before .before .before .before .args in
-    weighed-weighable (w .before .before .before .before .before .make-table .result .table) (fit (w .before))
-    (λ n. bit (s .a) n || bit (s .b) n) (w .weigh .result) (w .weigh .ensures) 5 (omega arith)
+    weighable (w .before .before .before .before .before .make-table .result .table) (fit (w .before)) 5 (omega arith)
 
 end-requires : tie.Need-end-requires
 end-requires c κs = search needs
