@@ -43,7 +43,7 @@ enum qr_number {
     QR_BAD_LENGTH = 12,   /* packet ends early, or bytes remain */
     QR_BAD_NUMBER = 13,   /* number not shortest, or above 64 bits */
     QR_BAD_SIGNERS = 14,  /* signer beyond the table, in both masks, or B where 0 is due */
-    QR_TOO_LIGHT = 15,    /* weight below the threshold */
+    QR_TOO_LIGHT = 15,    /* weight below the threshold; a check says how much is missing */
     QR_NOT_A_PROOF = 16,  /* not one of the two proof forms */
     QR_BAD_RECORD = 17,   /* the words are no node's record */
     QR_NOT_HELD = 18      /* certificate or proof asked for is not held */
@@ -96,13 +96,15 @@ uint64_t qr_write_proof(const uint64_t *record, size_t record_words, uint8_t *bu
 
 /*
  * Check a packet against the stakes alone. values gets kind, slot, block, signer count and weight of the certificate, or
- * of the proof's first; zeros beside a refusal. Refusals: 1, 12, 13, 4, 3, 5, 14, 15, and 16 for a proof.
+ * of the proof's first; zeros beside a refusal. *missing gets, beside 15, the least further stake with which the
+ * certificate that is too light, in a proof the first or the second, would reach its threshold; otherwise 0. Refusals: 1,
+ * 12, 13, 4, 3, 5, 14, 15, and 16 for a proof.
  */
 uint64_t qr_check_certificate(const uint64_t *stakes, size_t stake_count, const uint8_t *packet, size_t packet_bytes,
-                              uint64_t values[5]);
+                              uint64_t values[5], uint64_t *missing);
 
 uint64_t qr_check_proof(const uint64_t *stakes, size_t stake_count, const uint8_t *packet, size_t packet_bytes,
-                        uint64_t values[5]);
+                        uint64_t values[5], uint64_t *missing);
 
 #ifdef __cplusplus
 }

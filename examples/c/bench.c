@@ -1,4 +1,5 @@
-/* Bench cases B1 and B9 of the scope document, through the C face: one node of stake 5, one block, its finality proof. */
+/* Bench cases B1 and B9 of the scope document, through the C face: one node of stake 5, one block, its finality proof; and a
+   proof that is too light, with what is missing. */
 #include <inttypes.h>
 #include <stdio.h>
 #include <stdlib.h>
@@ -13,17 +14,18 @@ static void show_records(uint64_t number, const uint64_t *outbox, size_t made)
     printf("\n");
 }
 
-static void show_check(const char *what, uint64_t number, const uint64_t values[5])
+static void show_check(const char *what, uint64_t number, const uint64_t values[5], uint64_t missing)
 {
-    printf("B9: %s: %" PRIu64 ", kind %" PRIu64 " slot %" PRIu64 " block %" PRIu64 " signers %" PRIu64 " weight %" PRIu64 "\n", what,
-           number, values[0], values[1], values[2], values[3], values[4]);
+    printf("B9: %s: %" PRIu64 ", kind %" PRIu64 " slot %" PRIu64 " block %" PRIu64 " signers %" PRIu64 " weight %" PRIu64 ", missing %" PRIu64 "\n",
+           what, number, values[0], values[1], values[2], values[3], values[4], missing);
 }
 
 int main(void)
 {
     const uint64_t stakes[1] = {5};
     const uint8_t long_proof[10] = {0x02, 0x01, 0x07, 0x01, 0x00, 0x05, 0x01, 0x00, 0x01, 0x00};
-    uint64_t values[5];
+    const uint8_t light_proof[10] = {0x02, 0x01, 0x07, 0x01, 0x00, 0x05, 0x01, 0x00, 0x00, 0x00};
+    uint64_t values[5], missing;
     uint8_t packet[64];
     size_t made, written;
     uint64_t *record = calloc(qr_record_words(), sizeof *record);
@@ -41,8 +43,12 @@ int main(void)
     for (size_t i = 0; i < written; i++)
         printf(" %02X", packet[i]);
     printf("\n");
-    show_check("that proof", qr_check_proof(stakes, 1, packet, written, values), values);
-    show_check("kinds 2 and 5", qr_check_proof(stakes, 1, long_proof, sizeof long_proof, values), values);
+    number = qr_check_proof(stakes, 1, packet, written, values, &missing);
+    show_check("that proof", number, values, missing);
+    number = qr_check_proof(stakes, 1, long_proof, sizeof long_proof, values, &missing);
+    show_check("kinds 2 and 5", number, values, missing);
+    number = qr_check_proof(stakes, 1, light_proof, sizeof light_proof, values, &missing);
+    show_check("kind 5 without signers", number, values, missing);
     free(record);
     free(outbox);
     return 0;

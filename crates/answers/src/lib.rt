@@ -9,6 +9,7 @@ use rulebook::Accepted;
 use rulebook::CheckAnswer;
 use rulebook::StartAnswer;
 use rulebook::StepAnswer;
+use rulebook::Weight;
 use rulebook::WriteAnswer;
 
 // What start answers, as a number.
@@ -82,15 +83,12 @@ pub fn check_values(a: CheckAnswer) -> [u64; 5]
 }
 
 // What is missing to the threshold, 0 unless the number is 15.
-pub fn check_missing(a: CheckAnswer) -> u64
-    ensures { λ r. ⌜ r ≡ checkMissing a ⌝ }
+pub fn check_missing(a: CheckAnswer) -> Weight
+    ensures { λ r. ⌜ r .0 ≡ checkMissing a ⌝ }
 {
     match a {
-        CheckAnswer::Accepted(_) => 0,
-        CheckAnswer::Refused(r) => {
-            let missing = refusal_missing(r);
-            missing.0
-        }
+        CheckAnswer::Accepted(_) => Weight(0),
+        CheckAnswer::Refused(r) => refusal_missing(r),
     }
 }
 

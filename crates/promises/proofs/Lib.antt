@@ -5,3 +5,4 @@ pub mod Shown
 pub mod ShownChecks
 pub mod Spelled
 pub mod Held
+pub mod Figured

@@ -3,3 +3,4 @@ pub mod Refusals
 pub mod Panels
 pub mod Exactly
 pub mod Spelling
+pub mod Figures

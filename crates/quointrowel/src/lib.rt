@@ -162,7 +162,8 @@ pub extern "C" fn qr_check_certificate(
 {
     let a = check_certificate(stakes, packet);
     *values = check_values(a);
-    *missing = check_missing(a);
+    let short = check_missing(a);
+    *missing = short.0;
     check_number(a)
 }
 
@@ -178,6 +179,7 @@ pub extern "C" fn qr_check_proof(
 {
     let a = check_proof(stakes, packet);
     *values = check_values(a);
-    *missing = check_missing(a);
+    let short = check_missing(a);
+    *missing = short.0;
     check_number(a)
 }
