@@ -9,7 +9,8 @@ use lib.ListN.{length, getD, replicate, length-replicate, List·getD-eq-default,
 use lib.Dec.{eqb, leb, ltb}
 use borrow.Author.Tests.{eq-eqb, ne-eqb, ltb-true, ltb-false, lt-ltb, le-ltb, leb-true, eqb-true, eqb-false}
 use Rattle.rulebook.specs.declared.Cell.{Cell}
-use Rattle.rulebook.specs.Tools.{given, someTo, lower, lowest}
+use Rattle.rulebook.specs.declared.CertificateKind.the-variants as certificate
+use Rattle.rulebook.specs.Tools.{choose, given, someTo, lower, lowest}
 use Rattle.rulebook.specs.Weights.{mostNodes, lastSlot, slotOk}
 use Rattle.rulebook.specs.Ledger.{Ledger, Row, none, noRow, noCell, rowAt, cellAt}
 use Rattle.rulebook.specs.Pool.{named, namesTo, names}
@@ -20,7 +21,7 @@ use Rattle.record.specs.Setting.{noLedger}
 use Rattle.record.proofs.Reading.{ledger-shaped}
 use Rattle.pool.proofs.NameLaws.{names-none, names-more}
 use Rattle.candidates.proofs.LowestLaws.{lower-off, lowest-none, lowest-skip, lowest-take}
-use Rattle.shown.specs.Shown.{ledgerIn, lowerNamed, blockAfter, hasVotes}
+use Rattle.shown.specs.Shown.{ledgerIn, heldShown, nextFor, lowerNamed, blockAfter, hasVotes}
 
 -- ---- joint tests
 
@@ -33,6 +34,22 @@ module _ {A : Type 0} (a b : Bool) (x : A) (f : Unit {0} → A) where
 
   pub both-on : a ≡ true → b ≡ true → f tt ≡ given (a && b) x f
   both-on d e = sym (given-on (a && b) x f (both-and a b d e))
+
+-- ---- the next certificate for a block
+
+module _ (ws : List ℕ) (s b : ℕ) where
+  pub next-fast : heldShown ws certificate.Notar s b ≡ true → certificate.FastFinal ≡ nextFor ws s b
+  unfolding nextFor choose
+  next-fast e = rw e
+
+  pub next-notar : heldShown ws certificate.Notar s b ≡ false → heldShown ws certificate.NotarFallback s b ≡ true → certificate.Notar ≡ nextFor ws s b
+  unfolding nextFor choose
+  next-notar e d = rw (e, d)
+
+  pub next-fallback : heldShown ws certificate.Notar s b ≡ false → heldShown ws certificate.NotarFallback s b ≡ false
+      → certificate.NotarFallback ≡ nextFor ws s b
+  unfolding nextFor choose
+  next-fallback e d = rw (e, d)
 
 -- One of the slots 1 to 16 has a row.
 pub slot-small : (s : ℕ) → slotOk s ≡ true → s < suc lastSlot

@@ -7,10 +7,11 @@ use lib.Dec.{eqb, leb, ltb}
 use Rattle.rulebook.specs.declared.Cell.{Cell}
 use Rattle.rulebook.specs.declared.Who.{Who}
 use Rattle.rulebook.specs.declared.CertificateKind.{CertificateKind}
-use Rattle.rulebook.specs.Tools.{given, someTo, lower, lowest}
+use Rattle.rulebook.specs.declared.CertificateKind.the-variants as certificate
+use Rattle.rulebook.specs.Tools.{choose, given, someTo, lower, lowest}
 use Rattle.rulebook.specs.Weights.{mostStake, slotOk}
 use Rattle.rulebook.specs.Ledger.{Ledger, none, rowAt, cellAt}
-use Rattle.rulebook.specs.Pool.{weigh, held, names}
+use Rattle.rulebook.specs.Pool.{weigh, held, missingTo, names}
 use Rattle.rulebook.specs.WellFormed.{cellBlank}
 use Rattle.record.specs.Layout.{recordWords, ledgerOf}
 use Rattle.record.specs.Setting.{noLedger}
@@ -27,6 +28,16 @@ weightShown ws s who = given (slotOk s && soundWords ws) 0 (λ _. weigh (ledgerO
 -- The certificate is held; none is where the words are no sound record, or the slot is not one of 1 to 16.
 unfoldable pub heldShown : List ℕ → CertificateKind → ℕ → ℕ → Bool
 heldShown ws k s b = given (slotOk s && soundWords ws) false (λ _. held (ledgerOf ws) k s b)
+
+-- What is missing in slot s to a certificate; likewise, 0.
+unfoldable pub missingShown : List ℕ → CertificateKind → ℕ → ℕ → ℕ
+missingShown ws k s b = given (slotOk s && soundWords ws) 0 (λ _. missingTo (ledgerOf ws) k s b)
+
+-- The next certificate that a block could reach: notar-fallback, once that is held notar, and then fast-final.
+unfoldable pub nextFor : List ℕ → ℕ → ℕ → CertificateKind
+nextFor ws s b =
+    choose (heldShown ws certificate.Notar s b) certificate.FastFinal
+    (choose (heldShown ws certificate.NotarFallback s b) certificate.Notar certificate.NotarFallback)
 
 -- A weight's percent of a total, rounded down; 0 where there is no total, or the weight is more than all stake can be.
 unfoldable pub percent : ℕ → ℕ → ℕ

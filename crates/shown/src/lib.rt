@@ -6,7 +6,7 @@ ghost use lib.Dec.{ltb};
 ghost use Rattle.rulebook.specs.Tools.{lower, lowest};
 ghost use Rattle.rulebook.specs.Ledger.{none, rowAt, cellAt};
 ghost use Rattle.rulebook.specs.WellFormed.{cellBlank};
-ghost use Rattle.shown.specs.Shown.{ledgerIn, weightShown, heldShown, percent, fallbacks, lowerNamed, blockAfter, hasVotes, touched};
+ghost use Rattle.shown.specs.Shown.{ledgerIn, weightShown, heldShown, missingShown, nextFor, percent, fallbacks, lowerNamed, blockAfter, hasVotes, touched};
 use kinds::slot_ok;
 use record::LAST_SLOT;
 use record::NODES;
@@ -161,6 +161,32 @@ pub fn held_in(rec: &[u64], s: Slot, kind: CertificateKind, b: u64) -> bool
         return false;
     }
     pool::held(rec, table(rec), kind, s, b)
+}
+
+// What is missing in a slot to a certificate.
+pub fn missing_in(rec: &[u64], s: Slot, kind: CertificateKind, b: u64) -> Weight
+    ensures { λ r. ⌜ r .0 ≡ missingShown (now (rec .entry)) kind (s .0) b ⌝ }
+{
+    if !slot_ok(s) {
+        return Weight(0);
+    }
+    if !sound(rec) {
+        return Weight(0);
+    }
+    pool::missing_to(rec, table(rec), kind, s, b)
+}
+
+// The next certificate that a block could reach.
+pub fn next_for(rec: &[u64], s: Slot, b: u64) -> CertificateKind
+    ensures { λ r. ⌜ r ≡ nextFor (now (rec .entry)) (s .0) b ⌝ }
+{
+    if held_in(rec, s, CertificateKind::Notar, b) {
+        return CertificateKind::FastFinal;
+    }
+    if held_in(rec, s, CertificateKind::NotarFallback, b) {
+        return CertificateKind::Notar;
+    }
+    CertificateKind::NotarFallback
 }
 
 // A weight's percent of a total, rounded down.
