@@ -16,6 +16,8 @@ use shown::final_of;
 use shown::held_in;
 use shown::is_blank;
 use shown::kept_of;
+use shown::missing_in;
+use shown::next_for;
 use shown::nodes_of;
 use shown::own_of;
 use shown::percent;
@@ -154,12 +156,35 @@ fn own_fallback(b: u64) {
     }
 }
 
-// The weight of skip votes.
+// What is missing to a certificate, and its name; nothing where it is held.
+fn tell_missing(rec: &[u64], s: Slot, kind: CertificateKind, b: u64, name: &[u8]) {
+    let missing = missing_in(rec, s, kind, b);
+    if missing.0 != 0 {
+        say(b", ");
+        tell(missing.0);
+        say(b" more for ");
+        say(name);
+    }
+}
+
+// The weight of skip votes, and what is missing to the certificate, in which skip-fallback votes count too.
 fn skip_line(rec: &[u64], s: Slot) {
-    let w = weight_of(rec, s, Who::Skip);
+    let w = weight_of(rec, s, Who::SkipOrFallback);
     if w.0 != 0 {
         say(b"  skip ");
         tell_weight(rec, s, Who::Skip);
+        tell_missing(rec, s, CertificateKind::Skip, 0, b"skip certificate");
+        end_line();
+    }
+}
+
+// The weight of final votes, and what is missing to the certificate.
+fn final_line(rec: &[u64], s: Slot) {
+    let w = weight_of(rec, s, Who::Final);
+    if w.0 != 0 {
+        say(b"  final ");
+        tell_weight(rec, s, Who::Final);
+        tell_missing(rec, s, CertificateKind::Final, 0, b"final certificate");
         end_line();
     }
 }
@@ -177,12 +202,23 @@ fn tell_held(rec: &[u64], s: Slot, b: u64) {
     }
 }
 
-// A block that votes name: its notar weight and the certificates held for it.
+// What is missing to the next certificate that a block could reach.
+fn tell_next(rec: &[u64], s: Slot, b: u64) {
+    let kind = next_for(rec, s, b);
+    match kind {
+        CertificateKind::NotarFallback => tell_missing(rec, s, kind, b, b"notar-fallback"),
+        CertificateKind::Notar => tell_missing(rec, s, kind, b, b"notar"),
+        _ => tell_missing(rec, s, kind, b, b"fast-final"),
+    }
+}
+
+// A block that votes name: its notar weight, what is missing to its next certificate, and those held for it.
 fn block_line(rec: &[u64], s: Slot, b: u64) {
     say(b"  block ");
     tell(b);
     say(b" notar ");
     tell_weight(rec, s, Who::Notar(b));
+    tell_next(rec, s, b);
     end_line();
     if held_in(rec, s, CertificateKind::NotarFallback, b) {
         say(b"  block ");
@@ -236,6 +272,7 @@ fn slot_board(rec: &[u64], s: Slot) {
         own_line(rec, s);
         skip_line(rec, s);
         block_lines(rec, s);
+        final_line(rec, s);
         end_lines(rec, s);
     }
 }

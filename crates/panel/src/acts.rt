@@ -156,12 +156,13 @@ fn check_with(stakes: &[u64], many: usize, bytes: &[u8], whole: bool) {
 // A certificate, or a whole proof.
 fn check_packet(stakes: &[u64], bytes: &[u8], whole: bool) {
     let mut values = [0u64; 5];
+    let mut missing = 0;
     if whole {
-        let n = qr_check_proof(stakes, bytes, &mut values);
-        checked(n, &values);
+        let n = qr_check_proof(stakes, bytes, &mut values, &mut missing);
+        checked(n, &values, missing);
     } else {
-        let n = qr_check_certificate(stakes, bytes, &mut values);
-        checked(n, &values);
+        let n = qr_check_certificate(stakes, bytes, &mut values, &mut missing);
+        checked(n, &values, missing);
     }
 }
 
@@ -173,10 +174,10 @@ fn help() {
     say(b"timeout SLOT | look                  0 N kind,slot,block ..\n");
     say(b"cert KIND SLOT BLOCK                 0 BYTES HEX\n");
     say(b"proof SLOT BLOCK                     0 BYTES HEX\n");
-    say(b"check HEX STAKE..                    0 KIND SLOT BLOCK SIGNERS WEIGHT\n");
-    say(b"checkproof HEX STAKE..               0 KIND SLOT BLOCK SIGNERS WEIGHT\n");
+    say(b"check HEX STAKE..                    0 KIND SLOT BLOCK SIGNERS WEIGHT, 15 MISSING\n");
+    say(b"checkproof HEX STAKE..               0 KIND SLOT BLOCK SIGNERS WEIGHT, 15 MISSING\n");
     say(b"board | votes | help                 for people\n");
-    say(b"A refusal is its number alone; ? a line that is none of these.\n");
+    say(b"Any other refusal is its number alone; ? a line that is none of these.\n");
 }
 
 // board, votes
