@@ -97,6 +97,20 @@ impl Cover {
             "checkproof" if number != "?" => self.take_checked_proof(&words, number),
             _ => {}
         }
+        if number == "15" {
+            self.take_missing(&words, answered[1]);
+        }
+    }
+
+    /// How far a certificate is from its threshold.
+    fn take_missing(&mut self, words: &[&str], missing: &str) {
+        let total: u64 = words[2..].iter().filter_map(|word| word.parse::<u64>().ok()).sum();
+        let distance = match missing.parse::<u64>() {
+            Ok(1) => "1",
+            Ok(2..=5) => "2 to 5",
+            _ => "more",
+        };
+        self.note(format!("{} missing {distance}, total 5k + {}", words[0], total % 5));
     }
 
     fn take_records(&mut self, answered: &[&str]) {

@@ -144,8 +144,9 @@ fn check_one(rest: &mut &[u8], stakes: &Stakes) -> Result<Checked, Refusal> {
         return Err(Refusal::Signers);
     }
     let weight = stakes.weight_of_mask(a | b);
-    if !stakes.reaches(weight, cert.threshold()) {
-        return Err(Refusal::TooLight);
+    let missing = stakes.missing(weight, cert.threshold());
+    if missing > 0 {
+        return Err(Refusal::TooLight(missing));
     }
     Ok(Checked { kind, slot, block, count: u64::from((a | b).count_ones()), weight })
 }

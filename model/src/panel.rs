@@ -42,7 +42,7 @@ impl Panel {
             return None;
         }
         Some(match parse(&words) {
-            Ok(command) => self.obey(command).unwrap_or_else(|refusal| vec![refusal.number().to_string()]),
+            Ok(command) => self.obey(command).unwrap_or_else(|refusal| vec![show_refusal(refusal)]),
             Err(Malformed) => vec![NOT_A_COMMAND.to_string()],
         })
     }
@@ -170,6 +170,13 @@ fn hex_digit(digit: u8) -> Result<u8, Malformed> {
 }
 
 // ---- showing ----
+
+fn show_refusal(refusal: Refusal) -> String {
+    match refusal {
+        Refusal::TooLight(missing) => format!("{} {missing}", refusal.number()),
+        _ => refusal.number().to_string(),
+    }
+}
 
 fn show_records(records: &[Record]) -> String {
     let mut line = format!("0 {}", records.len());

@@ -2,28 +2,47 @@
 
 #[derive(Clone, Copy, PartialEq, Eq, Debug)]
 pub enum Refusal {
-    Sizes = 1,
-    NoSuchNode = 2,
-    NoSuchSlot = 3,
-    NoSuchKind = 4,
-    BlockNumber = 5,
-    OwnName = 6,
-    AlreadyKept = 7,
-    AnotherStands = 8,
-    // 9 is about lent memory, of which the model has none.
-    NotArmed = 10,
-    WrongParent = 11,
-    PacketLength = 12,
-    PacketNumber = 13,
-    Signers = 14,
-    TooLight = 15,
-    NotAProof = 16,
-    NoNode = 17,
-    NotHeld = 18,
+    Sizes,
+    NoSuchNode,
+    NoSuchSlot,
+    NoSuchKind,
+    BlockNumber,
+    OwnName,
+    AlreadyKept,
+    AnotherStands,
+    NotArmed,
+    WrongParent,
+    PacketLength,
+    PacketNumber,
+    Signers,
+    /// With the weight that is missing.
+    TooLight(u64),
+    NotAProof,
+    NoNode,
+    NotHeld,
 }
 
 impl Refusal {
     pub fn number(self) -> u64 {
-        self as u64
+        match self {
+            Refusal::Sizes => 1,
+            Refusal::NoSuchNode => 2,
+            Refusal::NoSuchSlot => 3,
+            Refusal::NoSuchKind => 4,
+            Refusal::BlockNumber => 5,
+            Refusal::OwnName => 6,
+            Refusal::AlreadyKept => 7,
+            Refusal::AnotherStands => 8,
+            // 9 is about lent memory, of which the model has none.
+            Refusal::NotArmed => 10,
+            Refusal::WrongParent => 11,
+            Refusal::PacketLength => 12,
+            Refusal::PacketNumber => 13,
+            Refusal::Signers => 14,
+            Refusal::TooLight(_) => 15,
+            Refusal::NotAProof => 16,
+            Refusal::NoNode => 17,
+            Refusal::NotHeld => 18,
+        }
     }
 }

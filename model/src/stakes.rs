@@ -43,8 +43,15 @@ impl Stakes {
         node < self.each.len() as u64
     }
 
+    /// The least further weight with which the threshold would be reached.
+    pub fn missing(&self, weight: u64, threshold: Threshold) -> u64 {
+        let fifths = threshold.0 * u128::from(self.total);
+        let least = (fifths + 4) / 5;
+        (least as u64).saturating_sub(weight)
+    }
+
     pub fn reaches(&self, weight: u64, threshold: Threshold) -> bool {
-        5 * u128::from(weight) >= threshold.0 * u128::from(self.total)
+        self.missing(weight, threshold) == 0
     }
 
     /// The weight of the nodes in a signer mask; bits past the table weigh nothing.

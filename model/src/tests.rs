@@ -240,6 +240,24 @@ fn largest_total_does_not_overflow() {
     assert!(stakes.reaches(fifth, P20) && !stakes.reaches(fifth - 1, P20));
 }
 
+#[test]
+fn missing_is_the_least_weight_that_reaches() {
+    for total in 1..=26 {
+        let stakes = Stakes::new(&[total]).unwrap();
+        for (fifths, threshold) in [(1, P20), (2, P40), (3, P60), (4, P80)] {
+            for weight in 0..=total {
+                let enough = |x: u64| 5 * (weight + x) >= fifths * total;
+                let missing = stakes.missing(weight, threshold);
+                assert!(enough(missing) && (missing == 0 || !enough(missing - 1)), "{weight} of {total}");
+                assert_eq!(stakes.reaches(weight, threshold), missing == 0);
+            }
+        }
+    }
+    let most = Stakes::new(&[1 << 48]).unwrap();
+    assert_eq!(most.missing(0, P80), 225_179_981_368_525);
+    assert_eq!(most.missing(1 << 48, P80), 0);
+}
+
 // ---- refusals and their order ----
 
 #[test]
@@ -567,6 +585,26 @@ fn checker_refusals_in_order() {
 }
 
 #[test]
+fn checks_tell_the_missing_weight_beside_15_alone() {
+    // T = 11: 7 is enough for kind 2, 9 for kind 1.
+    let stakes = "1 1 1 1 1 1 5";
+    let check = |command: &str, hex: &str| run(&format!("{command} {hex} {stakes}"))[0].clone();
+    assert_eq!(check("check", "0201070000"), "15 7");
+    assert_eq!(check("check", "0201073F00"), "15 1");
+    assert_eq!(check("check", "0201074300"), "0 2 1 7 3 7");
+    assert_eq!(check("check", "0101074300"), "15 2");
+    assert_eq!(check("check", "0101070100"), "15 8");
+    // Of two certificates the one that is too light.
+    assert_eq!(check("checkproof", "0201070100050100000080"), "15 6");
+    assert_eq!(check("checkproof", "02010743000501000000"), "15 7");
+    assert_eq!(check("checkproof", "02010743000501003F0000"), "15 1");
+    // Leftover bytes come after it, other refusals have no figure.
+    assert_eq!(check("check", "020107000000"), "15 7");
+    assert_eq!(check("check", "0201070001"), "14");
+    assert_eq!(check("check", "02010743000000"), "12");
+}
+
+#[test]
 fn mask_b_alone_carries_kinds_3_and_4() {
     let good = |kind, block| Checked { kind, slot: 16, block, count: 1, weight: 5 };
     assert_eq!(check(&bytes("03 10 01 00 01"), &[5]), Ok(good(3, 1)));
@@ -758,6 +796,14 @@ fn five_hundred_scripts_reach_everything() {
     }
     for what in BRANCHES {
         assert!(seen.notes(what) >= 20, "few of: {what}");
+    }
+    for distance in ["1", "2 to 5", "more"] {
+        for rest in 0..5 {
+            for command in ["check", "checkproof"] {
+                let what = format!("{command} missing {distance}, total 5k + {rest}");
+                assert!(seen.notes(&what) >= 5, "few of: {what}");
+            }
+        }
     }
     // A life from a fresh start has room for no more than these.
     assert!(seen.most_records_in_a_call <= 67 && seen.most_records_in_a_life <= 68);

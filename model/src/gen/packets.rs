@@ -340,23 +340,37 @@ pub fn random_bytes(w: &mut Writer) {
     }
 }
 
-/// Signers around every threshold, by one checker after the other.
+/// Signers around every threshold, by one checker after the other, each over
+/// totals with every remainder by five.
 pub fn weighed(w: &mut Writer) {
     let ring = w.ring.clone();
     while !w.full() {
         let kind = w.random.range(1, 5);
-        let threshold: Threshold = w.random.pick(&[P40, P60, P60, P80, P80]);
-        let mut signers = ring.reaching(&mut w.random, threshold);
-        if w.random.percent(50) {
-            signers.pop();
-        }
-        let a = signers.into_iter().map(|node| 1u64 << node).sum();
-        let block = if kind <= 3 { 7 } else { 0 };
         let slot = w.random.range(1, LAST_SLOT);
-        let mut packet = encode(&mut w.random, &Fields { kind, slot, block, a, b: 0 }, false);
-        if kind == 2 {
-            packet.extend(certificate(&mut w.random, &ring, 5, slot, 0));
+        let mut packet = around_threshold(&mut w.random, &ring, kind, slot);
+        if kind == 2 && w.random.percent(50) {
+            packet = certificate(&mut w.random, &ring, 2, slot, 0);
         }
-        check(w, &packet, &ring.stakes);
+        if kind == 2 {
+            packet.extend(around_threshold(&mut w.random, &ring, 5, slot));
+        }
+        let mut stakes = ring.stakes.clone();
+        let at = w.random.index(stakes.len());
+        for _ in 0..w.random.pick(&[1, 1, 6]) {
+            check(w, &packet, &stakes);
+            stakes[at] += 1;
+        }
     }
+}
+
+/// A certificate that is heavy enough, or too light by little, much or all.
+fn around_threshold(random: &mut Random, ring: &Ring, kind: u64, slot: u64) -> Vec<u8> {
+    let threshold: Threshold = random.pick(&[P40, P60, P60, P80, P80]);
+    let mut signers = ring.reaching(random, threshold);
+    for _ in 0..random.pick(&[0, 0, 1, 1, 1, 2, 3, ring.nodes()]) {
+        signers.pop();
+    }
+    let a = signers.into_iter().map(|node| 1u64 << node).sum();
+    let block = if kind <= 3 { 7 } else { 0 };
+    encode(random, &Fields { kind, slot, block, a, b: 0 }, false)
 }
