@@ -9,9 +9,9 @@ use Rattle.rulebook.specs.declared.WriteAnswer.{WriteAnswer}
 use Rattle.rulebook.specs.declared.CheckAnswer.{CheckAnswer}
 use Rattle.rulebook.specs.PaperNumbers.{startPanel, stepPanel, writePanel, checkPanel, checkMissing}
 use Rattle.rulebook.specs.Writers as writer
+use Rattle.rulebook.specs.Writers.{Writes}
 use Rattle.node.specs.Stepping.{StepOf, stepLeaves}
 use Rattle.soundness.specs.Starting.{StartOf}
-use Rattle.writers.specs.Writing.{Writes}
 use Rattle.answers.specs.Face.{Beside, Started, Stepped, Wrote, Checked}
 
 pub started : (ws stakes : List ℕ) (own genesis : ℕ) (a : StartAnswer) (n : ℕ) (left : List ℕ) → StartOf ws stakes own genesis a left

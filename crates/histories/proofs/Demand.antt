@@ -11,11 +11,11 @@ use Rattle.rulebook.specs.declared.CheckAnswer.{CheckAnswer}
 use Rattle.rulebook.specs.declared.WriteAnswer.{WriteAnswer}
 use Rattle.rulebook.specs.Ledger.{Ledger, fresh, cellAt}
 use Rattle.rulebook.specs.Checker.{checkCertificate, checkProof}
-use Rattle.rulebook.specs.Writers.{Wrote, writeCertificate, writeProof}
+use Rattle.rulebook.specs.Writers.{Wrote, writeCertificate, writeProof, Writes}
 use Rattle.rulebook.proofs.ToolLaws.{given-on}
 use Rattle.record.specs.Layout.{ledgerOf}
 use Rattle.soundness.specs.Sound.{soundWords}
-use Rattle.writers.specs.Writing.{unsound, certificateOn, proofOn, Writes}
+use Rattle.writers.specs.Writing.{unsound, certificateOn, proofOn}
 use Rattle.readback.proofs.Words.{packet-is, certificate-length, proof-length}
 use Rattle.safety.specs.Slot.{Test, Ballot}
 use Rattle.safety.specs.Ballots.{has, recordFor}

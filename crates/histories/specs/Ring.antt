@@ -14,8 +14,9 @@ use Rattle.rulebook.specs.declared.WriteAnswer.{WriteAnswer}
 use Rattle.rulebook.specs.declared.WriteAnswer.the-variants as write
 use Rattle.rulebook.specs.Ledger.{cellAt}
 use Rattle.rulebook.specs.Checker.{checkCertificate, checkProof}
+use Rattle.rulebook.specs.Writers.{Writes}
 use Rattle.record.specs.Layout.{ledgerOf}
-use Rattle.writers.specs.Writing.{certificateOn, proofOn, Writes}
+use Rattle.writers.specs.Writing.{certificateOn, proofOn}
 use Rattle.safety.specs.Slot.{Test, Ballot}
 use Rattle.safety.specs.Ballots.{has, recordFor}
 use Rattle.safety.specs.Ring.{broughtBy, FewOthers, Ring, GenuinePacket, Agrees}

@@ -23,12 +23,12 @@ use Rattle.rulebook.specs.Tools.{choose}
 use Rattle.rulebook.specs.Ledger.{cellAt}
 use Rattle.rulebook.specs.Checker.{isOtherKind, checkCertificate, checkProof}
 use Rattle.rulebook.specs.Writers as writer
-use Rattle.rulebook.specs.Writers.{wroteOn, certificateVerdict, writeCertificate}
-use Rattle.rulebook.proofs.RuleLaws.{refuse-fine}
+use Rattle.rulebook.specs.Writers.{certificateVerdict, writeCertificate, Writes}
+use Rattle.rulebook.proofs.RuleLaws.{refuse-fine, wrote-fine}
 use Rattle.rulebook.proofs.ToolLaws.{given-on}
 use Rattle.record.specs.Layout.{ledgerOf}
 use Rattle.soundness.specs.Sound.{soundWords}
-use Rattle.writers.specs.Writing.{unsound, certificateOn, proofOn, Writes}
+use Rattle.writers.specs.Writing.{unsound, certificateOn, proofOn}
 use Rattle.readback.proofs.Words.{certificate-sound}
 use Rattle.safety.specs.Slot.{Test, Ballot}
 use Rattle.safety.specs.Ballots.{has, recordFor}
@@ -176,12 +176,6 @@ left-is life = last-is (life .words) (life .calls)
 
 no-other : {X : Type 0} → true ≡ false → X
 no-other e = let z : _≡_ {A = ℕ} 0 1 = cc in absurd (omega arith)
-
--- A writer that wrote found nothing to refuse.
-wrote-fine : (v : Verdict) (bytes : List ℕ) (n : ℕ) → wroteOn v bytes .answer ≡ write.Written n → v ≡ Fine
-unfolding wroteOn
-wrote-fine Fine bytes n e = refl
-wrote-fine (Refused r) bytes n e = let z : _≡_ {A = ℕ} 0 1 = cc in absurd (omega arith)
 
 -- A number that stands for a kind is that kind's number.
 pick : (n j : ℕ) (k rest : CertificateKind) → certificateNumber k ≡ j → (isOtherKind rest ≡ false → certificateNumber rest ≡ n)

@@ -1,5 +1,5 @@
 -- The four numbers written one after the other, and what the writer answers. Assumes nothing.
-use mathlib.Core.Path.{_≡_, refl, sym, ap, _∙_, subst}
+use mathlib.Core.Path.{_≡_, refl, subst}
 use mathlib.Core.List.{List, _++_, append-assoc}
 use Prim.Native.Nat.{ℕ, _+_, _≤_}
 use native.Mathlib.Omega.{arith}
@@ -10,7 +10,7 @@ use Rattle.rulebook.specs.declared.Verdict.the-variants.{Fine}
 use Rattle.rulebook.specs.PaperNumbers.{voteNumber}
 use Rattle.rulebook.specs.Packets.{numberBytes}
 use Rattle.rulebook.specs.Messages.{messageBytes, messageVerdict, writeVote}
-use Rattle.rulebook.specs.Writers.{Wrote, wroteOn}
+use Rattle.rulebook.specs.Writers.{wroteOn}
 use Rattle.numbers.specs.Written.{Room, Written}
 use Rattle.numbers.proofs.Stores.{after}
 use Rattle.messages.proofs.Tested.{message-fine, message-length, message-few}

@@ -1,13 +1,13 @@
 -- The promises of vote messages. Assumes nothing.
 use mathlib.Core.Path.{_≡_, refl, sym, ap, ap₂, _∙_, subst}
-use mathlib.Core.Bool.{Bool, true, false, not, _&&_}
-use mathlib.Core.List.{List, [], _∷_, _++_, append-assoc, append-nil}
+use mathlib.Core.Bool.{Bool, true, false, not}
+use mathlib.Core.List.{List, [], _++_, append-assoc, append-nil}
 use mathlib.Core.Logic.{_⊎_, inl, inr}
 use Prim.Native.Nat.{ℕ, _+_, _^_, _<_, _≤_}
 use native.Mathlib.Omega.{arith}
 use lib.ListN.{length, take, drop, length-append}
-use lib.Seq.{drop-length, take-append-seam}
-use lib.Dec.{eqb, leb, ltb}
+use lib.Seq.{drop-length}
+use lib.Dec.{eqb, ltb}
 use borrow.Author.Tests.{leb-false, lt-leb, le-ltb, ltb-false, eqb-true, not-false}
 use Rattle.rulebook.specs.declared.Vote.{Vote}
 use Rattle.rulebook.specs.declared.VoteKind.{VoteKind}
@@ -24,16 +24,15 @@ use Rattle.rulebook.specs.declared.ReadAnswer.{ReadAnswer}
 use Rattle.rulebook.specs.declared.ReadAnswer.the-variants as read
 use Rattle.rulebook.specs.declared.WriteAnswer.the-variants as write
 use Rattle.rulebook.specs.Tools.{given, choose}
-use Rattle.rulebook.specs.Weights.{mostNodes, lastSlot, slotOk, countFits}
+use Rattle.rulebook.specs.Weights.{slotOk, countFits}
 use Rattle.rulebook.specs.PaperNumbers.{voteKind, voteNumber}
 use Rattle.rulebook.specs.Ledger.{Ledger, cellAt}
 use Rattle.rulebook.specs.Votes.{placeOf}
 use Rattle.rulebook.specs.Inputs.{refuseIf, isOther, notInTable, misfits, placeVerdict, voteVerdict}
 use Rattle.rulebook.specs.Packets.{numberAt, numberBytes}
-use Rattle.rulebook.specs.Messages.{voteOf, voteTests, asRead, readOn, readTo, readVote, messageBytes, messageVerdict, writeVote}
-use Rattle.rulebook.specs.Writers.{Wrote, wroteOn, over}
-use Rattle.rulebook.proofs.ToolLaws.{given-on, by-test}
-use Rattle.rulebook.proofs.RuleLaws.{refuse-fine}
+use Rattle.rulebook.specs.Messages.{voteOf, asRead, readOn, readTo, readVote, messageBytes, messageVerdict, writeVote}
+use Rattle.rulebook.specs.Writers.{wroteOn, over}
+use Rattle.rulebook.proofs.RuleLaws.{refuse-fine, wrote-fine, wrote-bytes, wrote-count, over-front}
 use Rattle.rulebook.proofs.NumberLaws.{Read, number-in, number-read}
 use Rattle.messages.specs.Promises.{Bytes, WrittenBack, OneSpelling, SixteenHold, PoolAgrees, TakenWritten}
 use Rattle.messages.proofs.Tested.{Tested, tests-fine, fine-tests, message-fine, fine-message, kind-few, slot-few, count-few, message-few}
@@ -131,21 +130,11 @@ one-spelling count other v p q hp hq ep eq = accepted count p v ep .spelled hp �
 
 -- ---- a written message
 
-wrote-fine : (v : Verdict) (bytes : List ℕ) (n : ℕ) → wroteOn v bytes .answer ≡ write.Written n → (v ≡ Fine) × (length bytes ≡ n)
-unfolding wroteOn
-wrote-fine Fine bytes n e = (refl, cc)
-wrote-fine (Refused r) bytes n e = let z : _≡_ {A = ℕ} 0 1 = cc in absurd (omega arith)
-
-wrote-bytes : (v : Verdict) (bytes : List ℕ) → v ≡ Fine → wroteOn v bytes .bytes ≡ bytes
-unfolding wroteOn
-wrote-bytes v bytes e = rw e
-
 pub sixteen-hold : SixteenHold
 unfolding writeVote
 sixteen-hold count room n v e =
-    let w = wrote-fine (messageVerdict count room v) (messageBytes v) n e in
-    let f = message-fine count room v (w .0) in
-    omega (arith, message-few count v Fine (f .0) (f .2), w .1)
+    let f = message-fine count room v (wrote-fine (messageVerdict count room v) (messageBytes v) n e) in
+    omega (arith, message-few count v Fine (f .0) (f .2), wrote-count (messageVerdict count room v) (messageBytes v) n e)
 
 -- A vote is that of its four numbers.
 vote-same : (v : Vote) → isOther (v .kind) ≡ false → voteOf (voteNumber (v .kind)) (v .node .0) (v .slot .0) (v .block) ≡ v
@@ -185,15 +174,15 @@ read-back count v h c t =
     (read-whole count (r + length b) (length bytes) v (omega (arith, ap length e)) t))
 
 pub written-back : WrittenBack
-unfolding writeVote over
+unfolding writeVote
 written-back count n v buffer after h w =
-    let f = wrote-fine (messageVerdict count (length buffer) v) (messageBytes v) n (sym (w .answered)) in
-    let m = message-fine count (length buffer) v (f .0) in
-    let x : writeVote count (length buffer) v .bytes ≡ messageBytes v = wrote-bytes (messageVerdict count (length buffer) v) (messageBytes v) (f .0) in
-    let y : take n after ≡ messageBytes v =
-    ap₂ (λ (i : ℕ) (z : List ℕ). take i z) (sym (f .1)) (w .bytes ∙ ap (λ (z : List ℕ). over z buffer) x)
-    ∙ take-append-seam (messageBytes v) (drop (length (messageBytes v)) buffer) in
-    ap (readVote count) y ∙ read-back count v h (m .0) (m .2)
+    let found = messageVerdict count (length buffer) v in
+    let e = wrote-fine found (messageBytes v) n (sym (w .answered)) in
+    let m = message-fine count (length buffer) v e in
+    let front : take n after ≡ messageBytes v =
+    ap₂ (λ (i : ℕ) (z : List ℕ). take i z) (sym (wrote-count found (messageBytes v) n (sym (w .answered))))
+    (w .bytes ∙ ap (λ (z : List ℕ). over z buffer) (wrote-bytes found (messageBytes v) e)) ∙ over-front (messageBytes v) buffer in
+    ap (readVote count) front ∙ read-back count v h (m .0) (m .2)
 
 -- ---- the pool
 

@@ -1,8 +1,7 @@
 -- What a vote that passes the tests 4, 3, 2, 5 has, and how many bytes it takes. Assumes nothing.
-use mathlib.Core.Path.{_≡_, refl, sym, ap, _∙_}
-use mathlib.Core.Bool.{Bool, true, false, not, _&&_}
-use mathlib.Core.List.{List, [], _∷_, _++_}
-use Prim.Native.Nat.{ℕ, zero, suc, _+_, _*_, _/_, _%_, _^_, _<_, _≤_}
+use mathlib.Core.Path.{_≡_, refl}
+use mathlib.Core.Bool.{Bool, true, false, not}
+use Prim.Native.Nat.{ℕ, zero, suc, _+_, _*_, _/_, _^_, _<_, _≤_}
 use native.Mathlib.Omega.{arith}
 use native.Mathlib.Nat.{pow-suc}
 use lib.ListN.{length, length-append}
@@ -13,7 +12,7 @@ use Rattle.rulebook.specs.declared.VoteKind.{VoteKind}
 use Rattle.rulebook.specs.declared.VoteKind.the-variants as vote
 use Rattle.rulebook.specs.declared.Refusal.the-variants as refusal
 use Rattle.rulebook.specs.declared.Verdict.{Verdict}
-use Rattle.rulebook.specs.declared.Verdict.the-variants.{Fine, Refused}
+use Rattle.rulebook.specs.declared.Verdict.the-variants.{Fine}
 use Rattle.rulebook.specs.Weights.{mostNodes, lastSlot, slotOk, countFits}
 use Rattle.rulebook.specs.PaperNumbers.{voteNumber}
 use Rattle.rulebook.specs.Inputs.{refuseIf, isOther, notInTable, misfits}
@@ -21,7 +20,7 @@ use Rattle.rulebook.specs.Packets.{groupsOf, numberBytes}
 use Rattle.rulebook.specs.Messages.{voteTests, messageBytes, messageVerdict}
 use Rattle.rulebook.proofs.ToolLaws.{and-both}
 use Rattle.rulebook.proofs.RuleLaws.{refuse-fine}
-use Rattle.rulebook.proofs.NumberLaws.{groups-last, groups-more, number-small, number-few}
+use Rattle.rulebook.proofs.NumberLaws.{groups-last, groups-more, number-few}
 
 -- A vote that passes all four, and what is found later.
 pub record Tested (count : ℕ) (v : Vote) (later : Verdict) : Type 0 where

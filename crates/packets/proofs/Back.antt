@@ -30,13 +30,13 @@ use Rattle.rulebook.specs.Rules.{isFinal}
 use Rattle.rulebook.specs.Inputs.{refuseIf}
 use Rattle.rulebook.specs.Packets.{certificateAt, certificateBytes, bit, maskOf, countOf}
 use Rattle.rulebook.specs.Checker.{good, isOtherKind, blockMisfits, withoutB, badSigners, signed, signedWeight, judgeWeight, judgeKind, judge, acceptedOf, judged, oneOf, oneAt, ended, singleOf, checkCertificate, secondOf, firstIn, proofOf, checkProof}
-use Rattle.rulebook.specs.Writers.{inA, inB, certificateFor, wroteOn, certificateVerdict, writeCertificate, proofVerdict, proofBytes, writeProof}
+use Rattle.rulebook.specs.Writers.{inA, inB, certificateFor, certificateVerdict, writeCertificate, proofVerdict, proofBytes, writeProof}
 use Rattle.rulebook.proofs.ToolLaws.{given-on, given-off, choose-on, choose-off, and-both, both-and, or-cases, by-test, true-not-false, sum-same, sum-const, part-off}
 use Rattle.rulebook.proofs.MaskLaws.{mask-lt, masks-apart, masks-weight, masks-count, count-same}
 use Rattle.rulebook.proofs.WeightLaws.{weight-same}
 use Rattle.rulebook.proofs.NumberLaws.{Fits64, certificate-in}
 use Rattle.packets.specs.Promises.{parts, TableIs, acceptedFor, proofParts, proofKind, CertificateBack, ProofBack}
-use Rattle.rulebook.proofs.RuleLaws.{refuse-fine}
+use Rattle.rulebook.proofs.RuleLaws.{refuse-fine, wrote-fine, wrote-bytes}
 use Rattle.packets.proofs.Spelling.{parts-one, parts-two}
 
 -- ---- a node counts by one of the two masks, and by one only
@@ -273,16 +273,6 @@ module _ (l : Ledger) (stakes : List ℕ) (t : TableIs l stakes) where
         subst (λ (x : List ℕ). certificateAt x 0 ≡ found.Whole cert (length (certificateBytes cert))) (append-nil (certificateBytes cert)) (reads h so [])
 
 -- ---- the two writers
-
--- A writer that wrote found nothing to refuse.
-wrote-fine : (v : Verdict) (bytes : List ℕ) (n : ℕ) → wroteOn v bytes .answer ≡ write.Written n → v ≡ verdict.Fine
-unfolding wroteOn
-wrote-fine verdict.Fine bytes n e = refl
-wrote-fine (verdict.Refused r) bytes n e = let z : _≡_ {A = ℕ} 0 1 = cc in absurd (omega arith)
-
-wrote-bytes : (v : Verdict) (bytes : List ℕ) → v ≡ verdict.Fine → wroteOn v bytes .bytes ≡ bytes
-unfolding wroteOn
-wrote-bytes v bytes e = rw e
 
 module _ (l : Ledger) (stakes : List ℕ) (t : TableIs l stakes) where
   certificate-on : (k : CertificateKind) (s b : ℕ) → b < 2 ^ 64 → isOtherKind k ≡ false → slotOk s ≡ true → blockMisfits k b ≡ false → held l k s b ≡ true

@@ -22,7 +22,7 @@ use Rattle.rulebook.specs.Ledger.{Ledger}
 use Rattle.rulebook.specs.PaperNumbers.{stepPanel, writePanel, checkPanel}
 use Rattle.rulebook.specs.Inputs.{Fed, verdict, fedWith, refusedWith, fedOn, feed}
 use Rattle.rulebook.specs.WellFormed.{wellFormed, outboxWords, step}
-use Rattle.rulebook.specs.Writers.{Wrote, wroteOn, writeCertificate, writeProof, certificateVerdict, proofVerdict, proofBytes, certificateFor, over}
+use Rattle.rulebook.specs.Writers.{Wrote, wroteOn, writeCertificate, writeProof, certificateVerdict, proofVerdict, proofBytes, certificateFor, over, Writes}
 use Rattle.rulebook.specs.Packets.{certificateBytes}
 use Rattle.rulebook.proofs.ToolLaws.{given-on, given-off, given-keeps, by-test}
 use Rattle.record.specs.Layout.{recordWords, ledgerOf}
@@ -31,7 +31,7 @@ use Rattle.record.proofs.Spelled.{words-ledger}
 use Rattle.soundness.specs.Sound.{soundWords}
 use Rattle.soundness.specs.Starting.{startJudged, startAnswer, startLeft}
 use Rattle.node.specs.Stepping.{Leaves, spelled, asFound, asFed, stepLeaves}
-use Rattle.writers.specs.Writing.{unsound, certificateOn, proofOn, Writes}
+use Rattle.writers.specs.Writing.{unsound, certificateOn, proofOn}
 use Rattle.answers.specs.Face.{Beside}
 use Rattle.promises.specs.Refusals.{StartRefused, StepRefused, CertificateRefused, ProofRefused, FaceStartRefused, FaceStepRefused, FaceCertificateRefused, FaceProofRefused, FaceCheckRefused}
 use Rattle.promises.proofs.Numbered.{start-refusal, step-refusal, write-refusal, check-refusal}

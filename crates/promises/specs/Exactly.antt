@@ -13,9 +13,10 @@ use Rattle.rulebook.specs.Ledger.{none}
 use Rattle.rulebook.specs.Pool.{held}
 use Rattle.rulebook.specs.Rules.{isFinal}
 use Rattle.rulebook.specs.Checker.{isOtherKind, blockMisfits}
+use Rattle.rulebook.specs.Writers.{Writes}
 use Rattle.record.specs.Layout.{ledgerOf}
 use Rattle.soundness.specs.Sound.{soundWords}
-use Rattle.writers.specs.Writing.{certificateOn, proofOn, Writes}
+use Rattle.writers.specs.Writing.{certificateOn, proofOn}
 
 -- None of 17, 9, 4, 3, 5 is due to the question for a certificate.
 pub record CertificateAsked (ws buffer : List ℕ) (k : CertificateKind) (s b : ℕ) : Type 0 where

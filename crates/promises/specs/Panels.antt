@@ -29,12 +29,12 @@ use Rattle.rulebook.specs.Inputs.{refuseIf, isOther, misfits, verdict, feed}
 use Rattle.rulebook.specs.WellFormed.{outboxWords}
 use Rattle.rulebook.specs.Packets.{certificateAt, certificateBytes, countOf}
 use Rattle.rulebook.specs.Checker.{signed, signedWeight, judge, checkCertificate, checkProof}
-use Rattle.rulebook.specs.Writers.{certificateFor, certificateVerdict, proofVerdict, proofBytes}
+use Rattle.rulebook.specs.Writers.{certificateFor, certificateVerdict, proofVerdict, proofBytes, Writes}
 use Rattle.record.specs.Layout.{ledgerOf}
 use Rattle.soundness.specs.Sound.{soundWords}
 use Rattle.soundness.specs.Starting.{startJudged, StartOf}
 use Rattle.node.specs.Stepping.{StepOf}
-use Rattle.writers.specs.Writing.{certificateOn, proofOn, Writes}
+use Rattle.writers.specs.Writing.{certificateOn, proofOn}
 
 -- "Every refusal answers zeros beside its number".
 unfoldable pub besideIt : Verdict → List ℕ → List ℕ

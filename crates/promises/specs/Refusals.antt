@@ -12,9 +12,10 @@ use Rattle.rulebook.specs.declared.Refusal.{Refusal}
 use Rattle.rulebook.specs.declared.StartAnswer.the-variants as start
 use Rattle.rulebook.specs.declared.StepAnswer.the-variants as step
 use Rattle.rulebook.specs.declared.WriteAnswer.the-variants as write
+use Rattle.rulebook.specs.Writers.{Writes}
 use Rattle.soundness.specs.Starting.{StartOf}
 use Rattle.node.specs.Stepping.{StepOf}
-use Rattle.writers.specs.Writing.{certificateOn, proofOn, Writes}
+use Rattle.writers.specs.Writing.{certificateOn, proofOn}
 use Rattle.answers.specs.Face.{Started, Stepped, Wrote, Checked}
 
 -- ---- the public operations

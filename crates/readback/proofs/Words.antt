@@ -18,12 +18,12 @@ use Rattle.rulebook.specs.declared.WriteAnswer.the-variants as write
 use Rattle.rulebook.specs.Ledger.{Ledger}
 use Rattle.rulebook.specs.Packets.{certificateBytes}
 use Rattle.rulebook.specs.Checker.{checkCertificate, checkProof}
-use Rattle.rulebook.specs.Writers.{Wrote, certificateFor, wroteOn, certificateVerdict, writeCertificate, proofVerdict, proofBytes, writeProof, over}
+use Rattle.rulebook.specs.Writers.{Wrote, certificateFor, wroteOn, certificateVerdict, writeCertificate, proofVerdict, proofBytes, writeProof, over, Writes}
 use Rattle.rulebook.proofs.ToolLaws.{given-on, by-test}
 use Rattle.record.specs.Layout.{ledgerOf}
 use Rattle.soundness.specs.Sound.{soundWords}
 use Rattle.soundness.proofs.Laws.{sound-formed}
-use Rattle.writers.specs.Writing.{unsound, certificateOn, proofOn, Writes}
+use Rattle.writers.specs.Writing.{unsound, certificateOn, proofOn}
 use Rattle.writers.proofs.Laid.{certificate-unsound, proof-unsound}
 use Rattle.packets.specs.Promises.{acceptedFor, proofKind}
 use Rattle.packets.proofs.Back.{certificate-back as packet-back, proof-back as packets-back}

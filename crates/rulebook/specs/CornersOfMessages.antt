@@ -1,5 +1,5 @@
 -- Computed cases of vote messages: each refusal, their order, and the lengths at which a number grows by a byte.
-use mathlib.Core.Bool.{Bool, true, false, _&&_}
+use mathlib.Core.Bool.{Bool, _&&_}
 use mathlib.Core.List.{List, [], _∷_, _++_}
 use Prim.Native.Nat.{ℕ, _-_, _^_}
 use lib.Dec.{T}

@@ -1,37 +1,35 @@
 -- What the writers ask of the functions that they call, and that the bytes laid are the answer. Assumes nothing.
 use mathlib.Core.Path.{_≡_, refl, sym, ap, _∙_, subst}
-use mathlib.Core.Bool.{Bool, true, false}
-use mathlib.Core.List.{List, [], _++_}
-use Prim.Native.Nat.{ℕ, suc, _+_, _≤_, _<_}
+use mathlib.Core.Bool.{true, false}
+use mathlib.Core.List.{List, _++_}
+use Prim.Native.Nat.{ℕ, suc, _≤_, _<_}
 use native.Mathlib.Omega.{arith}
 use lib.ListN.{length, length-append}
 use lib.Dec.{lit<}
 use Rattle.rulebook.specs.declared.Certificate.{Certificate}
 use Rattle.rulebook.specs.declared.CertificateKind.{CertificateKind}
 use Rattle.rulebook.specs.declared.CertificateKind.the-variants as certificate
-use Rattle.rulebook.specs.declared.Refusal.{Refusal}
 use Rattle.rulebook.specs.declared.Refusal.the-variants as refusal
 use Rattle.rulebook.specs.declared.Verdict.{Verdict}
-use Rattle.rulebook.specs.declared.Verdict.the-variants.{Fine, Refused}
-use Rattle.rulebook.specs.declared.WriteAnswer.{WriteAnswer}
+use Rattle.rulebook.specs.declared.Verdict.the-variants.{Refused}
 use Rattle.rulebook.specs.declared.WriteAnswer.the-variants as write
 use Rattle.rulebook.specs.Weights.{lastSlot}
 use Rattle.rulebook.specs.Ledger.{Ledger}
 use Rattle.rulebook.specs.Pool.{held}
 use Rattle.rulebook.specs.PaperNumbers.{certificateNumber}
 use Rattle.rulebook.specs.Packets.{certificateBytes}
-use Rattle.rulebook.specs.Writers.{Wrote, certificateFor, wroteOn, certificateVerdict, writeCertificate, proofVerdict, proofBytes, writeProof, over}
+use Rattle.rulebook.specs.Writers.{Wrote, certificateFor, wroteOn, certificateVerdict, writeCertificate, proofVerdict, proofBytes, writeProof, over, Writes}
 use Rattle.rulebook.proofs.ToolLaws.{given-on, given-off, by-test}
 use Rattle.rulebook.proofs.NumberLaws.{certificate-few}
 use Rattle.stakes.specs.declared.StakeTable.{StakeTable}
-use Rattle.numbers.specs.Written.{Room, Written, laid}
-use Rattle.numbers.proofs.Stores.{laid-front, after}
+use Rattle.numbers.specs.Written.{Room, Written}
+use Rattle.numbers.proofs.Stores.{after}
 use Rattle.record.specs.Layout.{ledgerOf}
 use Rattle.soundness.specs.Sound.{soundWords, TableOf}
 use Rattle.soundness.proofs.Laws.{sound-long, sound-head}
 use Rattle.pool.specs.Weighing.{Weighing}
 use Rattle.signers.specs.Masks.{Naming}
-use Rattle.writers.specs.Writing.{unsound, certificateOn, proofOn, Writes}
+use Rattle.writers.specs.Writing.{unsound, certificateOn, proofOn}
 
 -- ---- what the inner functions ask
 
@@ -146,18 +144,6 @@ pub writes-unsound : (wrote : Wrote) (buffer : List ℕ) → wrote ≡ unsound �
 unfolding unsound over
 writes-unsound wrote buffer e = rw e (record { answered = refl; bytes = refl })
 
-pub writes-refused : (wrote : Wrote) (bytes buffer : List ℕ) (r : Refusal) → wrote ≡ wroteOn (Refused r) bytes → Writes wrote buffer (write.Refused r) buffer
-unfolding wroteOn over
-writes-refused wrote bytes buffer r e = rw e (record { answered = refl; bytes = refl })
-
--- The bytes at the front.
-pub writes-laid : (wrote : Wrote) (bytes : List ℕ) {buffer left : List ℕ} {n : ℕ} → wrote ≡ wroteOn Fine bytes → Written buffer 0 bytes left n
-    → Writes wrote buffer (write.Written n) left
-unfolding wroteOn
-writes-laid wrote bytes {buffer} {left} {n} e w =
-    let k : n ≡ length bytes = omega (arith, w .next-is) in
-    rw e (record { answered = ap write.Written k; bytes = w .after-is ∙ laid-front buffer bytes })
-
 -- What is answered, by what was found of the words and of the call.
 module _ (ws : List ℕ) (room : ℕ) (k : CertificateKind) (s b : ℕ) where
   pub certificate-unsound : soundWords ws ≡ false → certificateOn ws room k s b ≡ unsound
@@ -182,7 +168,3 @@ module _ (ws : List ℕ) (room s b : ℕ) where
   proof-judged v e f =
       given-on (soundWords ws) unsound (λ _. wroteOn (proofVerdict (ledgerOf ws) room s b) (proofBytes (ledgerOf ws) s b)) e
       ∙ rw f refl
-
--- The contract leaves nothing open: two results that it allows are equal.
-pub writes-one : (wrote : Wrote) (buffer : List ℕ) (a b : WriteAnswer) (x y : List ℕ) → Writes wrote buffer a x → Writes wrote buffer b y → (a ≡ b) × (x ≡ y)
-writes-one wrote buffer a b x y p q = (p .answered ∙ sym (q .answered), p .bytes ∙ sym (q .bytes))

@@ -6,11 +6,10 @@ use Prim.Native.Nat.{ℕ, suc, _≤_, _<_}
 use lib.ListN.{length}
 use Rattle.rulebook.specs.declared.CertificateKind.{CertificateKind}
 use Rattle.rulebook.specs.declared.Refusal.the-variants as refusal
-use Rattle.rulebook.specs.declared.WriteAnswer.{WriteAnswer}
 use Rattle.rulebook.specs.declared.WriteAnswer.the-variants as write
 use Rattle.rulebook.specs.Tools.{given}
 use Rattle.rulebook.specs.Weights.{lastSlot}
-use Rattle.rulebook.specs.Writers.{Wrote, writeCertificate, writeProof, over}
+use Rattle.rulebook.specs.Writers.{Wrote, writeCertificate, writeProof}
 use Rattle.record.specs.Layout.{ledgerOf}
 use Rattle.soundness.specs.Sound.{soundWords}
 
@@ -24,11 +23,6 @@ certificateOn ws room k s b = given (soundWords ws) unsound (λ _. writeCertific
 
 unfoldable pub proofOn : List ℕ → ℕ → ℕ → ℕ → Wrote
 proofOn ws room s b = given (soundWords ws) unsound (λ _. writeProof (ledgerOf ws) room s b)
-
--- What a writer answers, and the buffer afterwards: the bytes at its front, all others as found.
-pub record Writes (wrote : Wrote) (buffer : List ℕ) (answer : WriteAnswer) (after : List ℕ) : Type 0 where
-  pub answered : answer ≡ wrote .answer
-  pub bytes : after ≡ over (wrote .bytes) buffer
 
 -- The words are sound, the slot has a row, and the buffer has room for a proof.
 pub record Laying (ws buffer : List ℕ) (s : ℕ) : Type 0 where

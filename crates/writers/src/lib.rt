@@ -2,11 +2,11 @@
 ghost use mathlib.Core.Path.{_≡_};
 ghost use mathlib.Core.Bool.{true};
 ghost use lib.ListN.{length};
-ghost use Rattle.rulebook.specs.Writers.{certificateVerdict, proofVerdict, proofBytes};
+ghost use Rattle.rulebook.specs.Writers.{certificateVerdict, proofVerdict, proofBytes, Writes};
 ghost use Rattle.record.specs.Layout.{ledgerOf};
 ghost use Rattle.soundness.specs.Sound.{soundWords};
 ghost use Rattle.numbers.specs.Written.{Written};
-ghost use Rattle.writers.specs.Writing.{certificateOn, proofOn, Writes, Laying};
+ghost use Rattle.writers.specs.Writing.{certificateOn, proofOn, Laying};
 use candidates::is_final;
 use kinds::block_misfits;
 use kinds::is_other;

@@ -1,6 +1,5 @@
 -- `message_verdict` answers `messageVerdict`: the count, the room, then the tests of the vote. Assumes nothing.
-use mathlib.Core.Path.{sym, ap, _∙_}
-use mathlib.Core.Bool.{not}
+use mathlib.Core.Path.{sym, _∙_}
 use borrow.Author.Needs.{needs}
 use borrow.Author.Tests.{not-true, not-false, lt-ltb, le-ltb}
 use Rattle.rulebook.specs.Inputs.{refuseIf}
@@ -17,7 +16,9 @@ returns c = rw (sym (c .before .count-fits .ensures) ∙ not-true _ (c .if1 .tak
 
 returns-2 : tie.Need-returns-2
 unfolding messageVerdict refuseIf
-returns-2 c = rw (sym (c .before .before .count-fits .ensures) ∙ not-false _ (c .before .if1 .left), lt-ltb _ _ (c .if2 .taken))
+returns-2 c =
+    let f = c .before .before in
+    rw (sym (f .count-fits .ensures) ∙ not-false _ (c .before .if1 .left), lt-ltb (f .before .args .room) 16 (c .if2 .taken))
 
 vote-tests-requires : tie.Need-vote-tests-requires
 vote-tests-requires c κs = search needs
@@ -26,7 +27,8 @@ returns-3 : tie.Need-returns-3
 unfolding messageVerdict refuseIf
 returns-3 c =
     let m = c .before in
-    rw (sym (m .before .before .count-fits .ensures) ∙ not-false _ (m .before .if1 .left), le-ltb _ _ (m .if2 .left)) (c .vote-tests .ensures)
+    let f = m .before .before in
+    rw (sym (f .count-fits .ensures) ∙ not-false _ (m .before .if1 .left), le-ltb (f .before .args .room) 16 (m .if2 .left)) (c .vote-tests .ensures)
 
 pub message-verdict-spec : {M : Type 1} → statement M
 message-verdict-spec = tie.close (tie.spec count-fits-requires returns returns-2 vote-tests-requires returns-3)

@@ -1,5 +1,5 @@
 -- `read_vote` answers `readVote`: each number that was read leads on to the next, and the first that was not decides. Assumes nothing.
-use mathlib.Core.Path.{_≡_, sym, ap, _∙_}
+use mathlib.Core.Path.{sym, _∙_}
 use borrow.Author.Needs.{needs}
 use borrow.Author.Tests.{not-true, not-false}
 use Rattle.rulebook.specs.Tools.{given}

@@ -1,5 +1,4 @@
 -- `vote_tests` answers `voteTests`: each of the pool's tests, and the first fault. Assumes nothing.
-use mathlib.Core.Path.{sym, ap, _∙_}
 use borrow.Author.Needs.{needs}
 use Rattle.rulebook.specs.Messages.{voteTests}
 use Rattle.messages.proofs.vote_tests.Statement.{statement}

@@ -8,7 +8,8 @@ use Rattle.rulebook.specs.Packets.{certificateBytes}
 use Rattle.rulebook.specs.Writers.{wroteOn}
 use Rattle.record.specs.Layout.{ledgerOf}
 use Rattle.writers.proofs.Verdicts.{certificate-fine, slot-row}
-use Rattle.writers.proofs.Laid.{naming, room-front, writes-unsound, writes-refused, writes-laid, certificate-unsound, certificate-judged}
+use Rattle.numbers.proofs.Stores.{writes-refused, writes-laid}
+use Rattle.writers.proofs.Laid.{naming, room-front, writes-unsound, certificate-unsound, certificate-judged}
 use borrow.Author.Needs.{needs}
 use Rattle.writers.proofs.write_certificate.Statement.{statement}
 use Rattle.writers.proofs.write_certificate.Tie as tie

@@ -5,7 +5,8 @@ use borrow.Author.Tests.{not-true, not-false}
 use Rattle.rulebook.specs.declared.Verdict.the-variants.{Fine}
 use Rattle.record.specs.Layout.{ledgerOf}
 use Rattle.writers.proofs.Verdicts.{proof-fine, slot-row}
-use Rattle.writers.proofs.Laid.{writes-unsound, writes-refused, writes-laid, proof-unsound, proof-judged}
+use Rattle.numbers.proofs.Stores.{writes-refused, writes-laid}
+use Rattle.writers.proofs.Laid.{writes-unsound, proof-unsound, proof-judged}
 use borrow.Author.Needs.{needs}
 use Rattle.writers.proofs.write_proof.Statement.{statement}
 use Rattle.writers.proofs.write_proof.Tie as tie
