@@ -6,13 +6,14 @@ use Rattle.rulebook.specs.declared.StartAnswer.{StartAnswer}
 use Rattle.rulebook.specs.declared.StepAnswer.{StepAnswer}
 use Rattle.rulebook.specs.declared.Input.{Input}
 use Rattle.rulebook.specs.declared.WriteAnswer.{WriteAnswer}
+use Rattle.rulebook.specs.declared.ReadAnswer.{ReadAnswer}
 use Rattle.rulebook.specs.declared.CheckAnswer.{CheckAnswer}
-use Rattle.rulebook.specs.PaperNumbers.{startPanel, stepPanel, writePanel, checkPanel, checkMissing}
+use Rattle.rulebook.specs.PaperNumbers.{startPanel, stepPanel, writePanel, readPanel, checkPanel, checkMissing}
 use Rattle.rulebook.specs.Writers as writer
 use Rattle.rulebook.specs.Writers.{Writes}
 use Rattle.node.specs.Stepping.{StepOf, stepLeaves}
 use Rattle.soundness.specs.Starting.{StartOf}
-use Rattle.answers.specs.Face.{Beside, Started, Stepped, Wrote, Checked}
+use Rattle.answers.specs.Face.{Beside, Started, Stepped, Wrote, MessageRead, Checked}
 
 pub started : (ws stakes : List ℕ) (own genesis : ℕ) (a : StartAnswer) (n : ℕ) (left : List ℕ) → StartOf ws stakes own genesis a left
     → n ≡ startPanel a .number → Started ws stakes own genesis n left
@@ -40,6 +41,13 @@ wrote w buffer a n k after s e d =
       numbered = e ∙ ap (λ (x : WriteAnswer). writePanel x .number) (s .answered);
       counted = d ∙ ap (λ (x : WriteAnswer). writePanel x .values) (s .answered);
       bytes = s .bytes;
+    }
+
+pub message-read : (b a : ReadAnswer) (n : ℕ) (vs : List ℕ) → a ≡ b → n ≡ readPanel a .number → vs ≡ readPanel a .values → MessageRead b n vs
+message-read b a n vs s e d =
+    record {
+      numbered = e ∙ ap (λ (x : ReadAnswer). readPanel x .number) s;
+      valued = d ∙ ap (λ (x : ReadAnswer). readPanel x .values) s;
     }
 
 pub checked : (b a : CheckAnswer) (n : ℕ) (vs : List ℕ) (m : ℕ) → a ≡ b → n ≡ checkPanel a .number → vs ≡ checkPanel a .values → m ≡ checkMissing a

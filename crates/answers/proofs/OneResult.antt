@@ -4,9 +4,10 @@ use mathlib.Core.Path.{_≡_, sym, _∙_}
 use mathlib.Core.List.{List}
 use Prim.Native.Nat.{ℕ}
 use Rattle.rulebook.specs.declared.Input.{Input}
+use Rattle.rulebook.specs.declared.ReadAnswer.{ReadAnswer}
 use Rattle.rulebook.specs.declared.CheckAnswer.{CheckAnswer}
 use Rattle.rulebook.specs.Writers as writer
-use Rattle.answers.specs.Face.{Beside, Started, Stepped, Wrote, Checked}
+use Rattle.answers.specs.Face.{Beside, Started, Stepped, Wrote, MessageRead, Checked}
 
 -- One value beside one number.
 beside-one : {v v' : ℕ} {values : List ℕ} → Beside v values → Beside v' values → v ≡ v'
@@ -23,10 +24,15 @@ pub stepped-one : {ws out left left' box box' : List ℕ} {i : Input} {n n' made
 stepped-one a b =
     (a .numbered ∙ sym (b .numbered), beside-one (a .counted) (b .counted), a .words ∙ sym (b .words), a .outbox ∙ sym (b .outbox))
 
--- qr_write_certificate, qr_write_proof.
+-- qr_write_certificate, qr_write_proof, qr_write_vote.
 pub wrote-one : {w : writer.Wrote} {buffer after after' : List ℕ} {n n' count count' : ℕ} → Wrote w buffer n count after → Wrote w buffer n' count' after'
     → (n ≡ n') × (count ≡ count') × (after ≡ after')
 wrote-one a b = (a .numbered ∙ sym (b .numbered), beside-one (a .counted) (b .counted), a .bytes ∙ sym (b .bytes))
+
+-- qr_read_vote.
+pub message-read-one : {answer : ReadAnswer} {n n' : ℕ} {values values' : List ℕ} → MessageRead answer n values → MessageRead answer n' values'
+    → (n ≡ n') × (values ≡ values')
+message-read-one a b = (a .numbered ∙ sym (b .numbered), a .valued ∙ sym (b .valued))
 
 -- qr_check_certificate, qr_check_proof.
 pub checked-one : {answer : CheckAnswer} {n n' missing missing' : ℕ} {values values' : List ℕ} → Checked answer n values missing → Checked answer n' values' missing'

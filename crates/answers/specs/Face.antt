@@ -5,7 +5,9 @@ use Prim.Native.Nat.{ℕ}
 use Rattle.rulebook.specs.declared.Accepted.{Accepted}
 use Rattle.rulebook.specs.declared.CheckAnswer.{CheckAnswer}
 use Rattle.rulebook.specs.declared.Input.{Input}
-use Rattle.rulebook.specs.PaperNumbers.{certificateNumber, startPanel, stepPanel, writePanel, checkPanel, checkMissing}
+use Rattle.rulebook.specs.declared.ReadAnswer.{ReadAnswer}
+use Rattle.rulebook.specs.declared.Vote.{Vote}
+use Rattle.rulebook.specs.PaperNumbers.{voteNumber, certificateNumber, startPanel, stepPanel, writePanel, readPanel, checkPanel, checkMissing}
 use Rattle.rulebook.specs.Writers.{over}
 use Rattle.rulebook.specs.Writers as written
 pub use Rattle.inputs.specs.Inputs.{voteInput, blockInput, timeoutInput}
@@ -15,6 +17,10 @@ use Rattle.soundness.specs.Starting.{startJudged, startAnswer, startLeft}
 -- The one value beside a number.
 abbrev pub Beside : ℕ → List ℕ → Type 0
 Beside v values = v ∷ [] ≡ values
+
+-- A vote's "four numbers .. namely kind, node, slot, block".
+abbrev pub voteValues : Vote → List ℕ
+voteValues v = voteNumber (v .kind) ∷ v .node .0 ∷ v .slot .0 ∷ v .block ∷ []
 
 -- "An accepted check answers kind, slot, block, signer count and weight".
 abbrev pub acceptedValues : Accepted → List ℕ
@@ -37,6 +43,11 @@ pub record Wrote (wrote : written.Wrote) (buffer : List ℕ) (number count : ℕ
   pub numbered : number ≡ writePanel (wrote .answer) .number
   pub counted : Beside count (writePanel (wrote .answer) .values)
   pub bytes : after ≡ over (wrote .bytes) buffer
+
+-- A vote message: its number, and the vote's four numbers.
+pub record MessageRead (answer : ReadAnswer) (number : ℕ) (values : List ℕ) : Type 0 where
+  pub numbered : number ≡ readPanel answer .number
+  pub valued : values ≡ readPanel answer .values
 
 -- A check: its number, its five values, and what is missing beside 15.
 pub record Checked (answer : CheckAnswer) (number : ℕ) (values : List ℕ) (missing : ℕ) : Type 0 where

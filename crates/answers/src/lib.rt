@@ -1,14 +1,17 @@
 // What the operations answer, as numbers and values on the panel: the definitions of the paper's numbers say which.
 ghost use mathlib.Core.Path.{_≡_};
-ghost use Rattle.rulebook.specs.PaperNumbers.{startPanel, stepPanel, writePanel, checkPanel, checkMissing};
-ghost use Rattle.answers.specs.Face.{Beside, acceptedValues};
+ghost use Rattle.rulebook.specs.PaperNumbers.{startPanel, stepPanel, writePanel, readPanel, checkPanel, checkMissing};
+ghost use Rattle.answers.specs.Face.{Beside, voteValues, acceptedValues};
 use kinds::kind_number;
 use kinds::refusal_missing;
 use kinds::refusal_number;
+use kinds::vote_number;
 use rulebook::Accepted;
 use rulebook::CheckAnswer;
+use rulebook::ReadAnswer;
 use rulebook::StartAnswer;
 use rulebook::StepAnswer;
+use rulebook::Vote;
 use rulebook::Weight;
 use rulebook::WriteAnswer;
 
@@ -60,6 +63,36 @@ pub fn bytes_written(a: WriteAnswer) -> usize
         WriteAnswer::Written(n) => n,
         WriteAnswer::Refused(_) => 0,
     }
+}
+
+// What the reader of vote messages answers, as a number.
+pub fn read_number(a: ReadAnswer) -> u64
+    ensures { λ r. ⌜ r ≡ readPanel a .number ⌝ }
+{
+    match a {
+        ReadAnswer::Read(_) => 0,
+        ReadAnswer::Refused(r) => refusal_number(r),
+    }
+}
+
+// Kind, node, slot and block of the vote that was read, zeros beside a refusal.
+pub fn read_values(a: ReadAnswer) -> [u64; 4]
+    ensures { λ r. ⌜ r ≡ readPanel a .values ⌝ }
+{
+    match a {
+        ReadAnswer::Read(v) => vote_values(v),
+        ReadAnswer::Refused(_) => [0, 0, 0, 0],
+    }
+}
+
+// The four numbers of a vote.
+fn vote_values(v: Vote) -> [u64; 4]
+    ensures { λ r. ⌜ r ≡ voteValues v ⌝ }
+{
+    let k = v.kind;
+    let n = v.node;
+    let s = v.slot;
+    [vote_number(k), n.0 as u64, s.0 as u64, v.block]
 }
 
 // What the checker answers, as a number.

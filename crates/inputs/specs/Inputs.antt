@@ -2,12 +2,11 @@
 use Prim.Native.Nat.{ℕ}
 use Rattle.rulebook.specs.declared.Input.{Input}
 use Rattle.rulebook.specs.declared.Input.the-variants as input
-use Rattle.rulebook.specs.PaperNumbers.{voteKind}
+use Rattle.rulebook.specs.Messages.{voteOf}
 
 -- Another node's vote: its kind, whose it is, its slot and block.
 abbrev pub voteInput : ℕ → ℕ → ℕ → ℕ → Input
-voteInput kind node slot block =
-    input.Vote (record { kind = voteKind kind; node = record { 0 = node }; slot = record { 0 = slot }; block = block })
+voteInput kind node slot block = input.Vote (voteOf kind node slot block)
 
 -- A block in a slot with its parent.
 abbrev pub blockInput : ℕ → ℕ → ℕ → ℕ → Input

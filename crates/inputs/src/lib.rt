@@ -1,5 +1,6 @@
 // The inputs that a host's numbers stand for.
 ghost use mathlib.Core.Path.{_≡_};
+ghost use Rattle.rulebook.specs.Messages.{voteOf};
 ghost use Rattle.inputs.specs.Inputs.{voteInput, blockInput, timeoutInput};
 use kinds::vote_kind;
 use rulebook::Block;
@@ -8,16 +9,23 @@ use rulebook::Node;
 use rulebook::Slot;
 use rulebook::Vote;
 
-// Another node's vote.
-pub fn vote_input(kind: u64, node: usize, slot: usize, block: u64) -> Input
-    ensures { λ r. ⌜ r ≡ voteInput kind node slot block ⌝ }
+// The vote of four numbers.
+pub fn vote_of(kind: u64, node: usize, slot: usize, block: u64) -> Vote
+    ensures { λ r. ⌜ r ≡ voteOf kind node slot block ⌝ }
 {
-    Input::Vote(Vote {
+    Vote {
         kind: vote_kind(kind),
         node: Node(node),
         slot: Slot(slot),
         block,
-    })
+    }
+}
+
+// Another node's vote.
+pub fn vote_input(kind: u64, node: usize, slot: usize, block: u64) -> Input
+    ensures { λ r. ⌜ r ≡ voteInput kind node slot block ⌝ }
+{
+    Input::Vote(vote_of(kind, node, slot, block))
 }
 
 // A block with its parent.

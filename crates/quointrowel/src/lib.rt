@@ -4,15 +4,18 @@ ghost use mathlib.Core.Path.{_≡_};
 ghost use lib.ListN.{length};
 ghost use Rattle.rulebook.specs.PaperNumbers.{certificateKind};
 ghost use Rattle.rulebook.specs.Checker.{checkCertificate, checkProof};
+ghost use Rattle.rulebook.specs.Messages.{voteOf, readVote, writeVote};
 ghost use Rattle.rulebook.specs.WellFormed.{outboxWords};
 ghost use Rattle.record.specs.Layout.{recordWords};
 ghost use Rattle.writers.specs.Writing.{certificateOn, proofOn};
 ghost use Rattle.rulebook.specs.declared.Input.the-variants as input;
-ghost use Rattle.answers.specs.Face.{voteInput, blockInput, timeoutInput, Started, Stepped, Wrote, Checked};
+ghost use Rattle.answers.specs.Face.{voteInput, blockInput, timeoutInput, Started, Stepped, Wrote, MessageRead, Checked};
 use answers::bytes_written;
 use answers::check_missing;
 use answers::check_number;
 use answers::check_values;
+use answers::read_number;
+use answers::read_values;
 use answers::records_made;
 use answers::start_number;
 use answers::step_number;
@@ -22,7 +25,10 @@ use checker::check_proof;
 use inputs::block_input;
 use inputs::timeout_input;
 use inputs::vote_input;
+use inputs::vote_of;
 use kinds::kind_of;
+use messages::read_vote;
+use messages::write_vote;
 use node::step;
 use record::record_words;
 use rulebook::Input;
@@ -182,4 +188,33 @@ pub extern "C" fn qr_check_proof(
     let short = check_missing(a);
     *missing = short.0;
     check_number(a)
+}
+
+// Reads a vote message: the vote's four numbers.
+#[no_mangle]
+pub extern "C" fn qr_read_vote(count: usize, message: &[u8], values: &mut [u64; 4]) -> u64
+    ensures { λ r. ⌜ MessageRead (readVote count (now (message .entry))) r (now (values .exit)) ⌝ }
+{
+    let a = read_vote(count, message);
+    *values = read_values(a);
+    read_number(a)
+}
+
+// Writes a vote message to the buffer's front.
+#[no_mangle]
+pub extern "C" fn qr_write_vote(
+    buffer: &mut [u8],
+    written: &mut usize,
+    count: usize,
+    kind: u64,
+    node: usize,
+    slot: usize,
+    block: u64,
+) -> u64
+    ensures { λ r. ⌜ Wrote (writeVote count (length (now (buffer .entry))) (voteOf kind node slot block)) (now (buffer .entry)) r (now (written .exit)) (now (buffer .exit)) ⌝ }
+{
+    let v = vote_of(kind, node, slot, block);
+    let a = write_vote(count, v, buffer);
+    *written = bytes_written(a);
+    write_number(a)
 }
