@@ -106,6 +106,21 @@ uint64_t qr_check_certificate(const uint64_t *stakes, size_t stake_count, const 
 uint64_t qr_check_proof(const uint64_t *stakes, size_t stake_count, const uint8_t *packet, size_t packet_bytes,
                         uint64_t values[5], uint64_t *missing);
 
+/*
+ * A vote as a message between members: kind, node, slot and block in the packets' numbers, at most 16 bytes. Both take the
+ * number of nodes of the ring.
+ */
+
+/* Reads a message into kind, node, slot, block; zeros beside a refusal. Refusals: 1, 12, 13, 4, 3, 2, 5, and 12 for leftover bytes. */
+uint64_t qr_read_vote(size_t node_count, const uint8_t *message, size_t message_bytes, uint64_t values[4]);
+
+/*
+ * Writes a message to the buffer's front, which has at least 16 bytes, and puts the number of its bytes into *written;
+ * bytes past them stay. Refusals: 1, 9, 4, 3, 2, 5.
+ */
+uint64_t qr_write_vote(uint8_t *buffer, size_t buffer_bytes, size_t *written, size_t node_count, uint64_t kind, size_t node,
+                       size_t slot, uint64_t block);
+
 #ifdef __cplusplus
 }
 #endif

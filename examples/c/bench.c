@@ -20,6 +20,21 @@ static void show_check(const char *what, uint64_t number, const uint64_t values[
            what, number, values[0], values[1], values[2], values[3], values[4], missing);
 }
 
+/* A vote written for another member, and read again. */
+static void show_message(void)
+{
+    uint8_t message[16];
+    uint64_t vote[4];
+    size_t written;
+    uint64_t number = qr_write_vote(message, sizeof message, &written, 64, 1, 63, 16, 300);
+    printf("message: %" PRIu64 ", %zu bytes:", number, written);
+    for (size_t i = 0; i < written; i++)
+        printf(" %02X", message[i]);
+    number = qr_read_vote(64, message, written, vote);
+    printf("; read: %" PRIu64 ", kind %" PRIu64 " node %" PRIu64 " slot %" PRIu64 " block %" PRIu64 "\n", number, vote[0], vote[1],
+           vote[2], vote[3]);
+}
+
 int main(void)
 {
     const uint64_t stakes[1] = {5};
@@ -49,6 +64,7 @@ int main(void)
     show_check("kinds 2 and 5", number, values, missing);
     number = qr_check_proof(stakes, 1, light_proof, sizeof light_proof, values, &missing);
     show_check("kind 5 without signers", number, values, missing);
+    show_message();
     free(record);
     free(outbox);
     return 0;
