@@ -14,6 +14,7 @@ use Rattle.rulebook.specs.declared.Vote.{Vote}
 use Rattle.rulebook.specs.declared.VoteKind.{VoteKind}
 use Rattle.rulebook.specs.declared.VoteKind.the-variants as vote
 use Rattle.rulebook.specs.PaperNumbers.{voteNumber, voteKind, startPanel, stepPanel}
+use Rattle.rulebook.specs.Messages.{voteOf}
 use Rattle.rulebook.specs.Tools.{choose}
 use Rattle.rulebook.specs.Rules.{Record}
 use Rattle.rulebook.specs.Ledger.{Ledger, fresh, cellAt}
@@ -53,7 +54,7 @@ kind-back vote.Final = refl
 kind-back vote.Other = refl
 
 asked-is : (i : Input) → inputFor (askedFor i) ≡ i
-unfolding askedFor
+unfolding askedFor voteOf
 asked-is (input.Vote w) = ap (λ (k : VoteKind). input.Vote (record { kind = k; node = w .node; slot = w .slot; block = w .block })) (kind-back (w .kind))
 asked-is (input.Block s b) = refl
 asked-is (input.Timeout s) = refl
