@@ -23,8 +23,8 @@ pub struct Cover {
     life: usize,
 }
 
-const COMMANDS: [&str; 10] =
-    ["start", "vote", "block", "timeout", "look", "cert", "proof", "check", "checkproof", "votes"];
+const COMMANDS: [&str; 12] =
+    ["start", "vote", "block", "timeout", "look", "cert", "proof", "check", "checkproof", "pack", "unpack", "votes"];
 
 pub fn cover(seed: u64, count: u64) -> Cover {
     let mut cover = Cover::default();
@@ -94,6 +94,7 @@ impl Cover {
             "start" if number == "0" => self.life = 0,
             "vote" | "block" | "timeout" | "look" => self.take_records(&answered),
             "cert" | "proof" if number == "0" => self.take_written(command, answered[2]),
+            "unpack" if number == "0" => self.note(format!("unpack 0, {} bytes", words[2].len() / 2)),
             "checkproof" if number != "?" => self.take_checked_proof(&words, number),
             _ => {}
         }

@@ -3,6 +3,7 @@
 mod compare;
 mod cover;
 mod gen;
+mod message;
 mod node;
 mod packet;
 mod panel;

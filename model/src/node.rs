@@ -42,20 +42,26 @@ impl Vote {
         }
     }
 
-    /// Kind must be 1 to 5; the block must be there for kinds 1 and 2 only.
-    fn new(kind: u64, block: u64) -> Result<Vote, Refusal> {
-        let (vote, needs_block) = match kind {
-            1 => (Vote::Notar(block), true),
-            2 => (Vote::NotarFallback(block), true),
-            3 => (Vote::Skip, false),
-            4 => (Vote::SkipFallback, false),
-            5 => (Vote::Final, false),
-            _ => return Err(Refusal::NoSuchKind),
-        };
-        if needs_block != (block != 0) {
-            return Err(Refusal::BlockNumber);
+    /// The kind must be 1 to 5; the block is not looked at.
+    pub fn of_kind(kind: u64, block: u64) -> Result<Vote, Refusal> {
+        match kind {
+            1 => Ok(Vote::Notar(block)),
+            2 => Ok(Vote::NotarFallback(block)),
+            3 => Ok(Vote::Skip),
+            4 => Ok(Vote::SkipFallback),
+            5 => Ok(Vote::Final),
+            _ => Err(Refusal::NoSuchKind),
         }
-        Ok(vote)
+    }
+
+    /// The block must be there for kinds 1 and 2 only.
+    pub fn allows_block(self, block: u64) -> Result<(), Refusal> {
+        let needs_block = matches!(self, Vote::Notar(_) | Vote::NotarFallback(_));
+        if needs_block == (block != 0) {
+            Ok(())
+        } else {
+            Err(Refusal::BlockNumber)
+        }
     }
 }
 
@@ -393,10 +399,7 @@ impl Node {
 impl Node {
     pub fn vote(&mut self, kind: u64, node: u64, slot: u64, block: u64) -> Result<Vec<Record>, Refusal> {
         // The order of the tests is the document's: 4, 3, 2, 6, 5, 7, 8.
-        let vote = Vote::new(kind, block);
-        if vote == Err(Refusal::NoSuchKind) {
-            return Err(Refusal::NoSuchKind);
-        }
+        let vote = Vote::of_kind(kind, block)?;
         if !is_slot(slot) {
             return Err(Refusal::NoSuchSlot);
         }
@@ -406,7 +409,7 @@ impl Node {
         if node == self.own as u64 {
             return Err(Refusal::OwnName);
         }
-        let vote = vote?;
+        vote.allows_block(block)?;
         let cell = &mut self.pool[slot as usize][node as usize];
         if cell.keeps(vote) {
             return Err(Refusal::AlreadyKept);

@@ -114,7 +114,7 @@ pub fn check_proof(packet: &[u8], stakes: &[u64]) -> Result<Checked, Refusal> {
     Ok(first)
 }
 
-fn nothing_remains(rest: &[u8]) -> Result<(), Refusal> {
+pub fn nothing_remains(rest: &[u8]) -> Result<(), Refusal> {
     if rest.is_empty() {
         Ok(())
     } else {

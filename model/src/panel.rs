@@ -1,5 +1,6 @@
 //! The script: one command a line, one answer a command.
 
+use crate::message::{self, Message};
 use crate::node::{Node, Record};
 use crate::packet;
 use crate::refusal::Refusal;
@@ -27,6 +28,8 @@ enum Command {
     Proof { slot: u64, block: u64 },
     Check { packet: Vec<u8>, stakes: Vec<u64> },
     CheckProof { packet: Vec<u8>, stakes: Vec<u64> },
+    Pack { count: u64, message: Message },
+    Unpack { count: u64, bytes: Vec<u8> },
     Votes,
 }
 
@@ -67,6 +70,8 @@ impl Panel {
             Command::Proof { slot, block } => show_packet(&packet::write_proof(self.node()?, slot, block)?),
             Command::Check { packet, stakes } => show_checked(packet::check(&packet, &stakes)?),
             Command::CheckProof { packet, stakes } => show_checked(packet::check_proof(&packet, &stakes)?),
+            Command::Pack { count, message } => show_packet(&message::write(count, message)?),
+            Command::Unpack { count, bytes } => show_message(message::read(count, &bytes)?),
             Command::Votes => return Ok(show_votes(self.node()?)),
         };
         Ok(vec![answer])
@@ -130,6 +135,14 @@ fn parse(words: &[&[u8]]) -> Result<Command, Malformed> {
         b"checkproof" => {
             packet_and_stakes(rest).map(|(packet, stakes)| Command::CheckProof { packet, stakes })
         }
+        b"pack" => {
+            let [count, kind, node, slot, block] = numbers(rest)?;
+            Ok(Command::Pack { count, message: Message { kind, node, slot, block } })
+        }
+        b"unpack" => match rest {
+            [count, bytes] => Ok(Command::Unpack { count: number(count)?, bytes: hex(bytes)? }),
+            _ => Err(Malformed),
+        },
         _ => Err(Malformed),
     }
 }
@@ -199,6 +212,10 @@ fn show_packet(packet: &[u8]) -> String {
 
 fn show_checked(c: packet::Checked) -> String {
     format!("0 {} {} {} {} {}", c.kind, c.slot, c.block, c.count, c.weight)
+}
+
+fn show_message(m: Message) -> String {
+    format!("0 {} {} {} {}", m.kind, m.node, m.slot, m.block)
 }
 
 fn show_votes(node: &Node) -> Vec<String> {

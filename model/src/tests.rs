@@ -2,11 +2,12 @@
 
 use crate::cover::cover;
 use crate::gen;
+use crate::message::{self, Message};
 use crate::node::{Cert, Node, Record};
 use crate::packet::{check, check_proof, put_number, take_number, write_cert, write_proof, Checked};
 use crate::panel::{lines, Panel};
 use crate::refusal::Refusal;
-use crate::stakes::{Stakes, P20, P40, P60, P80};
+use crate::stakes::{Stakes, MOST_NODES, P20, P40, P60, P80};
 
 // ---- helpers ----
 
@@ -645,6 +646,73 @@ fn the_writer_prefers_kind_1() {
     assert_eq!(refused(write_proof(&n, 2, 8)), 18);
 }
 
+// ---- votes as bytes ----
+
+fn pack(count: u64, [kind, node, slot, block]: [u64; 4]) -> Result<Vec<u8>, u64> {
+    message::write(count, Message { kind, node, slot, block }).map_err(Refusal::number)
+}
+
+fn unpack(count: u64, hex: &str) -> Result<[u64; 4], u64> {
+    let read = message::read(count, &bytes(hex)).map_err(Refusal::number);
+    read.map(|m| [m.kind, m.node, m.slot, m.block])
+}
+
+#[test]
+fn votes_read_back() {
+    let edges = (0..=9).map(|groups| 1u64 << (7 * groups)).flat_map(|edge| [(edge - 1).max(1), edge]);
+    for block in edges.chain([u64::MAX]) {
+        for vote in [[1, 0, 1, block], [2, 63, 16, block]] {
+            let packed = pack(64, vote).unwrap();
+            assert!(packed.len() <= 16);
+            let Message { kind, node, slot, block } = message::read(64, &packed).unwrap();
+            assert_eq!([kind, node, slot, block], vote);
+        }
+    }
+    assert_eq!(pack(1, [5, 0, 16, 0]).unwrap(), bytes("05 00 10 00"));
+    assert_eq!(unpack(3, "01 02 10 AC 02"), Ok([1, 2, 16, 300]));
+}
+
+#[test]
+fn vote_writer_refusals_in_order() {
+    assert_eq!(pack(0, [0, 9, 0, 0]), Err(1));
+    assert_eq!(pack(MOST_NODES as u64 + 1, [1, 1, 1, 7]), Err(1));
+    assert_eq!(pack(u64::MAX, [1, 1, 1, 7]), Err(1));
+    assert_eq!(pack(1, [0, 9, 0, 0]), Err(4));
+    assert_eq!(pack(1, [6, 9, 0, 0]), Err(4));
+    assert_eq!(pack(1, [1, 9, 0, 0]), Err(3));
+    assert_eq!(pack(1, [1, 9, 17, 0]), Err(3));
+    assert_eq!(pack(1, [1, 1, 16, 0]), Err(2));
+    assert_eq!(pack(1, [2, 0, 16, 0]), Err(5));
+    for kind in 3..=5 {
+        assert_eq!(pack(1, [kind, 0, 16, 1]), Err(5));
+        assert!(pack(1, [kind, 0, 16, 0]).is_ok());
+    }
+}
+
+#[test]
+fn vote_reader_refusals_in_order() {
+    assert_eq!(unpack(0, "80 00"), Err(1));
+    assert_eq!(unpack(MOST_NODES as u64 + 1, "01 01 01 07"), Err(1));
+    assert_eq!(unpack(1, ""), Err(12));
+    assert_eq!(unpack(1, "00 00 00"), Err(12));
+    assert_eq!(unpack(1, "00 00 00 80"), Err(12));
+    assert_eq!(unpack(1, "00 00 80 00 80"), Err(13));
+    assert_eq!(unpack(1, "06 01 00 00 00"), Err(4));
+    assert_eq!(unpack(1, "01 01 00 00 00"), Err(3));
+    assert_eq!(unpack(1, "01 01 10 00 00"), Err(2));
+    assert_eq!(unpack(1, "01 00 10 00 00"), Err(5));
+    assert_eq!(unpack(1, "03 00 10 01 00"), Err(5));
+    assert_eq!(unpack(1, "01 00 10 01 00"), Err(12));
+    assert_eq!(unpack(1, "01 00 10 01"), Ok([1, 0, 16, 1]));
+}
+
+#[test]
+fn votes_as_bytes_need_no_node() {
+    let script =
+        "pack 5 1 4 16 300\nunpack 5 010410AC02\nunpack 4 010410ac02\nunpack 5 -\npack 5 1 4\nunpack 5";
+    assert_eq!(run(script), ["0 5 010410AC02", "0 1 4 16 300", "2", "12", "?", "?"]);
+}
+
 // ---- the script ----
 
 #[test]
@@ -751,6 +819,8 @@ const POSSIBLE: &[(&str, &[u64])] = &[
     ("check", &[0, 1, 3, 4, 5, 12, 13, 14, 15]),
     ("checkproof", &[0, 1, 3, 4, 5, 12, 13, 14, 15, 16]),
     ("votes", &[0, 17]),
+    ("pack", &[0, 1, 2, 3, 4, 5]),
+    ("unpack", &[0, 1, 2, 3, 4, 5, 12, 13]),
 ];
 
 const BRANCHES: &[&str] = &[
@@ -780,8 +850,8 @@ const BRANCHES: &[&str] = &[
 ];
 
 #[test]
-fn five_hundred_scripts_reach_everything() {
-    let seen = cover(1, 500);
+fn a_thousand_scripts_reach_everything() {
+    let seen = cover(1, 1000);
     for (command, numbers) in POSSIBLE {
         for number in *numbers {
             let times = seen.answers(command, &number.to_string());
@@ -804,6 +874,10 @@ fn five_hundred_scripts_reach_everything() {
                 assert!(seen.notes(&what) >= 5, "few of: {what}");
             }
         }
+    }
+    for bytes in 4..=13 {
+        let what = format!("unpack 0, {bytes} bytes");
+        assert!(seen.notes(&what) >= 20, "few of: {what}");
     }
     // A life from a fresh start has room for no more than these.
     assert!(seen.most_records_in_a_call <= 67 && seen.most_records_in_a_life <= 68);

@@ -2,6 +2,7 @@
 
 mod history;
 mod malformed;
+mod messages;
 mod noise;
 mod packets;
 mod ring;
@@ -23,7 +24,7 @@ pub struct Script {
 pub fn script(seed: u64) -> Script {
     // The seed is stirred once, so that seeds in a row share nothing.
     let mut random = Random::new(Random::new(seed).next());
-    match random.below(40) {
+    match random.below(42) {
         0 => tiny(random),
         1 => before_start(random),
         2 => restarts(random),
@@ -38,6 +39,7 @@ pub fn script(seed: u64) -> Script {
         22..=24 => standoffs(random),
         25 | 26 => bridges(random),
         27 | 28 => leaps(random),
+        29 | 30 => messages(random),
         _ => history(random),
     }
 }
@@ -241,6 +243,16 @@ fn faults(mut random: Random) -> Script {
             _ => noise::some(&mut w, &numbers),
         }
     }
+    end(w)
+}
+
+/// With or without a node: votes as bytes ask for none.
+fn messages(mut random: Random) -> Script {
+    let ring = Ring::small(&mut random);
+    let budget = random.range(20, 200) as usize;
+    let mut w = Writer::new(random, ring, budget);
+    messages::messages(&mut w);
+    w.start();
     end(w)
 }
 

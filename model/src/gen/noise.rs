@@ -188,19 +188,19 @@ pub fn spoil_table(random: &mut Random, stakes: &mut Vec<u64>) {
     }
 }
 
-/// How likely each field of a line is wrong.
-struct FaultRate(u64);
+/// How likely each field of a line is wrong, in percent.
+pub struct FaultRate(pub u64);
 
 impl FaultRate {
     fn any(random: &mut Random) -> FaultRate {
         FaultRate(random.pick(&[10, 30, 60]))
     }
 
-    fn hits(&self, random: &mut Random) -> bool {
+    pub fn hits(&self, random: &mut Random) -> bool {
         random.percent(self.0)
     }
 
-    fn or_bad_kind(&self, random: &mut Random) -> u64 {
+    pub fn or_bad_kind(&self, random: &mut Random) -> u64 {
         if self.hits(random) {
             random.pick(&[0, 6, 7, 257, 1 << 32 | 1, u64::MAX])
         } else {
@@ -208,7 +208,7 @@ impl FaultRate {
         }
     }
 
-    fn or_bad_slot(&self, random: &mut Random) -> u64 {
+    pub fn or_bad_slot(&self, random: &mut Random) -> u64 {
         if self.hits(random) {
             random.pick(&[0, 0, 17, 17, 18, 257, 1 << 32 | 1, u64::MAX])
         } else {
@@ -216,7 +216,7 @@ impl FaultRate {
         }
     }
 
-    fn or_wrong_block(&self, random: &mut Random, right: u64) -> u64 {
+    pub fn or_wrong_block(&self, random: &mut Random, right: u64) -> u64 {
         match (self.hits(random), right) {
             (true, 0) => random.any_number().max(1),
             (true, _) => 0,

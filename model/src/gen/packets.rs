@@ -56,7 +56,7 @@ fn questions(w: &Writer) -> Vec<(String, bool)> {
     all
 }
 
-fn packet_of(answer: &[String]) -> Option<Vec<u8>> {
+pub fn packet_of(answer: &[String]) -> Option<Vec<u8>> {
     let hex = answer.first()?.split(' ').nth(2)?;
     let byte = |at: usize| u8::from_str_radix(&hex[at..at + 2], 16).ok();
     (0..hex.len()).step_by(2).map(byte).collect()
@@ -110,7 +110,7 @@ fn other_stakes(random: &mut Random, right: &[u64]) -> Vec<u64> {
 }
 
 /// One place changed.
-fn damage(random: &mut Random, packet: &[u8]) -> Vec<u8> {
+pub fn damage(random: &mut Random, packet: &[u8]) -> Vec<u8> {
     let mut damaged = packet.to_vec();
     if damaged.is_empty() {
         return vec![random.next() as u8];
@@ -210,14 +210,14 @@ impl Fields {
     }
 }
 
-fn shortest(number: u64) -> Vec<u8> {
+pub fn shortest(number: u64) -> Vec<u8> {
     let mut bytes = Vec::new();
     put_number(&mut bytes, number);
     bytes
 }
 
 /// A number written as it must not be, or just may.
-fn odd_form(random: &mut Random, number: u64) -> Vec<u8> {
+pub fn odd_form(random: &mut Random, number: u64) -> Vec<u8> {
     let mut bytes = shortest(number);
     match random.below(4) {
         // Drawn out by groups of zeros, up to and past the tenth byte.

@@ -84,6 +84,7 @@ impl Writer {
 
     fn lay_out(&mut self, line: &str) -> String {
         let mut laid_out = String::new();
+        let first_number = if line.starts_with("unpack") { 2 } else { 1 };
         for (i, word) in line.split(' ').enumerate() {
             if i > 0 {
                 let spaces =
@@ -91,7 +92,7 @@ impl Writer {
                 laid_out += &" ".repeat(spaces as usize);
             }
             // Words of digits in second place may be packets, where zeros count.
-            let number = i > 1 && word.bytes().all(|byte| byte.is_ascii_digit());
+            let number = i > first_number && word.bytes().all(|byte| byte.is_ascii_digit());
             if number && self.random.percent(self.style.leading_zeros) {
                 laid_out += "00";
             }
