@@ -17,7 +17,7 @@ use Rattle.script.specs.Numbers.{wordFrom, wordTo}
 use Rattle.script.proofs.Reading.{word-from, word-to}
 use Rattle.commands.specs.declared.Command.{Command}
 use Rattle.commands.specs.declared.Command.the-variants as command
-use Rattle.commands.specs.Commands.{sameText, inputOf, atLeast, wordOf, packetAndStakes, argumentsFit, commandOf, tells, Heard}
+use Rattle.commands.specs.Commands.{sameText, inputOf, exactly, atLeast, wordOf, packetAndStakes, countAndMessage, argumentsFit, commandOf, tells, Heard}
 
 -- ---- two texts
 
@@ -74,6 +74,16 @@ module _ (line : List ℕ) (at : ℕ) (w : Word) (h : WordIn line at w) where
 
     pub good-packet : (r : Bool) → hex .good ≡ true → r ≡ atLeast line (w .to) 0 → r ≡ packetAndStakes line at
     good-packet r d g = g ∙ ap (λ (n : ℕ). atLeast line n 0) (word-to line at w h) ∙ ap (packet-test true) (sym d) ∙ packet-is
+
+-- ---- a count and a message
+
+pub message-is : (line : List ℕ) (at : ℕ) (w : Word) → WordIn line at w → (v : Word) → WordIn line (w .to) v → (a b c : Bool)
+    → a ≡ exactly (take (w .to) line) at 1 → b ≡ packetAndStakes line (w .to) → c ≡ exactly line (v .to) 0 → (a && (b && c)) ≡ countAndMessage line at
+unfolding countAndMessage
+message-is line at w h v k a b c p q r =
+    let e : w .to ≡ wordTo line at = word-to line at w h in
+    let f : v .to ≡ wordTo line (wordTo line at) = word-to line (w .to) v k ∙ ap (wordTo line) e in
+    λ i. (p ∙ ap (λ (n : ℕ). exactly (take n line) at 1) e) i && ((q ∙ ap (packetAndStakes line) e) i && (r ∙ ap (λ (n : ℕ). exactly line n 0) f) i)
 
 -- ---- the command
 

@@ -43,6 +43,12 @@ checkText = 99 ∷ 104 ∷ 101 ∷ 99 ∷ 107 ∷ []
 abbrev pub checkProofText : List ℕ
 checkProofText = 99 ∷ 104 ∷ 101 ∷ 99 ∷ 107 ∷ 112 ∷ 114 ∷ 111 ∷ 111 ∷ 102 ∷ []
 
+abbrev pub packText : List ℕ
+packText = 112 ∷ 97 ∷ 99 ∷ 107 ∷ []
+
+abbrev pub unpackText : List ℕ
+unpackText = 117 ∷ 110 ∷ 112 ∷ 97 ∷ 99 ∷ 107 ∷ []
+
 abbrev pub boardText : List ℕ
 boardText = 98 ∷ 111 ∷ 97 ∷ 114 ∷ 100 ∷ []
 
@@ -52,14 +58,18 @@ votesText = 118 ∷ 111 ∷ 116 ∷ 101 ∷ 115 ∷ []
 abbrev pub helpText : List ℕ
 helpText = 104 ∷ 101 ∷ 108 ∷ 112 ∷ []
 
--- The command that a word is, asked for in three lists: "board", "votes" and "help" are for people,
+-- The command that a word is, asked for in four lists: "board", "votes" and "help" are for people,
 unfoldable pub viewOf : List ℕ → Command
 viewOf w = choose (sameText w boardText) command.Board (choose (sameText w votesText) command.Votes (choose (sameText w helpText) command.Help (command.Other)))
+
+-- "pack" and "unpack" are for vote messages,
+unfoldable pub messageOf : List ℕ → Command
+messageOf w = choose (sameText w packText) command.Pack (choose (sameText w unpackText) command.Unpack (viewOf w))
 
 -- "cert", "proof", "check" and "checkproof" ask something,
 unfoldable pub questionOf : List ℕ → Command
 questionOf w =
-    choose (sameText w certText) command.Cert (choose (sameText w proofText) command.Proof (choose (sameText w checkText) command.Check (choose (sameText w checkProofText) command.CheckProof (viewOf w))))
+    choose (sameText w certText) command.Cert (choose (sameText w proofText) command.Proof (choose (sameText w checkText) command.Check (choose (sameText w checkProofText) command.CheckProof (messageOf w))))
 
 -- and "start", "vote", "block", "timeout" and "look" tell the node something.
 unfoldable pub inputOf : List ℕ → Command
@@ -82,6 +92,12 @@ unfoldable pub packetAndStakes : List ℕ → ℕ → Bool
 packetAndStakes line at =
     ltb (wordFrom line at) (wordTo line at) && (hexOf (wordOf line at) 2048 .good && atLeast line (wordTo line at) 0)
 
+-- A count, then a message in hex as a packet is, and nothing more.
+unfoldable pub countAndMessage : List ℕ → ℕ → Bool
+countAndMessage line at =
+    exactly (take (wordTo line at) line) at 1
+    && (packetAndStakes line (wordTo line at) && exactly line (wordTo line (wordTo line at)) 0)
+
 -- What follows the command's word, from a place on, is what the command asks for.
 unfoldable pub argumentsFit : Command → List ℕ → ℕ → Bool
 argumentsFit command.Start line at = atLeast line at 2
@@ -93,6 +109,8 @@ argumentsFit command.Cert line at = exactly line at 3
 argumentsFit command.Proof line at = exactly line at 2
 argumentsFit command.Check line at = packetAndStakes line at
 argumentsFit command.CheckProof line at = packetAndStakes line at
+argumentsFit command.Pack line at = exactly line at 5
+argumentsFit command.Unpack line at = countAndMessage line at
 argumentsFit command.Board line at = exactly line at 0
 argumentsFit command.Votes line at = exactly line at 0
 argumentsFit command.Help line at = exactly line at 0
@@ -113,6 +131,8 @@ tells command.Cert = false
 tells command.Proof = false
 tells command.Check = false
 tells command.CheckProof = false
+tells command.Pack = false
+tells command.Unpack = false
 tells command.Board = false
 tells command.Votes = false
 tells command.Help = false

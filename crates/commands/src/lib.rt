@@ -1,6 +1,6 @@
 // Which command a line of a script is: by its first word, and by what follows it.
 ghost use mathlib.Core.Path.{_≡_};
-ghost use Rattle.commands.specs.Commands.{sameText, inputOf, questionOf, viewOf, exactly, atLeast, packetAndStakes, argumentsFit, commandOf};
+ghost use Rattle.commands.specs.Commands.{sameText, inputOf, questionOf, messageOf, viewOf, exactly, atLeast, packetAndStakes, countAndMessage, argumentsFit, commandOf};
 use hex::read_hex;
 use script::read_numbers;
 use script::word_at;
@@ -16,6 +16,8 @@ pub enum Command {
     Proof,
     Check,
     CheckProof,
+    Pack,
+    Unpack,
     Board,
     Votes,
     Help,
@@ -75,6 +77,19 @@ fn question_of(word: &[u8]) -> Command
     if same(word, b"checkproof") {
         return Command::CheckProof;
     }
+    message_of(word)
+}
+
+// The commands of vote messages.
+fn message_of(word: &[u8]) -> Command
+    ensures { λ r. ⌜ r ≡ messageOf (now (word .entry)) ⌝ }
+{
+    if same(word, b"pack") {
+        return Command::Pack;
+    }
+    if same(word, b"unpack") {
+        return Command::Unpack;
+    }
     view_of(word)
 }
 
@@ -130,6 +145,19 @@ fn packet_and_stakes(line: &[u8], at: usize) -> bool
     at_least(line, to, 0)
 }
 
+// Whether the rest of a line is a count, a message in hex, of at most 2048 bytes, and nothing more.
+fn count_and_message(line: &[u8], at: usize) -> bool
+    ensures { λ r. ⌜ r ≡ countAndMessage (now (line .entry)) at ⌝ }
+{
+    let w = word_at(line, at);
+    let to = w.to;
+    let message = word_at(line, to);
+    let counted = exactly(&line[..to], at, 1);
+    let packed = packet_and_stakes(line, to);
+    let ended = exactly(line, message.to, 0);
+    counted & (packed & ended)
+}
+
 // Whether what follows a command's word is what it asks for.
 fn arguments_fit(c: Command, line: &[u8], at: usize) -> bool
     ensures { λ r. ⌜ r ≡ argumentsFit c (now (line .entry)) at ⌝ }
@@ -144,6 +172,8 @@ fn arguments_fit(c: Command, line: &[u8], at: usize) -> bool
         Command::Proof => exactly(line, at, 2),
         Command::Check => packet_and_stakes(line, at),
         Command::CheckProof => packet_and_stakes(line, at),
+        Command::Pack => exactly(line, at, 5),
+        Command::Unpack => count_and_message(line, at),
         Command::Board => exactly(line, at, 0),
         Command::Votes => exactly(line, at, 0),
         Command::Help => exactly(line, at, 0),

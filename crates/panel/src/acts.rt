@@ -5,6 +5,7 @@ use crate::answers::malformed;
 use crate::answers::number;
 use crate::answers::packet;
 use crate::answers::records;
+use crate::answers::vote_read;
 use commands::Command;
 use commands::command_of;
 use hex::read_hex;
@@ -13,11 +14,13 @@ use quointrowel::qr_block;
 use quointrowel::qr_check_certificate;
 use quointrowel::qr_check_proof;
 use quointrowel::qr_look;
+use quointrowel::qr_read_vote;
 use quointrowel::qr_start;
 use quointrowel::qr_timeout;
 use quointrowel::qr_vote;
 use quointrowel::qr_write_certificate;
 use quointrowel::qr_write_proof;
+use quointrowel::qr_write_vote;
 use script::read_numbers;
 use script::word_at;
 
@@ -166,6 +169,46 @@ fn check_packet(stakes: &[u64], bytes: &[u8], whole: bool) {
     }
 }
 
+// pack COUNT KIND NODE SLOT BLOCK
+fn pack(line: &[u8], at: usize) {
+    let mut args = [0u64; 5];
+    read_numbers(line, at, &mut args);
+    let mut buffer = [0u8; 16];
+    let mut written = 0;
+    let n = qr_write_vote(
+        &mut buffer,
+        &mut written,
+        size(args[0]),
+        args[1],
+        size(args[2]),
+        size(args[3]),
+        args[4],
+    );
+    packet(n, written, &buffer);
+}
+
+// unpack COUNT HEX
+fn unpack(line: &[u8], at: usize) {
+    let w = word_at(line, at);
+    let to = w.to;
+    let mut count = [0u64; 1];
+    read_numbers(&line[0..to], at, &mut count);
+    let message = word_at(line, to);
+    let from = message.from;
+    let end = message.to;
+    let mut bytes = [0u8; 2048];
+    let hex = read_hex(&line[from..end], &mut bytes);
+    let length = hex.size;
+    unpack_bytes(size(count[0]), &bytes[0..length]);
+}
+
+// The same, with count and message read.
+fn unpack_bytes(count: usize, message: &[u8]) {
+    let mut values = [0u64; 4];
+    let n = qr_read_vote(count, message, &mut values);
+    vote_read(n, &values);
+}
+
 // help
 fn help() {
     say(b"start OWN GENESIS STAKE..            0\n");
@@ -176,6 +219,8 @@ fn help() {
     say(b"proof SLOT BLOCK                     0 BYTES HEX\n");
     say(b"check HEX STAKE..                    0 KIND SLOT BLOCK SIGNERS WEIGHT, 15 MISSING\n");
     say(b"checkproof HEX STAKE..               0 KIND SLOT BLOCK SIGNERS WEIGHT, 15 MISSING\n");
+    say(b"pack COUNT KIND NODE SLOT BLOCK      0 BYTES HEX\n");
+    say(b"unpack COUNT HEX                     0 KIND NODE SLOT BLOCK\n");
     say(b"board | votes | help                 for people\n");
     say(b"Any other refusal is its number alone; ? a line that is none of these.\n");
 }
@@ -210,6 +255,8 @@ pub fn obey(line: &[u8], rec: &mut [u64], outbox: &mut [u64])
         Command::Proof => proof(line, at, rec),
         Command::Check => check(line, at, false),
         Command::CheckProof => check(line, at, true),
+        Command::Pack => pack(line, at),
+        Command::Unpack => unpack(line, at),
         Command::Board => view(rec, false),
         Command::Votes => view(rec, true),
         Command::Help => help(),

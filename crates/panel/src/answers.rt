@@ -78,3 +78,19 @@ pub fn checked(n: u64, values: &[u64; 5], missing: u64) {
     say(b" ");
     number(values[4]);
 }
+
+// The answer to a vote message: its number, or 0 with the vote's four numbers.
+pub fn vote_read(n: u64, values: &[u64; 4]) {
+    if n != 0 {
+        number(n);
+        return;
+    }
+    say(b"0 ");
+    tell(values[0]);
+    say(b" ");
+    tell(values[1]);
+    say(b" ");
+    tell(values[2]);
+    say(b" ");
+    number(values[3]);
+}

@@ -68,17 +68,29 @@ exactly-requires-7 c κs = search needs
 enum-told-11 : tie.Need-enum-told-11
 enum-told-11 c = search needs
 
-exactly-requires-8 : tie.Need-exactly-requires-8
-exactly-requires-8 c κs = search needs
+count-and-message-requires : tie.Need-count-and-message-requires
+count-and-message-requires c κs = search needs
 
 enum-told-12 : tie.Need-enum-told-12
 enum-told-12 c = search needs
 
-exactly-requires-9 : tie.Need-exactly-requires-9
-exactly-requires-9 c κs = search needs
+exactly-requires-8 : tie.Need-exactly-requires-8
+exactly-requires-8 c κs = search needs
 
 enum-told-13 : tie.Need-enum-told-13
 enum-told-13 c = search needs
+
+exactly-requires-9 : tie.Need-exactly-requires-9
+exactly-requires-9 c κs = search needs
+
+enum-told-14 : tie.Need-enum-told-14
+enum-told-14 c = search needs
+
+exactly-requires-10 : tie.Need-exactly-requires-10
+exactly-requires-10 c κs = search needs
+
+enum-told-15 : tie.Need-enum-told-15
+enum-told-15 c = search needs
 
 returns : tie.Need-returns
 unfolding argumentsFit
@@ -133,17 +145,27 @@ returns-10 c =
 returns-11 : tie.Need-returns-11
 unfolding argumentsFit
 returns-11 c =
-    simp (c .before .enum-told11 .given .1, c .exactly8 .ensures)
+    simp (c .before .enum-told11 .given .1, c .count-and-message .ensures)
 
 returns-12 : tie.Need-returns-12
 unfolding argumentsFit
 returns-12 c =
-    simp (c .before .enum-told12 .given .1, c .exactly9 .ensures)
+    simp (c .before .enum-told12 .given .1, c .exactly8 .ensures)
 
 returns-13 : tie.Need-returns-13
 unfolding argumentsFit
 returns-13 c =
-    simp (c .enum-told13 .given .1)
+    simp (c .before .enum-told13 .given .1, c .exactly9 .ensures)
+
+returns-14 : tie.Need-returns-14
+unfolding argumentsFit
+returns-14 c =
+    simp (c .before .enum-told14 .given .1, c .exactly10 .ensures)
+
+returns-15 : tie.Need-returns-15
+unfolding argumentsFit
+returns-15 c =
+    simp (c .enum-told15 .given .1)
 
 pub arguments-fit-spec : {M : Type 1} → statement M
 arguments-fit-spec =
@@ -170,10 +192,14 @@ arguments-fit-spec =
     enum-told-10
     exactly-requires-7
     enum-told-11
-    exactly-requires-8
+    count-and-message-requires
     enum-told-12
-    exactly-requires-9
+    exactly-requires-8
     enum-told-13
+    exactly-requires-9
+    enum-told-14
+    exactly-requires-10
+    enum-told-15
     returns
     returns-2
     returns-3
@@ -186,4 +212,6 @@ arguments-fit-spec =
     returns-10
     returns-11
     returns-12
-    returns-13)
+    returns-13
+    returns-14
+    returns-15)

@@ -51,13 +51,13 @@ unfolding questionOf
 returns-4 c =
     sym (choose-off _ _ _ (sym (c .before .before .before .before .before .before .before .before .before .before .same .ensures) ∙ c .before .before .before .before .before .before .before .before .before .if1 .left) ∙ choose-off _ _ _ (sym (c .before .before .before .before .before .before .before .same2 .ensures) ∙ c .before .before .before .before .before .before .if2 .left) ∙ choose-off _ _ _ (sym (c .before .before .before .before .same3 .ensures) ∙ c .before .before .before .if3 .left) ∙ choose-on _ _ _ (sym (c .before .same4 .ensures) ∙ c .if4 .taken))
 
-view-of-requires : tie.Need-view-of-requires
-view-of-requires c κs = search needs
+message-of-requires : tie.Need-message-of-requires
+message-of-requires c κs = search needs
 
 returns-5 : tie.Need-returns-5
 unfolding questionOf
 returns-5 c =
-    c .view-of .ensures ∙ sym (choose-off _ _ _ (sym (c .before .before .before .before .before .before .before .before .before .before .before .same .ensures) ∙ c .before .before .before .before .before .before .before .before .before .before .if1 .left) ∙ choose-off _ _ _ (sym (c .before .before .before .before .before .before .before .before .same2 .ensures) ∙ c .before .before .before .before .before .before .before .if2 .left) ∙ choose-off _ _ _ (sym (c .before .before .before .before .before .same3 .ensures) ∙ c .before .before .before .before .if3 .left) ∙ choose-off _ _ _ (sym (c .before .before .same4 .ensures) ∙ c .before .if4 .left))
+    c .message-of .ensures ∙ sym (choose-off _ _ _ (sym (c .before .before .before .before .before .before .before .before .before .before .before .same .ensures) ∙ c .before .before .before .before .before .before .before .before .before .before .if1 .left) ∙ choose-off _ _ _ (sym (c .before .before .before .before .before .before .before .before .same2 .ensures) ∙ c .before .before .before .before .before .before .before .if2 .left) ∙ choose-off _ _ _ (sym (c .before .before .before .before .before .same3 .ensures) ∙ c .before .before .before .before .if3 .left) ∙ choose-off _ _ _ (sym (c .before .before .same4 .ensures) ∙ c .before .if4 .left))
 
 pub question-of-spec : {M : Type 1} → statement M
 question-of-spec =
@@ -75,5 +75,5 @@ question-of-spec =
     slice-aggregate-same-4
     same-requires-4
     returns-4
-    view-of-requires
+    message-of-requires
     returns-5)

@@ -73,23 +73,35 @@ check-requires-2 c κs = search needs
 enum-told-10 : tie.Need-enum-told-10
 enum-told-10 c = search needs
 
-view-requires : tie.Need-view-requires
-view-requires c κs = search needs
+pack-requires : tie.Need-pack-requires
+pack-requires c κs = search needs
 
 enum-told-11 : tie.Need-enum-told-11
 enum-told-11 c = search needs
 
-view-requires-2 : tie.Need-view-requires-2
-view-requires-2 c κs = search needs
+unpack-requires : tie.Need-unpack-requires
+unpack-requires c κs = search needs
 
 enum-told-12 : tie.Need-enum-told-12
 enum-told-12 c = search needs
 
-help-requires : tie.Need-help-requires
-help-requires c κs = search needs
+view-requires : tie.Need-view-requires
+view-requires c κs = search needs
 
 enum-told-13 : tie.Need-enum-told-13
 enum-told-13 c = search needs
+
+view-requires-2 : tie.Need-view-requires-2
+view-requires-2 c κs = search needs
+
+enum-told-14 : tie.Need-enum-told-14
+enum-told-14 c = search needs
+
+help-requires : tie.Need-help-requires
+help-requires c κs = search needs
+
+enum-told-15 : tie.Need-enum-told-15
+enum-told-15 c = search needs
 
 malformed-requires : tie.Need-malformed-requires
 malformed-requires c κs = search needs
@@ -164,23 +176,29 @@ returns-9 c = search needs
 returns-10 : tie.Need-returns-10
 returns-10 c = search needs
 
-same-length-12 : tie.Need-same-length-12
-same-length-12 c = search needs
-
 returns-11 : tie.Need-returns-11
 returns-11 c = search needs
-
-same-length-13 : tie.Need-same-length-13
-same-length-13 c = search needs
 
 returns-12 : tie.Need-returns-12
 returns-12 c = search needs
 
+same-length-12 : tie.Need-same-length-12
+same-length-12 c = search needs
+
 returns-13 : tie.Need-returns-13
 returns-13 c = search needs
 
+same-length-13 : tie.Need-same-length-13
+same-length-13 c = search needs
+
 returns-14 : tie.Need-returns-14
 returns-14 c = search needs
+
+returns-15 : tie.Need-returns-15
+returns-15 c = search needs
+
+returns-16 : tie.Need-returns-16
+returns-16 c = search needs
 
 pub obey-spec : {M : Type 1} → statement M
 obey-spec =
@@ -208,12 +226,16 @@ obey-spec =
     enum-told-9
     check-requires-2
     enum-told-10
-    view-requires
+    pack-requires
     enum-told-11
-    view-requires-2
+    unpack-requires
     enum-told-12
-    help-requires
+    view-requires
     enum-told-13
+    view-requires-2
+    enum-told-14
+    help-requires
+    enum-told-15
     malformed-requires
     same-length
     returns-2
@@ -235,9 +257,11 @@ obey-spec =
     returns-8
     returns-9
     returns-10
-    same-length-12
     returns-11
-    same-length-13
     returns-12
+    same-length-12
     returns-13
-    returns-14)
+    same-length-13
+    returns-14
+    returns-15
+    returns-16)
