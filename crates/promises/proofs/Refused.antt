@@ -24,6 +24,7 @@ use Rattle.rulebook.specs.Inputs.{Fed, verdict, fedWith, refusedWith, fedOn, fe
 use Rattle.rulebook.specs.WellFormed.{wellFormed, outboxWords, step}
 use Rattle.rulebook.specs.Writers.{Wrote, wroteOn, writeCertificate, writeProof, certificateVerdict, proofVerdict, proofBytes, certificateFor, over, Writes}
 use Rattle.rulebook.specs.Packets.{certificateBytes}
+use Rattle.rulebook.specs.Messages.{messageBytes, messageVerdict, writeVote}
 use Rattle.rulebook.proofs.ToolLaws.{given-on, given-off, given-keeps, by-test}
 use Rattle.record.specs.Layout.{recordWords, ledgerOf}
 use Rattle.record.specs.Spelling.{wordsOf}
@@ -33,7 +34,7 @@ use Rattle.soundness.specs.Starting.{startJudged, startAnswer, startLeft}
 use Rattle.node.specs.Stepping.{Leaves, spelled, asFound, asFed, stepLeaves}
 use Rattle.writers.specs.Writing.{unsound, certificateOn, proofOn}
 use Rattle.answers.specs.Face.{Beside}
-use Rattle.promises.specs.Refusals.{StartRefused, StepRefused, CertificateRefused, ProofRefused, FaceStartRefused, FaceStepRefused, FaceCertificateRefused, FaceProofRefused, FaceCheckRefused}
+use Rattle.promises.specs.Refusals.{StartRefused, StepRefused, CertificateRefused, ProofRefused, MessageRefused, FaceStartRefused, FaceStepRefused, FaceCertificateRefused, FaceProofRefused, FaceMessageRefused, FaceCheckRefused}
 use Rattle.promises.proofs.Numbered.{start-refusal, step-refusal, write-refusal, check-refusal}
 
 -- ---- start
@@ -127,6 +128,11 @@ certificate-refused ws buffer k s b r after h = unwritten _ buffer r after (cert
 pub proof-refused : ProofRefused
 proof-refused ws buffer s b r after h = unwritten _ buffer r after (proof-unwritten ws (length buffer) s b) h
 
+pub message-refused : MessageRefused
+unfolding writeVote
+message-refused count v buffer r after h =
+    unwritten _ buffer r after (wrote-unwritten (messageVerdict count (length buffer) v) (messageBytes v)) h
+
 -- ---- the face
 
 pub face-start-refused : FaceStartRefused
@@ -163,6 +169,14 @@ face-proof-refused ws buffer s b number written after h ne =
     let x = write-refusal a (λ e. ne (h .numbered ∙ e)) in (
       write-none a written (x .0) (x .1) (h .counted),
       proof-refused ws buffer s b (x .0) after (record { answered = sym (x .1); bytes = h .bytes }),
+    )
+
+pub face-message-refused : FaceMessageRefused
+face-message-refused count v buffer number written after h ne =
+    let a = writeVote count (length buffer) v .answer in
+    let x = write-refusal a (λ e. ne (h .numbered ∙ e)) in (
+      write-none a written (x .0) (x .1) (h .counted),
+      message-refused count v buffer (x .0) after (record { answered = sym (x .1); bytes = h .bytes }),
     )
 
 pub face-check-refused : FaceCheckRefused

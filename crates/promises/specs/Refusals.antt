@@ -11,8 +11,10 @@ use Rattle.rulebook.specs.declared.Input.{Input}
 use Rattle.rulebook.specs.declared.Refusal.{Refusal}
 use Rattle.rulebook.specs.declared.StartAnswer.the-variants as start
 use Rattle.rulebook.specs.declared.StepAnswer.the-variants as step
+use Rattle.rulebook.specs.declared.Vote.{Vote}
 use Rattle.rulebook.specs.declared.WriteAnswer.the-variants as write
 use Rattle.rulebook.specs.Writers.{Writes}
+use Rattle.rulebook.specs.Messages.{writeVote}
 use Rattle.soundness.specs.Starting.{StartOf}
 use Rattle.node.specs.Stepping.{StepOf}
 use Rattle.writers.specs.Writing.{certificateOn, proofOn}
@@ -42,6 +44,12 @@ ProofRefused =
     (ws buffer : List ℕ) (s b : ℕ) (r : Refusal) (after : List ℕ)
     → Writes (proofOn ws (length buffer) s b) buffer (write.Refused r) after → after ≡ buffer
 
+-- A refused vote message likewise; the reader of messages is lent nothing that it could change.
+abbrev pub MessageRefused : Type 0
+MessageRefused =
+    (count : ℕ) (v : Vote) (buffer : List ℕ) (r : Refusal) (after : List ℕ)
+    → Writes (writeVote count (length buffer) v) buffer (write.Refused r) after → after ≡ buffer
+
 -- ---- the face: a number that is not 0, and zeros in the places lent for the values beside it
 
 -- qr_start.
@@ -65,6 +73,12 @@ FaceCertificateRefused =
 abbrev pub FaceProofRefused : Type 0
 FaceProofRefused =
     (ws buffer : List ℕ) (s b number written : ℕ) (after : List ℕ) → Wrote (proofOn ws (length buffer) s b) buffer number written after
+    → ¬ (number ≡ 0) → (written ≡ 0) × (after ≡ buffer)
+
+-- qr_write_vote: 0 bytes written.
+abbrev pub FaceMessageRefused : Type 0
+FaceMessageRefused =
+    (count : ℕ) (v : Vote) (buffer : List ℕ) (number written : ℕ) (after : List ℕ) → Wrote (writeVote count (length buffer) v) buffer number written after
     → ¬ (number ≡ 0) → (written ≡ 0) × (after ≡ buffer)
 
 -- qr_check_certificate, qr_check_proof: five zeros.
