@@ -7,7 +7,7 @@
  * call may change (every pointer without const) must not overlap anything else that is lent to the same call. Calls on
  * different records may run at the same time.
  *
- * Node. A node is its record: qr_record_words() words, owned by the host, which may copy it, keep it and lend it again.
+ * Node. A node is its record: QR_RECORD_WORDS words, owned by the host, which may copy it, keep it and lend it again.
  * qr_start makes lent words a fresh node. Words that no call of this library left are looked through at every call and
  * refused with QR_BAD_RECORD where they are no record; a record that this library left is never refused so.
  *
@@ -15,7 +15,8 @@
  * of the record, the outbox and the buffer, and puts zeros into the places for the values beside it. A number that is
  * out of range, a slot of 99 or a kind of 7, is not a fault of the host: it has its own refusal.
  *
- * The archive is libquointrowel.a, made by `rt staticlib quointrowel`, for x86-64. It needs no other library.
+ * The archive is libquointrowel.a, made by `rt staticlib quointrowel`, for x86-64. Of the host it wants memcpy and memset, as
+ * the C library has them, and nothing else.
  */
 #ifndef QUOINTROWEL_H
 #define QUOINTROWEL_H
@@ -37,7 +38,7 @@ enum qr_number {
     QR_OWN_NAME = 6,      /* vote in the own node's name from outside */
     QR_ALREADY_KEPT = 7,  /* that very vote, block with parent, or timeout is kept */
     QR_OTHER_STANDS = 8,  /* another stands in its place */
-    QR_NO_ROOM = 9,       /* outbox below 384 words; buffer below 32 or 64 bytes */
+    QR_NO_ROOM = 9,       /* outbox below 384 words; buffer below 32, 64 or 16 bytes */
     QR_NOT_ARMED = 10,    /* timeout for a window that is not armed */
     QR_BAD_PARENT = 11,   /* parent slot not below the slot, or slot 0 without genesis */
     QR_BAD_LENGTH = 12,   /* packet ends early, or bytes remain */
@@ -49,25 +50,63 @@ enum qr_number {
     QR_NOT_HELD = 18      /* certificate or proof asked for is not held */
 };
 
-/* Words of a record. */
+/* Kinds of votes. Kinds 3 to 5 carry block 0. */
+enum qr_vote_kind {
+    QR_VOTE_NOTAR = 1,
+    QR_VOTE_NOTAR_FALLBACK = 2,
+    QR_VOTE_SKIP = 3,
+    QR_VOTE_SKIP_FALLBACK = 4,
+    QR_VOTE_FINAL = 5
+};
+
+/* Kinds of certificates: who counts, and which part of the stake they reach. Kinds 4 and 5 carry block 0. */
+enum qr_certificate_kind {
+    QR_CERTIFICATE_FAST_FINAL = 1,     /* notar, 80 percent */
+    QR_CERTIFICATE_NOTAR = 2,          /* notar, 60 percent */
+    QR_CERTIFICATE_NOTAR_FALLBACK = 3, /* notar or notar-fallback, 60 percent */
+    QR_CERTIFICATE_SKIP = 4,           /* skip or skip-fallback, 60 percent */
+    QR_CERTIFICATE_FINAL = 5           /* final, 60 percent */
+};
+
+/* Kinds of records in an outbox: 1 to 5 are votes that the node has cast, with the kinds of votes. */
+enum qr_record_kind {
+    QR_RECORD_NOTAR = 1,
+    QR_RECORD_NOTAR_FALLBACK = 2,
+    QR_RECORD_SKIP = 3,
+    QR_RECORD_SKIP_FALLBACK = 4,
+    QR_RECORD_FINAL = 5,
+    QR_RECORD_BLOCK_FINAL = 6,  /* the block is final in the slot */
+    QR_RECORD_WINDOW_ARMED = 7  /* the window that the slot begins is armed; block 0 */
+};
+
+/* Sizes: what lent memory has to have, and what a ring has at most. */
+enum qr_size {
+    QR_RECORD_WORDS = 7773,    /* words of a record, exactly */
+    QR_OUTBOX_WORDS = 384,     /* words of an outbox, 128 records of three, or more */
+    QR_CERTIFICATE_BYTES = 32, /* bytes of a buffer for a certificate, or more */
+    QR_PROOF_BYTES = 64,       /* bytes of a buffer for a proof, or more */
+    QR_VOTE_BYTES = 16,        /* bytes of a buffer for a vote message, or more */
+    QR_MOST_NODES = 64,
+    QR_LAST_SLOT = 16
+};
+
+/* QR_RECORD_WORDS and QR_OUTBOX_WORDS of the library that is linked: a host compares them with those of this header. */
 size_t qr_record_words(void);
 
-/* Words that an outbox has to have: 128 records of three. A longer one is fine. */
 size_t qr_outbox_words(void);
 
 /*
  * Makes the record's words a fresh node: stakes of nodes 0, 1 .. (1 to 64 of them, each at least 1, together at most
  * 2^48), the own node's number, genesis's number (not 0). What stood in the words does not matter. Answers 17 where
- * they are not qr_record_words() many, else 1 where something is out of range; then the words stay.
+ * they are not QR_RECORD_WORDS many, else 1 where something is out of range; then the words stay.
  */
 uint64_t qr_start(uint64_t *record, size_t record_words, const uint64_t *stakes, size_t stake_count, size_t own,
                   uint64_t genesis);
 
 /*
  * The four inputs of a node. Each changes the record, writes the records that it makes to the outbox from its front,
- * three words each (kind, slot, block), and puts their number into *made; words of the outbox past them stay. Kinds 1 to
- * 5 are votes that the node has cast, which the host sends out; 6 says that a block is final, 7 that a window is armed
- * and its timeouts begin.
+ * three words each (kind, slot, block; enum qr_record_kind), and puts their number into *made; words of the outbox past
+ * them stay. The host sends the votes out, and an armed window's timeouts begin.
  */
 
 /* Another node's vote, its signature verified by the host. Kinds 3 to 5 carry block 0. Refusals: 17, 9, 4, 3, 2, 6, 5, 7, 8. */

@@ -2,7 +2,6 @@
    proof that is too light, with what is missing. */
 #include <inttypes.h>
 #include <stdio.h>
-#include <stdlib.h>
 
 #include "quointrowel.h"
 
@@ -23,14 +22,14 @@ static void show_check(const char *what, uint64_t number, const uint64_t values[
 /* A vote written for another member, and read again. */
 static void show_message(void)
 {
-    uint8_t message[16];
+    uint8_t message[QR_VOTE_BYTES];
     uint64_t vote[4];
     size_t written;
-    uint64_t number = qr_write_vote(message, sizeof message, &written, 64, 1, 63, 16, 300);
+    uint64_t number = qr_write_vote(message, sizeof message, &written, QR_MOST_NODES, QR_VOTE_NOTAR, 63, QR_LAST_SLOT, 300);
     printf("message: %" PRIu64 ", %zu bytes:", number, written);
     for (size_t i = 0; i < written; i++)
         printf(" %02X", message[i]);
-    number = qr_read_vote(64, message, written, vote);
+    number = qr_read_vote(QR_MOST_NODES, message, written, vote);
     printf("; read: %" PRIu64 ", kind %" PRIu64 " node %" PRIu64 " slot %" PRIu64 " block %" PRIu64 "\n", number, vote[0], vote[1],
            vote[2], vote[3]);
 }
@@ -41,19 +40,20 @@ int main(void)
     const uint8_t long_proof[10] = {0x02, 0x01, 0x07, 0x01, 0x00, 0x05, 0x01, 0x00, 0x01, 0x00};
     const uint8_t light_proof[10] = {0x02, 0x01, 0x07, 0x01, 0x00, 0x05, 0x01, 0x00, 0x00, 0x00};
     uint64_t values[5], missing;
-    uint8_t packet[64];
+    static uint64_t record[QR_RECORD_WORDS], outbox[QR_OUTBOX_WORDS];
+    uint8_t packet[QR_PROOF_BYTES];
     size_t made, written;
-    uint64_t *record = calloc(qr_record_words(), sizeof *record);
-    uint64_t *outbox = calloc(qr_outbox_words(), sizeof *outbox);
-    if (!record || !outbox)
-        return 1;
 
-    if (qr_start(record, qr_record_words(), stakes, 1, 0, 1) != QR_DONE)
+    if (qr_record_words() != QR_RECORD_WORDS || qr_outbox_words() != QR_OUTBOX_WORDS) {
+        fprintf(stderr, "the library is not of this header\n");
         return 1;
-    uint64_t number = qr_block(record, qr_record_words(), outbox, qr_outbox_words(), &made, 1, 7, 0, 1);
+    }
+    if (qr_start(record, QR_RECORD_WORDS, stakes, 1, 0, 1) != QR_DONE)
+        return 1;
+    uint64_t number = qr_block(record, QR_RECORD_WORDS, outbox, QR_OUTBOX_WORDS, &made, 1, 7, 0, 1);
     show_records(number, outbox, made);
 
-    number = qr_write_proof(record, qr_record_words(), packet, sizeof packet, &written, 1, 7);
+    number = qr_write_proof(record, QR_RECORD_WORDS, packet, sizeof packet, &written, 1, 7);
     printf("B9: %" PRIu64 ", proof of %zu bytes:", number, written);
     for (size_t i = 0; i < written; i++)
         printf(" %02X", packet[i]);
@@ -65,7 +65,5 @@ int main(void)
     number = qr_check_proof(stakes, 1, light_proof, sizeof light_proof, values, &missing);
     show_check("kind 5 without signers", number, values, missing);
     show_message();
-    free(record);
-    free(outbox);
     return 0;
 }

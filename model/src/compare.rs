@@ -2,10 +2,10 @@
 //!
 //! Starting a program is slow, so several scripts go into one run: both sides
 //! are given the concatenation. A script with answers of 17 needs a program
-//! without a node and therefore begins a batch.
+//! without a node and therefore begins a batch; one that quits ends it.
 
 use crate::gen;
-use crate::panel::{lines, Panel};
+use crate::panel::{lines, Answer, Panel};
 use std::io::{Read, Write};
 use std::process::{Command, Stdio};
 use std::time::{Duration, Instant};
@@ -35,7 +35,8 @@ struct Batch {
 
 /// One line that the model expects, and where it comes from.
 struct Expected {
-    answer: String,
+    /// None stands for free text, which is passed over.
+    answer: Option<String>,
     line: usize,
     command: String,
 }
@@ -82,7 +83,7 @@ fn fill_batch(first: u64, last: u64) -> Batch {
         batch.text += &script.text;
         batch.seeds.push(seed);
         // A missing end is given to the program as it is, and ends the run.
-        if !batch.text.ends_with('\n') {
+        if script.quits || !batch.text.ends_with('\n') {
             break;
         }
     }
@@ -123,13 +124,26 @@ fn compare_batch(task: &Task, batch: &Batch) -> Result<usize, Difference> {
     let run = run_program(&task.program, &batch.text);
     let (output, status) = run.map_err(|report| Difference { report, seed: None })?;
     let got = lines(output.as_bytes());
-    for (i, want) in expected.iter().enumerate() {
-        if got.get(i) != Some(&want.answer.as_bytes()) {
-            return Err(describe(batch, want, got.get(i).copied(), &status));
+    let (mut at, mut in_free_text) = (0, false);
+    for want in &expected {
+        let answer = match &want.answer {
+            Some(answer) => answer.as_bytes(),
+            None => {
+                in_free_text = true;
+                continue;
+            }
+        };
+        // Free text goes on until the next answer stands.
+        while in_free_text && at < got.len() && got[at] != answer {
+            at += 1;
         }
+        if got.get(at) != Some(&answer) {
+            return Err(describe(batch, want, got.get(at).copied(), &status));
+        }
+        (at, in_free_text) = (at + 1, false);
     }
-    if got.len() > expected.len() {
-        let extra = String::from_utf8_lossy(got[expected.len()]);
+    if at < got.len() && !in_free_text {
+        let extra = String::from_utf8_lossy(got[at]);
         let report = format!("seeds {:?}: the program has a line past the end: {extra}", batch.seeds);
         return Err(Difference { report, seed: None });
     }
@@ -142,7 +156,8 @@ fn describe(batch: &Batch, want: &Expected, got: Option<&[u8]>, status: &str) ->
     let line = want.line - batch.first_lines[script] + 1;
     let command = shorten(&want.command);
     let got = got.map_or(format!("no line ({status})"), |line| String::from_utf8_lossy(line).into_owned());
-    let report = format!("seed {seed} line {line}: {command}\n  model:   {}\n  program: {got}", want.answer);
+    let model = want.answer.as_deref().unwrap_or("(free text)");
+    let report = format!("seed {seed} line {line}: {command}\n  model:   {model}\n  program: {got}");
     Difference { report, seed: Some(seed) }
 }
 
@@ -158,7 +173,12 @@ fn run_model(text: &str) -> Vec<Expected> {
     let mut panel = Panel::default();
     let mut expected = Vec::new();
     for (line, command) in lines(text.as_bytes()).into_iter().enumerate() {
-        for answer in panel.line(command).unwrap_or_default() {
+        let answers = match panel.line(command) {
+            Some(Answer::Lines(lines)) => lines.into_iter().map(Some).collect(),
+            Some(Answer::FreeText) => vec![None],
+            None => vec![],
+        };
+        for answer in answers {
             let command = String::from_utf8_lossy(command).into_owned();
             expected.push(Expected { answer, line, command });
         }

@@ -3,14 +3,14 @@
 
 use crate::gen;
 use crate::packet;
-use crate::panel::{lines, Panel};
+use crate::panel::{lines, Answer, Panel};
 use std::collections::BTreeMap;
 use std::io::{self, Write};
 
 #[derive(Default)]
 pub struct Cover {
-    /// By command word and answer: a refusal number, 0 or `?`. Blank lines and
-    /// comments are here only where they are too long to be skipped.
+    /// By command word and answer: a refusal number, 0, `?` or `text`. Blank
+    /// lines and comments are here only where they are too long to be skipped.
     answers: BTreeMap<String, BTreeMap<String, u64>>,
     records: BTreeMap<String, u64>,
     notes: BTreeMap<String, u64>,
@@ -23,8 +23,24 @@ pub struct Cover {
     life: usize,
 }
 
-const COMMANDS: [&str; 12] =
-    ["start", "vote", "block", "timeout", "look", "cert", "proof", "check", "checkproof", "pack", "unpack", "votes"];
+const COMMANDS: &[&str] = &[
+    "start",
+    "vote",
+    "block",
+    "timeout",
+    "look",
+    "cert",
+    "proof",
+    "check",
+    "checkproof",
+    "votes",
+    "board",
+    "help",
+    "why",
+    "quit",
+    "pack",
+    "unpack",
+];
 
 pub fn cover(seed: u64, count: u64) -> Cover {
     let mut cover = Cover::default();
@@ -55,11 +71,16 @@ impl Cover {
         let script = lines(text.as_bytes());
         self.scripts += 1;
         self.longest = self.longest.max(script.len());
-        for line in script {
+        for (i, line) in script.iter().enumerate() {
             if let Some(answer) = panel.line(line) {
                 self.commands += 1;
-                self.take_answer(&String::from_utf8_lossy(line), &answer);
+                self.take_answer(&String::from_utf8_lossy(line), answer);
                 self.take_notes(&mut panel);
+            }
+            if panel.ended {
+                let lines_after = i + 1 < script.len();
+                self.note(if lines_after { "quit before the last line" } else { "quit as the last line" });
+                return;
             }
         }
     }
@@ -72,7 +93,7 @@ impl Cover {
         }
     }
 
-    fn take_answer(&mut self, line: &str, answer: &[String]) {
+    fn take_answer(&mut self, line: &str, answer: Answer) {
         let words: Vec<&str> = line.split_ascii_whitespace().collect();
         let command = match words.first() {
             Some(word) if COMMANDS.contains(word) => word,
@@ -80,7 +101,11 @@ impl Cover {
             Some(_) => "(other)",
             None => "(blank)",
         };
-        let answered: Vec<&str> = answer.first().map_or(vec![], |line| line.split(' ').collect());
+        let lines = match answer {
+            Answer::Lines(lines) => lines,
+            Answer::FreeText => vec!["text".to_string()],
+        };
+        let answered: Vec<&str> = lines.first().map_or(vec![], |line| line.split(' ').collect());
         // `votes` has no number of its own: its lines are counted as 0.
         let number = match (command, answered.as_slice()) {
             ("votes", ["17"]) => "17",
@@ -147,8 +172,8 @@ impl Cover {
         }
     }
 
-    fn note(&mut self, what: String) {
-        *self.notes.entry(what).or_insert(0) += 1;
+    fn note(&mut self, what: impl Into<String>) {
+        *self.notes.entry(what.into()).or_insert(0) += 1;
     }
 
     pub fn show(&self, out: &mut impl Write) -> io::Result<()> {

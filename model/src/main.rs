@@ -13,6 +13,7 @@ mod stakes;
 #[cfg(test)]
 mod tests;
 
+use panel::Answer;
 use std::io::{self, BufWriter, Read, Write};
 use std::process::ExitCode;
 
@@ -79,7 +80,7 @@ fn run() -> io::Result<bool> {
     let mut panel = panel::Panel::default();
     let mut out = BufWriter::new(io::stdout().lock());
     for line in panel::lines(&script) {
-        for answer in panel.line(line).unwrap_or_default() {
+        for answer in panel.line(line).map_or(vec![], Answer::lines) {
             writeln!(out, "{answer}")?;
         }
     }

@@ -13,6 +13,30 @@ const NOT_A_COMMAND: &str = "?";
 #[derive(Default)]
 pub struct Panel {
     pub node: Option<Node>,
+    /// Set by `quit`: nothing after it is read.
+    pub ended: bool,
+}
+
+#[derive(Clone, PartialEq, Eq, Debug)]
+pub enum Answer {
+    /// Exactly these lines.
+    Lines(Vec<String>),
+    /// Text for people, any number of lines. The model does not have it.
+    FreeText,
+}
+
+impl Answer {
+    fn line(line: impl Into<String>) -> Answer {
+        Answer::Lines(vec![line.into()])
+    }
+
+    /// The lines that the model can tell.
+    pub fn lines(self) -> Vec<String> {
+        match self {
+            Answer::Lines(lines) => lines,
+            Answer::FreeText => Vec::new(),
+        }
+    }
 }
 
 /// What is wrong with a line as such, before anything is asked of the node.
@@ -31,26 +55,36 @@ enum Command {
     Pack { count: u64, message: Message },
     Unpack { count: u64, bytes: Vec<u8> },
     Votes,
+    Board,
+    Help,
+    Why,
 }
 
 impl Panel {
-    /// The answer's lines; None for a line that is skipped.
-    pub fn line(&mut self, line: &[u8]) -> Option<Vec<String>> {
+    /// The answer; None for a line that has none.
+    pub fn line(&mut self, line: &[u8]) -> Option<Answer> {
+        if self.ended {
+            return None;
+        }
         // A line that is too long is looked at no further, be it blank or a comment.
         if line.len() > LONGEST_LINE {
-            return Some(vec![NOT_A_COMMAND.to_string()]);
+            return Some(Answer::line(NOT_A_COMMAND));
         }
         let words = words(line);
         if words.is_empty() || line.starts_with(b"#") {
             return None;
         }
+        if words == [b"quit"] {
+            self.ended = true;
+            return None;
+        }
         Some(match parse(&words) {
-            Ok(command) => self.obey(command).unwrap_or_else(|refusal| vec![show_refusal(refusal)]),
-            Err(Malformed) => vec![NOT_A_COMMAND.to_string()],
+            Ok(command) => self.obey(command).unwrap_or_else(|refusal| Answer::line(show_refusal(refusal))),
+            Err(Malformed) => Answer::line(NOT_A_COMMAND),
         })
     }
 
-    fn obey(&mut self, command: Command) -> Result<Vec<String>, Refusal> {
+    fn obey(&mut self, command: Command) -> Result<Answer, Refusal> {
         let answer = match command {
             Command::Start { own, genesis, stakes } => {
                 self.node = Some(Node::start(own, genesis, &stakes)?);
@@ -72,9 +106,11 @@ impl Panel {
             Command::CheckProof { packet, stakes } => show_checked(packet::check_proof(&packet, &stakes)?),
             Command::Pack { count, message } => show_packet(&message::write(count, message)?),
             Command::Unpack { count, bytes } => show_message(message::read(count, &bytes)?),
-            Command::Votes => return Ok(show_votes(self.node()?)),
+            Command::Votes => return Ok(Answer::Lines(show_votes(self.node()?))),
+            Command::Board => return self.node().map(|_| Answer::FreeText),
+            Command::Help | Command::Why => return Ok(Answer::FreeText),
         };
-        Ok(vec![answer])
+        Ok(Answer::line(answer))
     }
 
     fn node(&mut self) -> Result<&mut Node, Refusal> {
@@ -123,6 +159,10 @@ fn parse(words: &[&[u8]]) -> Result<Command, Malformed> {
         }
         b"look" => numbers::<0>(rest).map(|_| Command::Look),
         b"votes" => numbers::<0>(rest).map(|_| Command::Votes),
+        b"board" if rest.is_empty() => Ok(Command::Board),
+        b"board" => numbers::<1>(rest).map(|_| Command::Board),
+        b"help" => numbers::<0>(rest).map(|_| Command::Help),
+        b"why" => numbers::<1>(rest).map(|_| Command::Why),
         b"cert" => {
             let [kind, slot, block] = numbers(rest)?;
             Ok(Command::Cert { kind, slot, block })

@@ -5,7 +5,7 @@ use crate::gen;
 use crate::message::{self, Message};
 use crate::node::{Cert, Node, Record};
 use crate::packet::{check, check_proof, put_number, take_number, write_cert, write_proof, Checked};
-use crate::panel::{lines, Panel};
+use crate::panel::{lines, Answer, Panel};
 use crate::refusal::Refusal;
 use crate::stakes::{Stakes, MOST_NODES, P20, P40, P60, P80};
 
@@ -59,7 +59,8 @@ fn bytes(hex: &str) -> Vec<u8> {
 
 fn run(script: &str) -> Vec<String> {
     let mut panel = Panel::default();
-    lines(script.as_bytes()).into_iter().flat_map(|line| panel.line(line).unwrap_or_default()).collect()
+    let answers = lines(script.as_bytes()).into_iter().filter_map(|line| panel.line(line));
+    answers.flat_map(Answer::lines).collect()
 }
 
 // ---- bench cases ----
@@ -762,6 +763,28 @@ fn lines_that_are_not_commands() {
     }
 }
 
+#[test]
+fn nothing_is_read_after_quit() {
+    assert_eq!(run("start 0 1 5\nquit\nlook\nquit\nvote"), ["0"]);
+    assert_eq!(run("  quit  \r\nlook"), [""; 0]);
+    assert_eq!(run("quit 1\nquit quit\nQuit\n#quit\nlook"), ["?", "?", "?", "17"]);
+}
+
+#[test]
+fn text_for_people_is_left_open() {
+    let mut panel = Panel::default();
+    for line in ["help", "why 0", "why 15", "why 18446744073709551615"] {
+        assert_eq!(panel.line(line.as_bytes()), Some(Answer::FreeText), "{line}");
+    }
+    assert_eq!(run("board\nboard 1\nboard 99"), ["17", "17", "17"]);
+    panel.line(b"start 0 1 5");
+    for line in ["board", "board 1", "board 17"] {
+        assert_eq!(panel.line(line.as_bytes()), Some(Answer::FreeText), "{line}");
+    }
+    let malformed = ["why", "why x", "why 1 2", "help 1", "board x", "board 1 2"];
+    assert_eq!(run(&malformed.join("\n")), ["?"; 6]);
+}
+
 /// Counted without the line's end, and whatever the line holds.
 #[test]
 fn lines_over_the_buffer() {
@@ -849,6 +872,9 @@ const BRANCHES: &[&str] = &[
     "proof written: kind 2 then 5",
 ];
 
+/// These end a run, so they are seldom.
+const SELDOM: &[&str] = &["quit as the last line", "quit before the last line"];
+
 #[test]
 fn a_thousand_scripts_reach_everything() {
     let seen = cover(1, 1000);
@@ -857,6 +883,9 @@ fn a_thousand_scripts_reach_everything() {
             let times = seen.answers(command, &number.to_string());
             assert!(times >= 10, "{command} answered {number} only {times} times");
         }
+    }
+    for (command, answer) in [("board", "text"), ("board", "17"), ("help", "text"), ("why", "text")] {
+        assert!(seen.answers(command, answer) >= 10, "few {command} with {answer}");
     }
     for silent in ["(blank)", "(comment)"] {
         assert!(seen.answers(silent, "?") >= 10, "few {silent} lines over the buffer");
@@ -878,6 +907,9 @@ fn a_thousand_scripts_reach_everything() {
     for bytes in 4..=13 {
         let what = format!("unpack 0, {bytes} bytes");
         assert!(seen.notes(&what) >= 20, "few of: {what}");
+    }
+    for what in SELDOM {
+        assert!(seen.notes(what) >= 3, "none of: {what}");
     }
     // A life from a fresh start has room for no more than these.
     assert!(seen.most_records_in_a_call <= 67 && seen.most_records_in_a_life <= 68);

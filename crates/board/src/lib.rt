@@ -1,18 +1,25 @@
 // A node's record shown to people: the board, slot by slot, and the list of stored votes. Every function takes any words; what
-// they show is read by `shown`.
-use page::end_line;
-use page::say;
-use page::tell;
-use page::tell_size;
+// they show is read by `shown`. Lines are built in a lent page and leave by the door one by one; a function takes the place that
+// was reached in the page and answers the next, which is the page's end once a line was not written.
+use door::end_line;
+use door::tell_line;
+use kinds::slot_ok;
+use lines::put_missing;
+use lines::put_named;
+use lines::put_share;
+use lines::put_text;
+use lines::put_vote;
 use rulebook::Cell;
 use rulebook::CertificateKind;
 use rulebook::Node;
 use rulebook::Slot;
 use rulebook::Who;
+use shown::armed_in;
 use shown::block_after;
 use shown::cell_of;
 use shown::fallback_after;
 use shown::final_of;
+use shown::genesis_of;
 use shown::held_in;
 use shown::is_blank;
 use shown::kept_of;
@@ -27,272 +34,389 @@ use shown::touched;
 use shown::weight_of;
 use soundness::sound;
 
-// ---- the list of votes
-
-// One stored vote.
-fn vote_line(s: Slot, n: Node, kind: u64, block: u64) {
-    tell_size(s.0);
-    say(b" ");
-    tell_size(n.0);
-    say(b" ");
-    tell(kind);
-    say(b" ");
-    tell(block);
-    end_line();
+// A line alone, and whether it was written.
+fn alone(page: &mut [u8], text: &[u8]) -> bool {
+    tell_line(page, 0, text) < page.len()
 }
 
+// ---- the list of votes
+
 // One stored vote, where there is one.
-fn vote_if(there: bool, s: Slot, n: Node, kind: u64, block: u64) {
-    if there {
-        vote_line(s, n, kind, block);
+fn vote_line(
+    page: &mut [u8],
+    at: usize,
+    there: bool,
+    s: Slot,
+    n: Node,
+    kind: u64,
+    block: u64,
+) -> usize {
+    if !there {
+        return at;
     }
+    let next = put_vote(page, at, s, n, kind, block);
+    end_line(page, next)
 }
 
 // The notar-fallback votes of a cell, lowest block first.
-fn fallback_lines(c: Cell, s: Slot, n: Node) {
+fn fallback_lines(page: &mut [u8], at: usize, c: Cell, s: Slot, n: Node) -> usize {
     let first = fallback_after(c, 0);
-    vote_if(first != 0, s, n, 2, first);
+    let p = vote_line(page, at, first != 0, s, n, 2, first);
     let second = if first == 0 {
         0
     } else {
         fallback_after(c, first)
     };
-    vote_if(second != 0, s, n, 2, second);
+    let q = vote_line(page, p, second != 0, s, n, 2, second);
     let third = if second == 0 {
         0
     } else {
         fallback_after(c, second)
     };
-    vote_if(third != 0, s, n, 2, third);
+    vote_line(page, q, third != 0, s, n, 2, third)
 }
 
 // The votes of a node in a slot, by kind.
-fn cell_lines(c: Cell, s: Slot, n: Node) {
-    vote_if(c.notar != 0, s, n, 1, c.notar);
-    fallback_lines(c, s, n);
-    vote_if(c.skip != 0, s, n, 3, 0);
-    vote_if(c.skipfallback != 0, s, n, 4, 0);
-    vote_if(c.finalvote != 0, s, n, 5, 0);
+fn cell_lines(page: &mut [u8], at: usize, c: Cell, s: Slot, n: Node) -> usize {
+    let p = vote_line(page, at, c.notar != 0, s, n, 1, c.notar);
+    let q = fallback_lines(page, p, c, s, n);
+    let r = vote_line(page, q, c.skip != 0, s, n, 3, 0);
+    let t = vote_line(page, r, c.skipfallback != 0, s, n, 4, 0);
+    vote_line(page, t, c.finalvote != 0, s, n, 5, 0)
 }
 
 // The votes of a slot, by node.
-fn slot_lines(rec: &[u64], s: Slot) {
+fn slot_lines(page: &mut [u8], at: usize, rec: &[u64], s: Slot) -> usize {
     let nodes = nodes_of(rec);
+    let mut next = at;
     for n in 0..nodes {
-        cell_lines(cell_of(rec, s, Node(n)), s, Node(n));
+        next = cell_lines(page, next, cell_of(rec, s, Node(n)), s, Node(n));
     }
+    next
 }
 
-// Every stored vote, in the order of slot, node, kind and block; 17 where the words are no record.
-pub fn votes(rec: &[u64]) {
+// Every stored vote, in the order of slot, node, kind and block; 17 where the words are no record. Answers whether every line
+// was written.
+pub fn votes(page: &mut [u8], rec: &[u64]) -> bool {
     if !sound(rec) {
-        say(b"17\n");
-        return;
+        return alone(page, b"17");
     }
+    let mut at = 0;
     for s in 1..17 {
-        slot_lines(rec, Slot(s));
+        at = slot_lines(page, at, rec, Slot(s));
     }
+    at < page.len()
 }
 
 // ---- the board
 
 // A weight, and its percent of the total rounded down.
-fn tell_weight(rec: &[u64], s: Slot, who: Who) {
+fn put_weight(page: &mut [u8], at: usize, rec: &[u64], s: Slot, who: Who) -> usize {
     let w = weight_of(rec, s, who);
-    tell(w.0);
-    say(b" (");
-    tell(percent(w, total_of(rec)));
-    say(b"%)");
+    put_share(page, at, w, percent(w, total_of(rec)))
 }
 
-// A vote's name, with its block where it carries one.
-fn tell_vote(there: bool, name: &[u8], block: u64) {
+// A text, where it applies.
+fn put_if(page: &mut [u8], at: usize, there: bool, text: &[u8]) -> usize {
     if there {
-        say(name);
-        if block != 0 {
-            say(b" ");
-            tell(block);
-        }
+        return put_text(page, at, text);
     }
+    at
 }
 
 // The kept block with its parent.
-fn kept_line(rec: &[u64], s: Slot) {
+fn kept_line(page: &mut [u8], at: usize, rec: &[u64], s: Slot) -> usize {
     let b = kept_of(rec, s);
-    let p = b.parentslot;
-    if b.number != 0 {
-        say(b"  kept ");
-        tell(b.number);
-        say(b", parent ");
-        tell(b.parent);
-        say(b" in slot ");
-        tell_size(p.0);
-        end_line();
+    let slot = b.parentslot;
+    if b.number == 0 {
+        return at;
     }
+    let p = put_named(page, at, b"  kept ", b.number);
+    let q = put_named(page, p, b", parent ", b.parent);
+    let r = put_named(page, q, b" in slot ", slot.0 as u64);
+    end_line(page, r)
 }
 
 // The own votes.
-fn own_line(rec: &[u64], s: Slot) {
+fn own_line(page: &mut [u8], at: usize, rec: &[u64], s: Slot) -> usize {
     let c = cell_of(rec, s, own_of(rec));
-    if !is_blank(c) {
-        say(b"  own");
-        tell_vote(c.notar != 0, b" notar", c.notar);
-        tell_vote(c.skip != 0, b" skip", 0);
-        tell_vote(c.skipfallback != 0, b" skip-fallback", 0);
-        tell_vote(c.finalvote != 0, b" final", 0);
-        end_line();
-        own_fallback(c.fallback1);
-        own_fallback(c.fallback2);
-        own_fallback(c.fallback3);
+    if is_blank(c) {
+        return at;
     }
+    let p = put_text(page, at, b"  own");
+    let q = own_notar(page, p, c.notar);
+    let r = put_if(page, q, c.skip != 0, b" skip");
+    let t = put_if(page, r, c.skipfallback != 0, b" skip-fallback");
+    let u = put_if(page, t, c.finalvote != 0, b" final");
+    let v = end_line(page, u);
+    let w = own_fallback(page, v, c.fallback1);
+    let x = own_fallback(page, w, c.fallback2);
+    own_fallback(page, x, c.fallback3)
 }
 
-// An own notar-fallback vote.
-fn own_fallback(b: u64) {
-    if b != 0 {
-        say(b"  own notar-fallback ");
-        tell(b);
-        end_line();
+// The own notar vote, where there is one.
+fn own_notar(page: &mut [u8], at: usize, b: u64) -> usize {
+    if b == 0 {
+        return at;
     }
+    put_named(page, at, b" notar ", b)
 }
 
-// What is missing to a certificate, and its name; nothing where it is held.
-fn tell_missing(rec: &[u64], s: Slot, kind: CertificateKind, b: u64, name: &[u8]) {
-    let missing = missing_in(rec, s, kind, b);
-    if missing.0 != 0 {
-        say(b", ");
-        tell(missing.0);
-        say(b" more for ");
-        say(name);
+// An own notar-fallback vote, where there is one.
+fn own_fallback(page: &mut [u8], at: usize, b: u64) -> usize {
+    if b == 0 {
+        return at;
     }
+    let p = put_named(page, at, b"  own notar-fallback ", b);
+    end_line(page, p)
 }
 
 // The weight of skip votes, and what is missing to the certificate, in which skip-fallback votes count too.
-fn skip_line(rec: &[u64], s: Slot) {
+fn skip_line(page: &mut [u8], at: usize, rec: &[u64], s: Slot) -> usize {
     let w = weight_of(rec, s, Who::SkipOrFallback);
-    if w.0 != 0 {
-        say(b"  skip ");
-        tell_weight(rec, s, Who::Skip);
-        tell_missing(rec, s, CertificateKind::Skip, 0, b"skip certificate");
-        end_line();
+    if w.0 == 0 {
+        return at;
     }
+    let p = put_text(page, at, b"  skip");
+    let q = put_weight(page, p, rec, s, Who::Skip);
+    let missing = missing_in(rec, s, CertificateKind::Skip, 0);
+    let r = put_missing(page, q, missing, b"skip certificate");
+    end_line(page, r)
 }
 
 // The weight of final votes, and what is missing to the certificate.
-fn final_line(rec: &[u64], s: Slot) {
+fn final_line(page: &mut [u8], at: usize, rec: &[u64], s: Slot) -> usize {
     let w = weight_of(rec, s, Who::Final);
-    if w.0 != 0 {
-        say(b"  final ");
-        tell_weight(rec, s, Who::Final);
-        tell_missing(rec, s, CertificateKind::Final, 0, b"final certificate");
-        end_line();
+    if w.0 == 0 {
+        return at;
     }
+    let p = put_text(page, at, b"  final");
+    let q = put_weight(page, p, rec, s, Who::Final);
+    let missing = missing_in(rec, s, CertificateKind::Final, 0);
+    let r = put_missing(page, q, missing, b"final certificate");
+    end_line(page, r)
+}
+
+// A certificate that is held: its name, and the weight of those who count in it.
+fn put_held(
+    page: &mut [u8],
+    at: usize,
+    rec: &[u64],
+    s: Slot,
+    held: bool,
+    name: &[u8],
+    who: Who,
+) -> usize {
+    if !held {
+        return at;
+    }
+    let next = put_text(page, at, name);
+    put_weight(page, next, rec, s, who)
 }
 
 // The certificates held for a block: kinds 1, 2 and 3.
-fn tell_held(rec: &[u64], s: Slot, b: u64) {
-    if held_in(rec, s, CertificateKind::FastFinal, b) {
-        say(b" fast-final");
-    }
-    if held_in(rec, s, CertificateKind::Notar, b) {
-        say(b" notar");
-    }
-    if held_in(rec, s, CertificateKind::NotarFallback, b) {
-        say(b" notar-fallback");
-    }
+fn put_certificates(page: &mut [u8], at: usize, rec: &[u64], s: Slot, b: u64) -> usize {
+    let fast = held_in(rec, s, CertificateKind::FastFinal, b);
+    let notar = held_in(rec, s, CertificateKind::Notar, b);
+    let p = put_held(page, at, rec, s, fast, b" fast-final", Who::Notar(b));
+    let q = put_held(page, p, rec, s, notar, b" notar", Who::Notar(b));
+    put_held(
+        page,
+        q,
+        rec,
+        s,
+        true,
+        b" notar-fallback",
+        Who::NotarOrFallback(b),
+    )
 }
 
 // What is missing to the next certificate that a block could reach.
-fn tell_next(rec: &[u64], s: Slot, b: u64) {
+fn put_next(page: &mut [u8], at: usize, rec: &[u64], s: Slot, b: u64) -> usize {
     let kind = next_for(rec, s, b);
+    let missing = missing_in(rec, s, kind, b);
     match kind {
-        CertificateKind::NotarFallback => tell_missing(rec, s, kind, b, b"notar-fallback"),
-        CertificateKind::Notar => tell_missing(rec, s, kind, b, b"notar"),
-        _ => tell_missing(rec, s, kind, b, b"fast-final"),
+        CertificateKind::NotarFallback => put_missing(page, at, missing, b"notar-fallback"),
+        CertificateKind::Notar => put_missing(page, at, missing, b"notar"),
+        _ => put_missing(page, at, missing, b"fast-final"),
     }
 }
 
-// A block that votes name: its notar weight, what is missing to its next certificate, and those held for it.
-fn block_line(rec: &[u64], s: Slot, b: u64) {
-    say(b"  block ");
-    tell(b);
-    say(b" notar ");
-    tell_weight(rec, s, Who::Notar(b));
-    tell_next(rec, s, b);
-    end_line();
-    if held_in(rec, s, CertificateKind::NotarFallback, b) {
-        say(b"  block ");
-        tell(b);
-        say(b" holds");
-        tell_held(rec, s, b);
-        end_line();
+// A block's notar weight, and what is missing to its next certificate.
+fn notar_line(page: &mut [u8], at: usize, rec: &[u64], s: Slot, b: u64) -> usize {
+    let p = put_named(page, at, b"  block ", b);
+    let q = put_text(page, p, b" notar");
+    let r = put_weight(page, q, rec, s, Who::Notar(b));
+    let t = put_next(page, r, rec, s, b);
+    end_line(page, t)
+}
+
+// The certificates held for a block, where there is one.
+fn held_line(page: &mut [u8], at: usize, rec: &[u64], s: Slot, b: u64) -> usize {
+    if !held_in(rec, s, CertificateKind::NotarFallback, b) {
+        return at;
     }
+    let p = put_named(page, at, b"  block ", b);
+    let q = put_text(page, p, b" holds");
+    let r = put_certificates(page, q, rec, s, b);
+    end_line(page, r)
+}
+
+// A block that votes name.
+fn block_line(page: &mut [u8], at: usize, rec: &[u64], s: Slot, b: u64) -> usize {
+    let next = notar_line(page, at, rec, s, b);
+    held_line(page, next, rec, s, b)
 }
 
 // The blocks that votes name, lowest first: at most four a node.
-fn block_lines(rec: &[u64], s: Slot) {
+fn block_lines(page: &mut [u8], at: usize, rec: &[u64], s: Slot) -> usize {
+    let mut next = at;
     let mut b = block_after(rec, s, 0);
     let mut turns: usize = 256;
     while turns > 0 {
         if b == 0 {
-            return;
+            return next;
         }
-        block_line(rec, s, b);
+        next = block_line(page, next, rec, s, b);
         b = block_after(rec, s, b);
         turns -= 1;
     }
+    next
 }
 
-// The certificates held for no block, and the block reported final.
-fn end_lines(rec: &[u64], s: Slot) {
-    if held_in(rec, s, CertificateKind::Skip, 0) {
-        say(b"  skip certificate\n");
+// A certificate that is held, on a line of its own.
+fn certificate_line(
+    page: &mut [u8],
+    at: usize,
+    rec: &[u64],
+    s: Slot,
+    held: bool,
+    name: &[u8],
+    who: Who,
+) -> usize {
+    if !held {
+        return at;
     }
-    if held_in(rec, s, CertificateKind::Final, 0) {
-        say(b"  final certificate\n");
-    }
+    let next = put_held(page, at, rec, s, true, name, who);
+    end_line(page, next)
+}
+
+// The certificates held for no block.
+fn certificate_lines(page: &mut [u8], at: usize, rec: &[u64], s: Slot) -> usize {
+    let skipped = held_in(rec, s, CertificateKind::Skip, 0);
+    let ended = held_in(rec, s, CertificateKind::Final, 0);
+    let p = certificate_line(
+        page,
+        at,
+        rec,
+        s,
+        skipped,
+        b"  skip certificate",
+        Who::SkipOrFallback,
+    );
+    certificate_line(page, p, rec, s, ended, b"  final certificate", Who::Final)
+}
+
+// The block reported final.
+fn reported_line(page: &mut [u8], at: usize, rec: &[u64], s: Slot) -> usize {
     let f = final_of(rec, s);
-    if f != 0 {
-        say(b"  FINAL ");
-        tell(f);
-        end_line();
+    if f == 0 {
+        return at;
     }
+    let next = put_named(page, at, b"  FINAL ", f);
+    end_line(page, next)
 }
 
-// One slot.
-fn slot_board(rec: &[u64], s: Slot) {
+// A slot's own line.
+fn slot_line(page: &mut [u8], at: usize, rec: &[u64], s: Slot) -> usize {
+    let p = put_named(page, at, b"slot ", s.0 as u64);
+    let q = put_if(page, p, timed_out_in(rec, s), b", timed out");
+    end_line(page, q)
+}
+
+// What is kept of a slot.
+fn slot_board(page: &mut [u8], at: usize, rec: &[u64], s: Slot) -> usize {
+    let p = slot_line(page, at, rec, s);
+    let q = kept_line(page, p, rec, s);
+    let r = own_line(page, q, rec, s);
+    let t = votes_board(page, r, rec, s);
+    reported_line(page, t, rec, s)
+}
+
+// What the votes of a slot weigh.
+fn votes_board(page: &mut [u8], at: usize, rec: &[u64], s: Slot) -> usize {
+    let p = skip_line(page, at, rec, s);
+    let q = block_lines(page, p, rec, s);
+    let r = final_line(page, q, rec, s);
+    certificate_lines(page, r, rec, s)
+}
+
+// One slot, where something has touched it.
+fn touched_board(page: &mut [u8], at: usize, rec: &[u64], s: Slot) -> usize {
     if touched(rec, s) {
-        say(b"slot ");
-        tell_size(s.0);
-        if timed_out_in(rec, s) {
-            say(b", timed out");
-        }
-        end_line();
-        kept_line(rec, s);
-        own_line(rec, s);
-        skip_line(rec, s);
-        block_lines(rec, s);
-        final_line(rec, s);
-        end_lines(rec, s);
+        return slot_board(page, at, rec, s);
     }
+    at
 }
 
-// The node slot by slot, nothing for slots that nothing has touched; 17 where the words are no record.
-pub fn board(rec: &[u64]) {
-    if !sound(rec) {
-        say(b"17\n");
-        return;
-    }
-    say(b"node ");
+// The node's own line.
+fn head_line(page: &mut [u8], rec: &[u64]) -> usize {
     let me = own_of(rec);
-    tell_size(me.0);
-    say(b" of ");
-    tell_size(nodes_of(rec));
-    say(b", total stake ");
     let all = total_of(rec);
-    tell(all.0);
-    end_line();
-    for s in 1..17 {
-        slot_board(rec, Slot(s));
+    let p = put_named(page, 0, b"node ", me.0 as u64);
+    let q = put_named(page, p, b" of ", nodes_of(rec) as u64);
+    let r = put_named(page, q, b", total stake ", all.0);
+    let t = put_named(page, r, b", genesis ", genesis_of(rec));
+    end_line(page, t)
+}
+
+// The first and the last slot of an armed window.
+fn put_window(page: &mut [u8], at: usize, rec: &[u64], from: Slot, slots: &[u8]) -> usize {
+    put_if(page, at, armed_in(rec, from), slots)
+}
+
+// The armed windows, by their slots, where there are any.
+fn armed_line(page: &mut [u8], at: usize, rec: &[u64]) -> usize {
+    let first = armed_in(rec, Slot(1)) | armed_in(rec, Slot(5));
+    let second = armed_in(rec, Slot(9)) | armed_in(rec, Slot(13));
+    if !(first | second) {
+        return at;
     }
+    let p = put_text(page, at, b"armed slots");
+    let q = put_windows(page, p, rec);
+    end_line(page, q)
+}
+
+// The slots of the armed windows.
+fn put_windows(page: &mut [u8], at: usize, rec: &[u64]) -> usize {
+    let p = put_window(page, at, rec, Slot(1), b" 1-4");
+    let q = put_window(page, p, rec, Slot(5), b" 5-8");
+    let r = put_window(page, q, rec, Slot(9), b" 9-12");
+    put_window(page, r, rec, Slot(13), b" 13-16")
+}
+
+// The node slot by slot, nothing for slots that nothing has touched; 17 where the words are no record. Answers whether every
+// line was written.
+pub fn board(page: &mut [u8], rec: &[u64]) -> bool {
+    if !sound(rec) {
+        return alone(page, b"17");
+    }
+    let head = head_line(page, rec);
+    let mut at = armed_line(page, head, rec);
+    for s in 1..17 {
+        at = touched_board(page, at, rec, Slot(s));
+    }
+    at < page.len()
+}
+
+// One slot of the board, touched or not; 17 where the words are no record, 3 where there is no such slot. Answers whether every line
+// was written.
+pub fn slot(page: &mut [u8], rec: &[u64], s: Slot) -> bool {
+    if !sound(rec) {
+        return alone(page, b"17");
+    }
+    if !slot_ok(s) {
+        return alone(page, b"3");
+    }
+    slot_board(page, 0, rec, s) < page.len()
 }

@@ -1,6 +1,6 @@
 -- The commands of a script, and the lines that are none.
 use mathlib.Core.Path.{_≡_}
-use mathlib.Core.Bool.{Bool, true, false, _&&_}
+use mathlib.Core.Bool.{Bool, true, false, _&&_, _||_}
 use mathlib.Core.List.{List, [], _∷_}
 use Prim.Native.Nat.{ℕ, _-_}
 use lib.Dec.{eqb, leb, ltb}
@@ -55,12 +55,19 @@ boardText = 98 ∷ 111 ∷ 97 ∷ 114 ∷ 100 ∷ []
 abbrev pub votesText : List ℕ
 votesText = 118 ∷ 111 ∷ 116 ∷ 101 ∷ 115 ∷ []
 
+abbrev pub whyText : List ℕ
+whyText = 119 ∷ 104 ∷ 121 ∷ []
+
 abbrev pub helpText : List ℕ
 helpText = 104 ∷ 101 ∷ 108 ∷ 112 ∷ []
 
--- The command that a word is, asked for in four lists: "board", "votes" and "help" are for people,
+abbrev pub quitText : List ℕ
+quitText = 113 ∷ 117 ∷ 105 ∷ 116 ∷ []
+
+-- The command that a word is, asked for in four lists: "board", "votes", "why", "help" and "quit" are for people,
 unfoldable pub viewOf : List ℕ → Command
-viewOf w = choose (sameText w boardText) command.Board (choose (sameText w votesText) command.Votes (choose (sameText w helpText) command.Help (command.Other)))
+viewOf w =
+    choose (sameText w boardText) command.Board (choose (sameText w votesText) command.Votes (choose (sameText w whyText) command.Why (choose (sameText w helpText) command.Help (choose (sameText w quitText) command.Quit (command.Other)))))
 
 -- "pack" and "unpack" are for vote messages,
 unfoldable pub messageOf : List ℕ → Command
@@ -111,9 +118,11 @@ argumentsFit command.Check line at = packetAndStakes line at
 argumentsFit command.CheckProof line at = packetAndStakes line at
 argumentsFit command.Pack line at = exactly line at 5
 argumentsFit command.Unpack line at = countAndMessage line at
-argumentsFit command.Board line at = exactly line at 0
+argumentsFit command.Board line at = exactly line at 0 || exactly line at 1
 argumentsFit command.Votes line at = exactly line at 0
+argumentsFit command.Why line at = exactly line at 1
 argumentsFit command.Help line at = exactly line at 0
+argumentsFit command.Quit line at = exactly line at 0
 argumentsFit command.Other line at = false
 
 -- The command that a line is, `Other` where it is none.
@@ -135,7 +144,9 @@ tells command.Pack = false
 tells command.Unpack = false
 tells command.Board = false
 tells command.Votes = false
+tells command.Why = false
 tells command.Help = false
+tells command.Quit = false
 tells command.Other = false
 
 -- A line that tells the node nothing, a line that is no command among them, leaves record and outbox as they were.

@@ -20,7 +20,9 @@ pub enum Command {
     Unpack,
     Board,
     Votes,
+    Why,
     Help,
+    Quit,
     Other,
 }
 
@@ -103,8 +105,14 @@ fn view_of(word: &[u8]) -> Command
     if same(word, b"votes") {
         return Command::Votes;
     }
+    if same(word, b"why") {
+        return Command::Why;
+    }
     if same(word, b"help") {
         return Command::Help;
+    }
+    if same(word, b"quit") {
+        return Command::Quit;
     }
     Command::Other
 }
@@ -174,9 +182,11 @@ fn arguments_fit(c: Command, line: &[u8], at: usize) -> bool
         Command::CheckProof => packet_and_stakes(line, at),
         Command::Pack => exactly(line, at, 5),
         Command::Unpack => count_and_message(line, at),
-        Command::Board => exactly(line, at, 0),
+        Command::Board => exactly(line, at, 0) | exactly(line, at, 1),
         Command::Votes => exactly(line, at, 0),
+        Command::Why => exactly(line, at, 1),
         Command::Help => exactly(line, at, 0),
+        Command::Quit => exactly(line, at, 0),
         Command::Other => false,
     }
 }

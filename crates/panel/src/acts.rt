@@ -1,15 +1,18 @@
 // What each command of a script asks of the face, and how it is answered.
 ghost use Rattle.commands.specs.Commands.{Heard};
+use crate::answers::Turn;
+use crate::answers::answered;
 use crate::answers::checked;
 use crate::answers::malformed;
 use crate::answers::number;
 use crate::answers::packet;
 use crate::answers::records;
 use crate::answers::vote_read;
+use crate::help::help;
+use crate::help::why;
 use commands::Command;
 use commands::command_of;
 use hex::read_hex;
-use page::say;
 use quointrowel::qr_block;
 use quointrowel::qr_check_certificate;
 use quointrowel::qr_check_proof;
@@ -21,6 +24,7 @@ use quointrowel::qr_vote;
 use quointrowel::qr_write_certificate;
 use quointrowel::qr_write_proof;
 use quointrowel::qr_write_vote;
+use rulebook::Slot;
 use script::read_numbers;
 use script::word_at;
 
@@ -46,14 +50,14 @@ fn start_with(rec: &mut [u64], args: &[u64], many: usize) -> u64 {
 }
 
 // start OWN GENESIS STAKE..; 65 stakes are kept, which are too many already.
-fn start(line: &[u8], at: usize, rec: &mut [u64]) {
+fn start(page: &mut [u8], line: &[u8], at: usize, rec: &mut [u64]) -> bool {
     let mut args = [0u64; 67];
     let n = read_numbers(line, at, &mut args);
-    number(start_with(rec, &args, n.count));
+    number(page, start_with(rec, &args, n.count))
 }
 
 // vote KIND NODE SLOT BLOCK
-fn vote(line: &[u8], at: usize, rec: &mut [u64], outbox: &mut [u64]) {
+fn vote(page: &mut [u8], line: &[u8], at: usize, rec: &mut [u64], outbox: &mut [u64]) -> bool {
     let mut args = [0u64; 4];
     read_numbers(line, at, &mut args);
     let mut made = 0;
@@ -66,11 +70,11 @@ fn vote(line: &[u8], at: usize, rec: &mut [u64], outbox: &mut [u64]) {
         size(args[2]),
         args[3],
     );
-    records(n, made, outbox);
+    records(page, n, made, outbox)
 }
 
 // block SLOT NUMBER PARENTSLOT PARENT
-fn block(line: &[u8], at: usize, rec: &mut [u64], outbox: &mut [u64]) {
+fn block(page: &mut [u8], line: &[u8], at: usize, rec: &mut [u64], outbox: &mut [u64]) -> bool {
     let mut args = [0u64; 4];
     read_numbers(line, at, &mut args);
     let mut made = 0;
@@ -83,27 +87,27 @@ fn block(line: &[u8], at: usize, rec: &mut [u64], outbox: &mut [u64]) {
         size(args[2]),
         args[3],
     );
-    records(n, made, outbox);
+    records(page, n, made, outbox)
 }
 
 // timeout SLOT
-fn timeout(line: &[u8], at: usize, rec: &mut [u64], outbox: &mut [u64]) {
+fn timeout(page: &mut [u8], line: &[u8], at: usize, rec: &mut [u64], outbox: &mut [u64]) -> bool {
     let mut args = [0u64; 1];
     read_numbers(line, at, &mut args);
     let mut made = 0;
     let n = qr_timeout(rec, outbox, &mut made, size(args[0]));
-    records(n, made, outbox);
+    records(page, n, made, outbox)
 }
 
 // look
-fn look(rec: &mut [u64], outbox: &mut [u64]) {
+fn look(page: &mut [u8], rec: &mut [u64], outbox: &mut [u64]) -> bool {
     let mut made = 0;
     let n = qr_look(rec, outbox, &mut made);
-    records(n, made, outbox);
+    records(page, n, made, outbox)
 }
 
 // cert KIND SLOT BLOCK
-fn cert(line: &[u8], at: usize, rec: &[u64]) {
+fn cert(page: &mut [u8], line: &[u8], at: usize, rec: &[u64]) -> bool {
     let mut args = [0u64; 3];
     read_numbers(line, at, &mut args);
     let mut buffer = [0u8; 32];
@@ -116,61 +120,61 @@ fn cert(line: &[u8], at: usize, rec: &[u64]) {
         size(args[1]),
         args[2],
     );
-    packet(n, written, &buffer);
+    packet(page, n, written, &buffer)
 }
 
 // proof SLOT BLOCK
-fn proof(line: &[u8], at: usize, rec: &[u64]) {
+fn proof(page: &mut [u8], line: &[u8], at: usize, rec: &[u64]) -> bool {
     let mut args = [0u64; 2];
     read_numbers(line, at, &mut args);
     let mut buffer = [0u8; 64];
     let mut written = 0;
     let n = qr_write_proof(rec, &mut buffer, &mut written, size(args[0]), args[1]);
-    packet(n, written, &buffer);
+    packet(page, n, written, &buffer)
 }
 
 // check HEX STAKE.., checkproof HEX STAKE..; a line has no room for more than 2048 bytes of packet.
-fn check(line: &[u8], at: usize, whole: bool) {
+fn check(page: &mut [u8], line: &[u8], at: usize, whole: bool) -> bool {
     let w = word_at(line, at);
     let from = w.from;
     let to = w.to;
     let mut bytes = [0u8; 2048];
     let hex = read_hex(&line[from..to], &mut bytes);
     let length = hex.size;
-    check_stakes(line, to, &bytes[0..length], whole);
+    check_stakes(page, line, to, &bytes[0..length], whole)
 }
 
 // The same, with the packet read; 65 stakes are kept, which are too many already.
-fn check_stakes(line: &[u8], at: usize, bytes: &[u8], whole: bool) {
+fn check_stakes(page: &mut [u8], line: &[u8], at: usize, bytes: &[u8], whole: bool) -> bool {
     let mut stakes = [0u64; 65];
     let n = read_numbers(line, at, &mut stakes);
-    check_with(&stakes, n.count, bytes, whole);
+    check_with(page, &stakes, n.count, bytes, whole)
 }
 
 // The same, with the stakes read, as many of them as there is room for.
-fn check_with(stakes: &[u64], many: usize, bytes: &[u8], whole: bool) {
+fn check_with(page: &mut [u8], stakes: &[u64], many: usize, bytes: &[u8], whole: bool) -> bool {
     if many < stakes.len() {
-        check_packet(&stakes[0..many], bytes, whole);
+        check_packet(page, &stakes[0..many], bytes, whole)
     } else {
-        check_packet(stakes, bytes, whole);
+        check_packet(page, stakes, bytes, whole)
     }
 }
 
 // A certificate, or a whole proof.
-fn check_packet(stakes: &[u64], bytes: &[u8], whole: bool) {
+fn check_packet(page: &mut [u8], stakes: &[u64], bytes: &[u8], whole: bool) -> bool {
     let mut values = [0u64; 5];
     let mut missing = 0;
     if whole {
         let n = qr_check_proof(stakes, bytes, &mut values, &mut missing);
-        checked(n, &values, missing);
+        checked(page, n, &values, missing)
     } else {
         let n = qr_check_certificate(stakes, bytes, &mut values, &mut missing);
-        checked(n, &values, missing);
+        checked(page, n, &values, missing)
     }
 }
 
 // pack COUNT KIND NODE SLOT BLOCK
-fn pack(line: &[u8], at: usize) {
+fn pack(page: &mut [u8], line: &[u8], at: usize) -> bool {
     let mut args = [0u64; 5];
     read_numbers(line, at, &mut args);
     let mut buffer = [0u8; 16];
@@ -184,11 +188,11 @@ fn pack(line: &[u8], at: usize) {
         size(args[3]),
         args[4],
     );
-    packet(n, written, &buffer);
+    packet(page, n, written, &buffer)
 }
 
 // unpack COUNT HEX
-fn unpack(line: &[u8], at: usize) {
+fn unpack(page: &mut [u8], line: &[u8], at: usize) -> bool {
     let w = word_at(line, at);
     let to = w.to;
     let mut count = [0u64; 1];
@@ -199,67 +203,68 @@ fn unpack(line: &[u8], at: usize) {
     let mut bytes = [0u8; 2048];
     let hex = read_hex(&line[from..end], &mut bytes);
     let length = hex.size;
-    unpack_bytes(size(count[0]), &bytes[0..length]);
+    unpack_bytes(page, size(count[0]), &bytes[0..length])
 }
 
 // The same, with count and message read.
-fn unpack_bytes(count: usize, message: &[u8]) {
+fn unpack_bytes(page: &mut [u8], count: usize, message: &[u8]) -> bool {
     let mut values = [0u64; 4];
     let n = qr_read_vote(count, message, &mut values);
-    vote_read(n, &values);
+    vote_read(page, n, &values)
 }
 
-// help
-fn help() {
-    say(b"start OWN GENESIS STAKE..            0\n");
-    say(b"vote KIND NODE SLOT BLOCK            0 N kind,slot,block ..\n");
-    say(b"block SLOT NUMBER PARENTSLOT PARENT  0 N kind,slot,block ..\n");
-    say(b"timeout SLOT | look                  0 N kind,slot,block ..\n");
-    say(b"cert KIND SLOT BLOCK                 0 BYTES HEX\n");
-    say(b"proof SLOT BLOCK                     0 BYTES HEX\n");
-    say(b"check HEX STAKE..                    0 KIND SLOT BLOCK SIGNERS WEIGHT, 15 MISSING\n");
-    say(b"checkproof HEX STAKE..               0 KIND SLOT BLOCK SIGNERS WEIGHT, 15 MISSING\n");
-    say(b"pack COUNT KIND NODE SLOT BLOCK      0 BYTES HEX\n");
-    say(b"unpack COUNT HEX                     0 KIND NODE SLOT BLOCK\n");
-    say(b"board | votes | help                 for people\n");
-    say(b"Any other refusal is its number alone; ? a line that is none of these.\n");
+// board, board SLOT
+fn view(page: &mut [u8], line: &[u8], at: usize, rec: &[u64]) -> bool {
+    let mut args = [0u64; 1];
+    let n = read_numbers(line, at, &mut args);
+    if n.count == 0 {
+        return board::board(page, rec);
+    }
+    board::slot(page, rec, Slot(size(args[0])))
 }
 
-// board, votes
-fn view(rec: &[u64], list: bool) {
-    if list {
-        board::votes(rec);
-    } else {
-        board::board(rec);
+// why NUMBER
+fn explain(page: &mut [u8], line: &[u8], at: usize) -> bool {
+    let mut args = [0u64; 1];
+    read_numbers(line, at, &mut args);
+    why(page, args[0])
+}
+
+// Answers a command that tells the node nothing: the record is lent to be read, and no outbox is lent.
+fn ask(page: &mut [u8], c: Command, line: &[u8], at: usize, rec: &[u64]) -> Turn {
+    match c {
+        Command::Cert => answered(cert(page, line, at, rec)),
+        Command::Proof => answered(proof(page, line, at, rec)),
+        Command::Check => answered(check(page, line, at, false)),
+        Command::CheckProof => answered(check(page, line, at, true)),
+        Command::Pack => answered(pack(page, line, at)),
+        Command::Unpack => answered(unpack(page, line, at)),
+        Command::Board => answered(view(page, line, at, rec)),
+        Command::Votes => answered(board::votes(page, rec)),
+        Command::Why => answered(explain(page, line, at)),
+        Command::Help => answered(help(page)),
+        Command::Quit => Turn::Quit,
+        _ => answered(malformed(page)),
     }
 }
 
-// Answers a line; nothing where it has no word. A line that is none of the commands leaves record and outbox as they were, and so
-// does every command that only asks.
-pub fn obey(line: &[u8], rec: &mut [u64], outbox: &mut [u64])
+// Answers a line, and tells what follows; nothing is answered where it has no word. A line that is none of the commands leaves record
+// and outbox as they were, and so does every command that only asks.
+pub fn obey(page: &mut [u8], line: &[u8], rec: &mut [u64], outbox: &mut [u64]) -> Turn
     ensures { λ _. ⌜ Heard (now (line .entry)) (now (rec .entry)) (now (outbox .entry)) (now (rec .exit)) (now (outbox .exit)) ⌝ }
 {
     let w = word_at(line, 0);
     let at = w.to;
     if at <= w.from {
-        return;
+        return Turn::On;
     }
     let c = command_of(line);
     match c {
-        Command::Start => start(line, at, rec),
-        Command::Vote => vote(line, at, rec, outbox),
-        Command::Block => block(line, at, rec, outbox),
-        Command::Timeout => timeout(line, at, rec, outbox),
-        Command::Look => look(rec, outbox),
-        Command::Cert => cert(line, at, rec),
-        Command::Proof => proof(line, at, rec),
-        Command::Check => check(line, at, false),
-        Command::CheckProof => check(line, at, true),
-        Command::Pack => pack(line, at),
-        Command::Unpack => unpack(line, at),
-        Command::Board => view(rec, false),
-        Command::Votes => view(rec, true),
-        Command::Help => help(),
-        Command::Other => malformed(),
+        Command::Start => answered(start(page, line, at, rec)),
+        Command::Vote => answered(vote(page, line, at, rec, outbox)),
+        Command::Block => answered(block(page, line, at, rec, outbox)),
+        Command::Timeout => answered(timeout(page, line, at, rec, outbox)),
+        Command::Look => answered(look(page, rec, outbox)),
+        _ => ask(page, c, line, at, rec),
     }
 }

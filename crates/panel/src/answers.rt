@@ -1,96 +1,66 @@
-// The panel's answers: a number alone, a step's records, a packet, what was checked.
-use page::end_line;
-use page::say;
-use page::tell;
-use page::tell_front;
-use page::tell_size;
+// The panel's answers: each line is built whole in the page and leaves by the door. Each answers whether it was written.
+use door::send;
+use lines::check_line;
+use lines::message_line;
+use lines::number_line;
+use lines::packet_line;
+use lines::put_text;
+use lines::step_line;
+
+// What a line of the script leads to: the next one, the script's end, or that no further line is answered.
+pub enum Turn {
+    On,
+    End,
+    Quit,
+    Unwritten,
+    Unread,
+}
+
+// Whether the next line is answered.
+pub fn goes_on(t: Turn) -> bool {
+    match t {
+        Turn::On => true,
+        _ => false,
+    }
+}
+
+// After the first answer that was not written, no further line is answered.
+pub fn answered(written: bool) -> Turn {
+    if written { Turn::On } else { Turn::Unwritten }
+}
 
 // A line that is no command.
-pub fn malformed() {
-    say(b"?\n");
+pub fn malformed(page: &mut [u8]) -> bool {
+    let used = put_text(page, 0, b"?\n");
+    send(page, used)
 }
 
 // A number alone.
-pub fn number(n: u64) {
-    tell(n);
-    end_line();
-}
-
-// Record number i of the outbox, where it is there.
-fn record(outbox: &[u64], i: usize) {
-    if i < outbox.len() / 3 {
-        let at = i * 3;
-        say(b" ");
-        tell(outbox[at]);
-        say(b",");
-        tell(outbox[at + 1]);
-        say(b",");
-        tell(outbox[at + 2]);
-    }
+pub fn number(page: &mut [u8], n: u64) -> bool {
+    let used = number_line(page, n);
+    send(page, used)
 }
 
 // A step's answer: its number, or 0 with the records made.
-pub fn records(n: u64, made: usize, outbox: &[u64]) {
-    if n != 0 {
-        number(n);
-        return;
-    }
-    say(b"0 ");
-    tell_size(made);
-    for i in 0..made {
-        record(outbox, i);
-    }
-    end_line();
+pub fn records(page: &mut [u8], n: u64, made: usize, outbox: &[u64]) -> bool {
+    let used = step_line(page, n, made, outbox);
+    send(page, used)
 }
 
 // A writer's answer: its number, or 0 with the packet.
-pub fn packet(n: u64, written: usize, buffer: &[u8]) {
-    if (n != 0) | (written > buffer.len()) {
-        number(n);
-        return;
-    }
-    say(b"0 ");
-    tell_size(written);
-    say(b" ");
-    tell_front(buffer, written);
-    end_line();
+pub fn packet(page: &mut [u8], n: u64, written: usize, buffer: &[u8]) -> bool {
+    let used = packet_line(page, n, written, buffer);
+    send(page, used)
 }
 
 // The checker's answer: 0 with the five values, 15 with what is missing, or its number alone.
-pub fn checked(n: u64, values: &[u64; 5], missing: u64) {
-    if n == 15 {
-        say(b"15 ");
-        number(missing);
-        return;
-    }
-    if n != 0 {
-        number(n);
-        return;
-    }
-    say(b"0 ");
-    tell(values[0]);
-    say(b" ");
-    tell(values[1]);
-    say(b" ");
-    tell(values[2]);
-    say(b" ");
-    tell(values[3]);
-    say(b" ");
-    number(values[4]);
+pub fn checked(page: &mut [u8], n: u64, values: &[u64; 5], missing: u64) -> bool {
+    let used = check_line(page, n, values, missing);
+    send(page, used)
 }
 
 // The answer to a vote message: its number, or 0 with the vote's four numbers.
-pub fn vote_read(n: u64, values: &[u64; 4]) {
-    if n != 0 {
-        number(n);
-        return;
-    }
-    say(b"0 ");
-    tell(values[0]);
-    say(b" ");
-    tell(values[1]);
-    say(b" ");
-    tell(values[2]);
-    say(b" ");
-    number(values[3]);
+pub fn vote_read(page: &mut [u8], n: u64, values: &[u64; 4]) -> bool {
+    let used = message_line(page, n, values);
+    send(page, used)
 }

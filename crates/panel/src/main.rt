@@ -1,15 +1,22 @@
 // The panel: answers a script, one command a line, read from standard input or from the file that the first argument names.
 mod acts;
 mod answers;
+mod help;
 
 ghost use Prim.Native.Nat.{_<_};
 use acts::obey;
-use page::say;
+use answers::Turn;
+use answers::answered;
+use answers::goes_on;
+use answers::malformed;
 
 // A line has at most 4096 bytes without its end; two more are kept, so that a longer one shows.
 const LINE_ROOM: usize = 4098;
 
 const LONGEST: usize = 4096;
+
+// Every answer has room in a page: at most 128 records of 63 bytes, or 64 bytes in hex.
+const PAGE_ROOM: usize = 8192;
 
 const RECORD_WORDS: usize = 7773;
 
@@ -37,28 +44,33 @@ fn is_comment(line: &[u8]) -> bool {
 }
 
 // Answers a line, its carriage return gone. A line that is too long gets ? whatever it holds, spaces alone or a comment too.
-fn answer(line: &[u8], rec: &mut [u64], outbox: &mut [u64]) {
+fn answer(page: &mut [u8], line: &[u8], rec: &mut [u64], outbox: &mut [u64]) -> Turn {
     if line.len() > LONGEST {
-        say(b"?\n");
-        return;
+        return answered(malformed(page));
     }
     if is_comment(line) {
-        return;
+        return Turn::On;
     }
-    obey(line, rec, outbox);
+    obey(page, line, rec, outbox)
 }
 
 // Answers the line that stands in the front of the buffer.
-fn finish_line(buffer: &[u8], used: usize, rec: &mut [u64], outbox: &mut [u64]) {
+fn finish_line(
+    page: &mut [u8],
+    buffer: &[u8],
+    used: usize,
+    rec: &mut [u64],
+    outbox: &mut [u64],
+) -> Turn {
     if used > buffer.len() {
-        return;
+        return Turn::On;
     }
     let line = &buffer[0..used];
     let end = trimmed(line);
     if end > line.len() {
-        return;
+        return Turn::On;
     }
-    answer(&line[0..end], rec, outbox);
+    answer(page, &line[0..end], rec, outbox)
 }
 
 // Keeps a byte of a line, where there is room, and answers how many are kept.
@@ -70,43 +82,64 @@ fn keep(line: &mut [u8], used: usize, b: u8) -> usize {
     used
 }
 
-// Takes a byte of the script: it goes to the line, and a line feed has the line answered. Answers how many are kept.
-fn take_byte(b: u8, line: &mut [u8], used: usize, rec: &mut [u64], outbox: &mut [u64]) -> usize {
-    if b == b'\n' {
-        finish_line(line, used, rec, outbox);
-        return 0;
-    }
-    keep(line, used, b)
-}
-
-// Takes bytes of the script, and answers how many of the last line are kept.
-fn take(bytes: &[u8], line: &mut [u8], kept: usize, rec: &mut [u64], outbox: &mut [u64]) -> usize {
-    let mut used = kept;
-    for i in 0..bytes.len() {
-        used = take_byte(bytes[i], line, used, rec, outbox);
-    }
-    used
-}
-
-// Reads a piece of the script and takes it; answers whether there was one.
-fn take_piece(
-    fd: i32,
+// Takes a byte of the script: it goes to the line, and a line feed has the line answered.
+fn take_byte(
+    b: u8,
+    page: &mut [u8],
     line: &mut [u8],
     used: &mut usize,
     rec: &mut [u64],
     outbox: &mut [u64],
-) -> bool {
-    let mut buffer = io::large_buffer();
-    let got = libc::read(fd, &mut buffer);
-    if got <= 0 {
-        return false;
+) -> Turn {
+    if b != b'\n' {
+        *used = keep(line, *used, b);
+        return Turn::On;
     }
-    let n = io::count(got, &buffer);
-    *used = take(&buffer[..n], line, *used, rec, outbox);
-    true
+    let kept = *used;
+    *used = 0;
+    finish_line(page, line, kept, rec, outbox)
 }
 
-// The turns that are left after one: one fewer, or none at the script's end.
+// Takes bytes of the script, up to the first answer after which nothing more is answered.
+fn take(
+    bytes: &[u8],
+    page: &mut [u8],
+    line: &mut [u8],
+    used: &mut usize,
+    rec: &mut [u64],
+    outbox: &mut [u64],
+) -> Turn {
+    for i in 0..bytes.len() {
+        let turn = take_byte(bytes[i], page, line, used, rec, outbox);
+        if !goes_on(turn) {
+            return turn;
+        }
+    }
+    Turn::On
+}
+
+// Reads a piece of the script and takes it.
+fn take_piece(
+    fd: i32,
+    page: &mut [u8],
+    line: &mut [u8],
+    used: &mut usize,
+    rec: &mut [u64],
+    outbox: &mut [u64],
+) -> Turn {
+    let mut buffer = io::large_buffer();
+    let got = libc::read(fd, &mut buffer);
+    if got < 0 {
+        return Turn::Unread;
+    }
+    if got == 0 {
+        return Turn::End;
+    }
+    let n = io::count(got, &buffer);
+    take(&buffer[..n], page, line, used, rec, outbox)
+}
+
+// The turns that are left after one: one fewer, or none where nothing more is answered.
 fn turns_left(more: bool, turns: u64) -> u64
     requires { ⌜ 0 < turns ⌝ }
     ensures { λ r. ⌜ r < turns ⌝ }
@@ -114,24 +147,33 @@ fn turns_left(more: bool, turns: u64) -> u64
     if more { turns - 1 } else { 0 }
 }
 
-// Answers the whole script. A proved loop has to end and nothing says that a script does, so the turns are counted down from
-// a number that no run uses up.
-fn run(fd: i32, line: &mut [u8], rec: &mut [u64], outbox: &mut [u64]) {
+// Answers the whole script, and how it ended. A proved loop has to end and nothing says that a script does, so the turns are
+// counted down from a number that no run uses up.
+fn run(fd: i32, page: &mut [u8], line: &mut [u8], rec: &mut [u64], outbox: &mut [u64]) -> Turn {
     let mut used: usize = 0;
+    let mut last = Turn::On;
     let mut turns = u64::MAX;
     while turns > 0 {
-        let more = take_piece(fd, line, &mut used, rec, outbox);
-        turns = turns_left(more, turns);
+        last = take_piece(fd, page, line, &mut used, rec, outbox);
+        turns = turns_left(goes_on(last), turns);
     }
-    finish_line(line, used, rec, outbox);
+    match last {
+        Turn::End => finish_line(page, line, used, rec, outbox),
+        _ => last,
+    }
 }
 
-// Answers the script of an open file, for a node that is not started yet.
+// Answers the script of an open file, for a node that is not started yet, and says on standard error what was not done.
 fn play(fd: i32) {
+    let mut page = [0u8; PAGE_ROOM];
     let mut line = [0u8; LINE_ROOM];
     let mut rec = [0u64; RECORD_WORDS];
     let mut outbox = [0u64; OUTBOX_WORDS];
-    run(fd, &mut line, &mut rec, &mut outbox);
+    match run(fd, &mut page, &mut line, &mut rec, &mut outbox) {
+        Turn::Unwritten => os::fail(b"panel: an answer was not written whole, and none follows"),
+        Turn::Unread => os::fail(b"panel: the script was not read to its end"),
+        _ => {}
+    }
 }
 
 // Answers the script in a file.
@@ -139,7 +181,7 @@ fn play_file() {
     let mut path = io::buffer();
     let length = os::arg(1, &mut path);
     if os::errno() != 0 {
-        os::fail(b"path");
+        os::fail(b"panel: FILE");
         return;
     }
     let fd = os::open_read(&path[..length]);

@@ -56,6 +56,10 @@ pub slot-small : (s : ℕ) → slotOk s ≡ true → s < suc lastSlot
 unfolding slotOk
 slot-small s e = omega (arith, leb-true s lastSlot (and-both (leb 1 s) (leb s lastSlot) e .1))
 
+pub slot-later : (s : ℕ) → slotOk s ≡ true → 1 ≤ s
+unfolding slotOk
+slot-later s e = leb-true 1 s (and-both (leb 1 s) (leb s lastSlot) e .0)
+
 -- ---- any words
 
 -- Nothing stands at any place of a list of nothing.

@@ -10,7 +10,7 @@ use Rattle.rulebook.specs.declared.CertificateKind.{CertificateKind}
 use Rattle.rulebook.specs.declared.CertificateKind.the-variants as certificate
 use Rattle.rulebook.specs.Tools.{choose, given, someTo, lower, lowest}
 use Rattle.rulebook.specs.Weights.{mostStake, slotOk}
-use Rattle.rulebook.specs.Ledger.{Ledger, none, rowAt, cellAt}
+use Rattle.rulebook.specs.Ledger.{Ledger, none, rowAt, cellAt, isArmed}
 use Rattle.rulebook.specs.Pool.{weigh, held, missingTo, names}
 use Rattle.rulebook.specs.WellFormed.{cellBlank}
 use Rattle.record.specs.Layout.{recordWords, ledgerOf}
@@ -20,6 +20,10 @@ use Rattle.soundness.specs.Sound.{soundWords}
 -- The ledger that the words hold; one with nothing in it where they are not as many as a record's.
 unfoldable pub ledgerIn : List ℕ → Ledger
 ledgerIn ws = given (eqb (length ws) recordWords) noLedger (λ _. ledgerOf ws)
+
+-- The slot's window is armed; none is where the words are not as many as a record's, or the slot is not one of 1 to 16.
+unfoldable pub armedShown : List ℕ → ℕ → Bool
+armedShown ws s = given (slotOk s && eqb (length ws) recordWords) false (λ _. isArmed (ledgerOf ws) s)
 
 -- A slot's weight of those who count; 0 where the words are no sound record, or the slot is not one of 1 to 16.
 unfoldable pub weightShown : List ℕ → ℕ → Who → ℕ

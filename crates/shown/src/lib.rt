@@ -6,12 +6,14 @@ ghost use lib.Dec.{ltb};
 ghost use Rattle.rulebook.specs.Tools.{lower, lowest};
 ghost use Rattle.rulebook.specs.Ledger.{none, rowAt, cellAt};
 ghost use Rattle.rulebook.specs.WellFormed.{cellBlank};
-ghost use Rattle.shown.specs.Shown.{ledgerIn, weightShown, heldShown, missingShown, nextFor, percent, fallbacks, lowerNamed, blockAfter, hasVotes, touched};
+ghost use Rattle.shown.specs.Shown.{ledgerIn, armedShown, weightShown, heldShown, missingShown, nextFor, percent, fallbacks, lowerNamed, blockAfter, hasVotes, touched};
 use kinds::slot_ok;
 use record::LAST_SLOT;
 use record::NODES;
 use record::count;
 use record::final_block;
+use record::genesis;
+use record::is_armed;
 use record::kept_block;
 use record::load_cell;
 use record::own;
@@ -71,6 +73,29 @@ pub fn total_of(rec: &[u64]) -> Weight
         return Weight(0);
     }
     total(rec)
+}
+
+// Genesis's number.
+pub fn genesis_of(rec: &[u64]) -> u64
+    ensures { λ r. ⌜ r ≡ ledgerIn (now (rec .entry)) .genesis ⌝ }
+{
+    if rec.len() != record_words() {
+        return 0;
+    }
+    genesis(rec)
+}
+
+// Whether a slot's window is armed.
+pub fn armed_in(rec: &[u64], s: Slot) -> bool
+    ensures { λ r. ⌜ r ≡ armedShown (now (rec .entry)) (s .0) ⌝ }
+{
+    if !slot_ok(s) {
+        return false;
+    }
+    if rec.len() != record_words() {
+        return false;
+    }
+    is_armed(rec, s)
 }
 
 // ---- a slot

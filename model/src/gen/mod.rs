@@ -19,6 +19,8 @@ pub struct Script {
     /// Some command comes before any accepted start and answers 17, so the
     /// script must be the first that a program is given.
     pub unstarted: bool,
+    /// It quits, so it must be the last.
+    pub quits: bool,
 }
 
 pub fn script(seed: u64) -> Script {
@@ -56,7 +58,25 @@ fn end(mut w: Writer) -> Script {
     if w.random.percent(20) {
         malformed::long_silence(&mut w);
     }
+    if w.random.percent(4) {
+        quit(&mut w);
+    }
     w.into_script()
+}
+
+/// Lines of every sort may follow; none is read.
+fn quit(w: &mut Writer) {
+    w.say("quit");
+    for _ in 0..w.random.below(3) {
+        match w.random.below(4) {
+            0 => w.start(),
+            1 => malformed::line(w),
+            2 => w.repeat_some_line(),
+            _ => {
+                w.say("votes");
+            }
+        }
+    }
 }
 
 fn history(mut random: Random) -> Script {
@@ -169,6 +189,9 @@ fn before_start(mut random: Random) -> Script {
         "proof 1 7",
         "proof 0 0",
         "votes",
+        "board",
+        "board 1",
+        "board 99",
     ];
     let ring = Ring::small(&mut random);
     let budget = random.range(3, 40) as usize;

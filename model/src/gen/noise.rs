@@ -7,7 +7,7 @@ use crate::node::{Vote, LAST_SLOT};
 use crate::random::Random;
 
 pub fn some(w: &mut Writer, numbers: &Numbers) {
-    match w.random.below(15) {
+    match w.random.below(16) {
         0 | 1 => w.repeat_some_line(),
         2 => contradict(w, numbers),
         3 => contradict_block(w),
@@ -26,11 +26,24 @@ pub fn some(w: &mut Writer, numbers: &Numbers) {
         11 => ask_plausible(w, numbers),
         12 => malformed::line(w),
         13 => wrong_block(w, numbers),
+        14 => for_people(w),
         _ => {
             let line = bad_start(w);
             w.say(line);
         }
     }
+}
+
+/// What people read, for its own sake and for what it must leave alone.
+fn for_people(w: &mut Writer) {
+    let line = match w.random.below(5) {
+        0 => "board".to_string(),
+        1 => format!("board {}", w.random.range(1, LAST_SLOT)),
+        2 => format!("board {}", w.random.pick(&[0, 17, 1 << 32 | 1, u64::MAX])),
+        3 => "help".to_string(),
+        _ => format!("why {}", w.random.pick(&[0, 1, 9, 15, 18, 19, 257, u64::MAX])),
+    };
+    w.ask_for_text(&line);
 }
 
 fn block_of(w: &mut Writer, numbers: &Numbers, slot: u64) -> u64 {

@@ -3,7 +3,8 @@
 
 use super::ring::Ring;
 use crate::node::Node;
-use crate::panel::Panel;
+use crate::packet::put_number;
+use crate::panel::{show_hex, Answer, Panel};
 use crate::random::Random;
 
 pub struct Writer {
@@ -76,10 +77,21 @@ impl Writer {
         self.text += line;
         let crlf = self.random.percent(self.style.crlf);
         self.text += if crlf { "\r\n" } else { "\n" };
-        let answer = answer.unwrap_or_default();
+        let answer = answer.map_or(vec![], Answer::lines);
         self.commands += 1;
         self.unstarted |= answer == ["17"];
         answer
+    }
+
+    /// A line that free text may answer. A check follows whose answer stands
+    /// nowhere in such text, so that its end can be told.
+    pub fn ask_for_text(&mut self, line: &str) {
+        let laid_out = self.lay_out(line);
+        self.raw(&laid_out);
+        let mut packet = vec![1, 1];
+        put_number(&mut packet, self.random.next() >> 1 | 1 << 62);
+        packet.extend([1, 0]);
+        self.raw(&format!("check {} 5", show_hex(&packet)));
     }
 
     fn lay_out(&mut self, line: &str) -> String {
@@ -147,6 +159,6 @@ impl Writer {
                 self.text.pop();
             }
         }
-        super::Script { text: self.text, unstarted: self.unstarted }
+        super::Script { text: self.text, unstarted: self.unstarted, quits: self.panel.ended }
     }
 }

@@ -1,14 +1,16 @@
--- The turns are counted down.
+-- The loop over the blocks.
+use lib.ListN.{length}
+use mathlib.Core.Path.{_∙_, _≡_}
 use borrow.Author.Needs.{needs}
 use Rattle.board.proofs.block_lines.Statement.{statement}
 use Rattle.board.proofs.block_lines.Tie as tie
 
 abbrev Inv-loop : tie.InvT-loop
-Inv-loop rec s b₀ turns₀ b turns =
-    Unit {0}
+Inv-loop page₀ at rec s next₀ b₀ turns₀ page next b turns =
+    length page ≡ length page₀
 
 abbrev μ-loop : tie.MeasureT-loop
-μ-loop rec s b₀ turns₀ b turns =
+μ-loop page₀ at rec s next₀ b₀ turns₀ page next b turns =
     turns
 
 block-after-requires : tie.Need-block-after-requires Inv-loop μ-loop
@@ -16,6 +18,10 @@ block-after-requires c κs = search needs
 
 loop-holds : tie.Need-loop-holds Inv-loop μ-loop
 loop-holds c = search needs
+
+same-length : tie.Need-same-length Inv-loop μ-loop
+same-length c =
+    c .before .before .loop .inv
 
 returns : tie.Need-returns Inv-loop μ-loop
 returns c = search needs
@@ -33,7 +39,12 @@ loop-less : tie.Need-loop-less Inv-loop μ-loop
 loop-less c = search needs
 
 loop-again : tie.Need-loop-again Inv-loop μ-loop
-loop-again c = search needs
+loop-again c =
+    c .before .before .before .block-line .kept .0 ∙ c .before .before .before .before .before .before .before .loop .inv
+
+same-length-2 : tie.Need-same-length-2 Inv-loop μ-loop
+same-length-2 c =
+    c .before .loop .inv
 
 returns-2 : tie.Need-returns-2 Inv-loop μ-loop
 returns-2 c = search needs
@@ -46,10 +57,12 @@ block-lines-spec =
     μ-loop
     block-after-requires
     loop-holds
+    same-length
     returns
     block-line-requires
     block-after-requires-2
     sub-turns
     loop-less
     loop-again
+    same-length-2
     returns-2)

@@ -1,15 +1,17 @@
 -- The loop over the nodes.
 use Prim.Native.Nat.{_-_}
+use lib.ListN.{length}
+use mathlib.Core.Path.{_∙_, _≡_}
 use borrow.Author.Needs.{needs}
 use Rattle.board.proofs.slot_lines.Statement.{statement}
 use Rattle.board.proofs.slot_lines.Tie as tie
 
 abbrev Inv-loop : tie.InvT-loop
-Inv-loop rec s nodes n₀ n =
-    Unit {0}
+Inv-loop page₀ at rec s nodes next₀ n₀ page next n =
+    length page ≡ length page₀
 
 abbrev μ-loop : tie.MeasureT-loop
-μ-loop rec s nodes n₀ n =
+μ-loop page₀ at rec s nodes next₀ n₀ page next n =
     nodes - n
 
 nodes-of-requires : tie.Need-nodes-of-requires Inv-loop μ-loop
@@ -31,7 +33,12 @@ loop-less : tie.Need-loop-less Inv-loop μ-loop
 loop-less c = search needs
 
 loop-again : tie.Need-loop-again Inv-loop μ-loop
-loop-again c = search needs
+loop-again c =
+    c .before .before .cell-lines .kept .0 ∙ c .before .before .before .before .before .before .loop .inv
+
+same-length : tie.Need-same-length Inv-loop μ-loop
+same-length c =
+    c .before .loop .inv
 
 returns : tie.Need-returns Inv-loop μ-loop
 returns c = search needs
@@ -49,4 +56,5 @@ slot-lines-spec =
     add-n
     loop-less
     loop-again
+    same-length
     returns)

@@ -1,25 +1,31 @@
 -- The loop over the slots.
 use Prim.Native.Nat.{_-_}
+use lib.ListN.{length}
+use mathlib.Core.Path.{_∙_, _≡_}
 use borrow.Author.Needs.{needs}
 use Rattle.board.proofs.votes.Statement.{statement}
 use Rattle.board.proofs.votes.Tie as tie
 
 abbrev Inv-loop : tie.InvT-loop
-Inv-loop rec s₀ s =
-    Unit {0}
+Inv-loop page₀ rec at₀ s₀ page at s =
+    length page ≡ length page₀
 
 abbrev μ-loop : tie.MeasureT-loop
-μ-loop rec s₀ s =
+μ-loop page₀ rec at₀ s₀ page at s =
     17 - s
 
 sound-requires : tie.Need-sound-requires Inv-loop μ-loop
 sound-requires c κs = search needs
 
-slice-aggregate-say : tie.Need-slice-aggregate-say Inv-loop μ-loop
-slice-aggregate-say c = search needs
+slice-aggregate-alone : tie.Need-slice-aggregate-alone Inv-loop μ-loop
+slice-aggregate-alone c = search needs
 
-say-requires : tie.Need-say-requires Inv-loop μ-loop
-say-requires c κs = search needs
+alone-requires : tie.Need-alone-requires Inv-loop μ-loop
+alone-requires c κs = search needs
+
+same-length : tie.Need-same-length Inv-loop μ-loop
+same-length c =
+    c .before .before .alone .kept .0
 
 returns : tie.Need-returns Inv-loop μ-loop
 returns c = search needs
@@ -37,7 +43,12 @@ loop-less : tie.Need-loop-less Inv-loop μ-loop
 loop-less c = search needs
 
 loop-again : tie.Need-loop-again Inv-loop μ-loop
-loop-again c = search needs
+loop-again c =
+    c .before .before .slot-lines .kept .0 ∙ c .before .before .before .before .before .loop .inv
+
+same-length-2 : tie.Need-same-length-2 Inv-loop μ-loop
+same-length-2 c =
+    c .before .loop .inv
 
 returns-2 : tie.Need-returns-2 Inv-loop μ-loop
 returns-2 c = search needs
@@ -49,12 +60,14 @@ votes-spec =
     Inv-loop
     μ-loop
     sound-requires
-    slice-aggregate-say
-    say-requires
+    slice-aggregate-alone
+    alone-requires
+    same-length
     returns
     loop-holds
     slot-lines-requires
     add-s
     loop-less
     loop-again
+    same-length-2
     returns-2)

@@ -77,20 +77,35 @@ enum-told-12 c = search needs
 exactly-requires-8 : tie.Need-exactly-requires-8
 exactly-requires-8 c κs = search needs
 
-enum-told-13 : tie.Need-enum-told-13
-enum-told-13 c = search needs
-
 exactly-requires-9 : tie.Need-exactly-requires-9
 exactly-requires-9 c κs = search needs
 
-enum-told-14 : tie.Need-enum-told-14
-enum-told-14 c = search needs
+enum-told-13 : tie.Need-enum-told-13
+enum-told-13 c = search needs
 
 exactly-requires-10 : tie.Need-exactly-requires-10
 exactly-requires-10 c κs = search needs
 
+enum-told-14 : tie.Need-enum-told-14
+enum-told-14 c = search needs
+
+exactly-requires-11 : tie.Need-exactly-requires-11
+exactly-requires-11 c κs = search needs
+
 enum-told-15 : tie.Need-enum-told-15
 enum-told-15 c = search needs
+
+exactly-requires-12 : tie.Need-exactly-requires-12
+exactly-requires-12 c κs = search needs
+
+enum-told-16 : tie.Need-enum-told-16
+enum-told-16 c = search needs
+
+exactly-requires-13 : tie.Need-exactly-requires-13
+exactly-requires-13 c κs = search needs
+
+enum-told-17 : tie.Need-enum-told-17
+enum-told-17 c = search needs
 
 returns : tie.Need-returns
 unfolding argumentsFit
@@ -150,22 +165,32 @@ returns-11 c =
 returns-12 : tie.Need-returns-12
 unfolding argumentsFit
 returns-12 c =
-    simp (c .before .enum-told12 .given .1, c .exactly8 .ensures)
+    simp (c .before .before .enum-told12 .given .1, c .before .exactly8 .ensures, c .exactly9 .ensures)
 
 returns-13 : tie.Need-returns-13
 unfolding argumentsFit
 returns-13 c =
-    simp (c .before .enum-told13 .given .1, c .exactly9 .ensures)
+    simp (c .before .enum-told13 .given .1, c .exactly10 .ensures)
 
 returns-14 : tie.Need-returns-14
 unfolding argumentsFit
 returns-14 c =
-    simp (c .before .enum-told14 .given .1, c .exactly10 .ensures)
+    simp (c .before .enum-told14 .given .1, c .exactly11 .ensures)
 
 returns-15 : tie.Need-returns-15
 unfolding argumentsFit
 returns-15 c =
-    simp (c .enum-told15 .given .1)
+    simp (c .before .enum-told15 .given .1, c .exactly12 .ensures)
+
+returns-16 : tie.Need-returns-16
+unfolding argumentsFit
+returns-16 c =
+    simp (c .before .enum-told16 .given .1, c .exactly13 .ensures)
+
+returns-17 : tie.Need-returns-17
+unfolding argumentsFit
+returns-17 c =
+    simp (c .enum-told17 .given .1)
 
 pub arguments-fit-spec : {M : Type 1} → statement M
 arguments-fit-spec =
@@ -195,11 +220,16 @@ arguments-fit-spec =
     count-and-message-requires
     enum-told-12
     exactly-requires-8
-    enum-told-13
     exactly-requires-9
-    enum-told-14
+    enum-told-13
     exactly-requires-10
+    enum-told-14
+    exactly-requires-11
     enum-told-15
+    exactly-requires-12
+    enum-told-16
+    exactly-requires-13
+    enum-told-17
     returns
     returns-2
     returns-3
@@ -214,4 +244,6 @@ arguments-fit-spec =
     returns-12
     returns-13
     returns-14
-    returns-15)
+    returns-15
+    returns-16
+    returns-17)

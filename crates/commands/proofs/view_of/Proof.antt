@@ -40,10 +40,32 @@ unfolding viewOf
 returns-3 c =
     sym (choose-off _ _ _ (sym (c .before .before .before .before .before .before .before .same .ensures) ∙ c .before .before .before .before .before .before .if1 .left) ∙ choose-off _ _ _ (sym (c .before .before .before .before .same2 .ensures) ∙ c .before .before .before .if2 .left) ∙ choose-on _ _ _ (sym (c .before .same3 .ensures) ∙ c .if3 .taken))
 
+slice-aggregate-same-4 : tie.Need-slice-aggregate-same-4
+slice-aggregate-same-4 c = search needs
+
+same-requires-4 : tie.Need-same-requires-4
+same-requires-4 c κs = search needs
+
 returns-4 : tie.Need-returns-4
 unfolding viewOf
 returns-4 c =
-    sym (choose-off _ _ _ (sym (c .before .before .before .before .before .before .before .same .ensures) ∙ c .before .before .before .before .before .before .if1 .left) ∙ choose-off _ _ _ (sym (c .before .before .before .before .same2 .ensures) ∙ c .before .before .before .if2 .left) ∙ choose-off _ _ _ (sym (c .before .same3 .ensures) ∙ c .if3 .left))
+    sym (choose-off _ _ _ (sym (c .before .before .before .before .before .before .before .before .before .before .same .ensures) ∙ c .before .before .before .before .before .before .before .before .before .if1 .left) ∙ choose-off _ _ _ (sym (c .before .before .before .before .before .before .before .same2 .ensures) ∙ c .before .before .before .before .before .before .if2 .left) ∙ choose-off _ _ _ (sym (c .before .before .before .before .same3 .ensures) ∙ c .before .before .before .if3 .left) ∙ choose-on _ _ _ (sym (c .before .same4 .ensures) ∙ c .if4 .taken))
+
+slice-aggregate-same-5 : tie.Need-slice-aggregate-same-5
+slice-aggregate-same-5 c = search needs
+
+same-requires-5 : tie.Need-same-requires-5
+same-requires-5 c κs = search needs
+
+returns-5 : tie.Need-returns-5
+unfolding viewOf
+returns-5 c =
+    sym (choose-off _ _ _ (sym (c .before .before .before .before .before .before .before .before .before .before .before .before .before .same .ensures) ∙ c .before .before .before .before .before .before .before .before .before .before .before .before .if1 .left) ∙ choose-off _ _ _ (sym (c .before .before .before .before .before .before .before .before .before .before .same2 .ensures) ∙ c .before .before .before .before .before .before .before .before .before .if2 .left) ∙ choose-off _ _ _ (sym (c .before .before .before .before .before .before .before .same3 .ensures) ∙ c .before .before .before .before .before .before .if3 .left) ∙ choose-off _ _ _ (sym (c .before .before .before .before .same4 .ensures) ∙ c .before .before .before .if4 .left) ∙ choose-on _ _ _ (sym (c .before .same5 .ensures) ∙ c .if5 .taken))
+
+returns-6 : tie.Need-returns-6
+unfolding viewOf
+returns-6 c =
+    sym (choose-off _ _ _ (sym (c .before .before .before .before .before .before .before .before .before .before .before .before .before .same .ensures) ∙ c .before .before .before .before .before .before .before .before .before .before .before .before .if1 .left) ∙ choose-off _ _ _ (sym (c .before .before .before .before .before .before .before .before .before .before .same2 .ensures) ∙ c .before .before .before .before .before .before .before .before .before .if2 .left) ∙ choose-off _ _ _ (sym (c .before .before .before .before .before .before .before .same3 .ensures) ∙ c .before .before .before .before .before .before .if3 .left) ∙ choose-off _ _ _ (sym (c .before .before .before .before .same4 .ensures) ∙ c .before .before .before .if4 .left) ∙ choose-off _ _ _ (sym (c .before .same5 .ensures) ∙ c .if5 .left))
 
 pub view-of-spec : {M : Type 1} → statement M
 view-of-spec =
@@ -58,4 +80,10 @@ view-of-spec =
     slice-aggregate-same-3
     same-requires-3
     returns-3
-    returns-4)
+    slice-aggregate-same-4
+    same-requires-4
+    returns-4
+    slice-aggregate-same-5
+    same-requires-5
+    returns-5
+    returns-6)

@@ -6,11 +6,11 @@ use Rattle.panel.proofs.run.Statement.{statement}
 use Rattle.panel.proofs.run.Tie as tie
 
 abbrev Inv-loop : tie.InvT-loop
-Inv-loop fd line₀ rec₀ outbox₀ used₀ turns₀ line rec outbox used turns =
-    (length line ≡ length line₀) × (length rec ≡ length rec₀) × (length outbox ≡ length outbox₀)
+Inv-loop fd page₀ line₀ rec₀ outbox₀ used₀ last₀ turns₀ page line rec outbox used last turns =
+    (length page ≡ length page₀) × (length line ≡ length line₀) × (length rec ≡ length rec₀) × (length outbox ≡ length outbox₀)
 
 abbrev μ-loop : tie.MeasureT-loop
-μ-loop fd line₀ rec₀ outbox₀ used₀ turns₀ line rec outbox used turns =
+μ-loop fd page₀ line₀ rec₀ outbox₀ used₀ last₀ turns₀ page line rec outbox used last turns =
     turns
 
 loop-holds : tie.Need-loop-holds Inv-loop μ-loop
@@ -18,6 +18,9 @@ loop-holds c = search needs
 
 take-piece-requires : tie.Need-take-piece-requires Inv-loop μ-loop
 take-piece-requires c κs = search needs
+
+goes-on-requires : tie.Need-goes-on-requires Inv-loop μ-loop
+goes-on-requires c κs = search needs
 
 turns-left-requires : tie.Need-turns-left-requires Inv-loop μ-loop
 turns-left-requires c κs = search needs
@@ -27,6 +30,9 @@ loop-less c = search needs
 
 loop-again : tie.Need-loop-again Inv-loop μ-loop
 loop-again c = search needs
+
+enum-told : tie.Need-enum-told Inv-loop μ-loop
+enum-told c = search needs
 
 finish-line-requires : tie.Need-finish-line-requires Inv-loop μ-loop
 finish-line-requires c κs = search needs
@@ -40,8 +46,26 @@ same-length-2 c = search needs
 same-length-3 : tie.Need-same-length-3 Inv-loop μ-loop
 same-length-3 c = search needs
 
+same-length-4 : tie.Need-same-length-4 Inv-loop μ-loop
+same-length-4 c = search needs
+
 returns : tie.Need-returns Inv-loop μ-loop
 returns c = search needs
+
+same-length-5 : tie.Need-same-length-5 Inv-loop μ-loop
+same-length-5 c = search needs
+
+same-length-6 : tie.Need-same-length-6 Inv-loop μ-loop
+same-length-6 c = search needs
+
+same-length-7 : tie.Need-same-length-7 Inv-loop μ-loop
+same-length-7 c = search needs
+
+same-length-8 : tie.Need-same-length-8 Inv-loop μ-loop
+same-length-8 c = search needs
+
+returns-2 : tie.Need-returns-2 Inv-loop μ-loop
+returns-2 c = search needs
 
 pub run-spec : {M : Type 1} → statement M
 run-spec =
@@ -51,11 +75,19 @@ run-spec =
     μ-loop
     loop-holds
     take-piece-requires
+    goes-on-requires
     turns-left-requires
     loop-less
     loop-again
+    enum-told
     finish-line-requires
     same-length
     same-length-2
     same-length-3
-    returns)
+    same-length-4
+    returns
+    same-length-5
+    same-length-6
+    same-length-7
+    same-length-8
+    returns-2)

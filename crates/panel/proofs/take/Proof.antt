@@ -7,11 +7,11 @@ use Rattle.panel.proofs.take.Statement.{statement}
 use Rattle.panel.proofs.take.Tie as tie
 
 abbrev Inv-loop : tie.InvT-loop
-Inv-loop bytes line₀ kept rec₀ outbox₀ used₀ i₀ i-end line rec outbox used i =
-    (i-end ≡ length bytes) × (length line ≡ length line₀) × (length rec ≡ length rec₀) × (length outbox ≡ length outbox₀)
+Inv-loop bytes page₀ line₀ used₀ rec₀ outbox₀ i₀ i-end page line used rec outbox i =
+    (i-end ≡ length bytes) × (length page ≡ length page₀) × (length line ≡ length line₀) × (length rec ≡ length rec₀) × (length outbox ≡ length outbox₀)
 
 abbrev μ-loop : tie.MeasureT-loop
-μ-loop bytes line₀ kept rec₀ outbox₀ used₀ i₀ i-end line rec outbox used i =
+μ-loop bytes page₀ line₀ used₀ rec₀ outbox₀ i₀ i-end page line used rec outbox i =
     i-end - i
 
 loop-holds : tie.Need-loop-holds Inv-loop μ-loop
@@ -23,14 +23,8 @@ shared-slice-read-take-byte c = search needs
 take-byte-requires : tie.Need-take-byte-requires Inv-loop μ-loop
 take-byte-requires c κs = search needs
 
-add-i : tie.Need-add-i Inv-loop μ-loop
-add-i c = search needs
-
-loop-less : tie.Need-loop-less Inv-loop μ-loop
-loop-less c = search needs
-
-loop-again : tie.Need-loop-again Inv-loop μ-loop
-loop-again c = search needs
+goes-on-requires : tie.Need-goes-on-requires Inv-loop μ-loop
+goes-on-requires c κs = search needs
 
 same-length : tie.Need-same-length Inv-loop μ-loop
 same-length c = search needs
@@ -41,8 +35,35 @@ same-length-2 c = search needs
 same-length-3 : tie.Need-same-length-3 Inv-loop μ-loop
 same-length-3 c = search needs
 
+same-length-4 : tie.Need-same-length-4 Inv-loop μ-loop
+same-length-4 c = search needs
+
 returns : tie.Need-returns Inv-loop μ-loop
 returns c = search needs
+
+add-i : tie.Need-add-i Inv-loop μ-loop
+add-i c = search needs
+
+loop-less : tie.Need-loop-less Inv-loop μ-loop
+loop-less c = search needs
+
+loop-again : tie.Need-loop-again Inv-loop μ-loop
+loop-again c = search needs
+
+same-length-5 : tie.Need-same-length-5 Inv-loop μ-loop
+same-length-5 c = search needs
+
+same-length-6 : tie.Need-same-length-6 Inv-loop μ-loop
+same-length-6 c = search needs
+
+same-length-7 : tie.Need-same-length-7 Inv-loop μ-loop
+same-length-7 c = search needs
+
+same-length-8 : tie.Need-same-length-8 Inv-loop μ-loop
+same-length-8 c = search needs
+
+returns-2 : tie.Need-returns-2 Inv-loop μ-loop
+returns-2 c = search needs
 
 pub take-spec : {M : Type 1} → statement M
 take-spec =
@@ -53,10 +74,17 @@ take-spec =
     loop-holds
     shared-slice-read-take-byte
     take-byte-requires
-    add-i
-    loop-less
-    loop-again
+    goes-on-requires
     same-length
     same-length-2
     same-length-3
-    returns)
+    same-length-4
+    returns
+    add-i
+    loop-less
+    loop-again
+    same-length-5
+    same-length-6
+    same-length-7
+    same-length-8
+    returns-2)

@@ -22,11 +22,17 @@ enum-told c = search needs
 start-requires : tie.Need-start-requires
 start-requires c κs = search needs
 
+answered-requires : tie.Need-answered-requires
+answered-requires c κs = search needs
+
 enum-told-2 : tie.Need-enum-told-2
 enum-told-2 c = search needs
 
 vote-requires : tie.Need-vote-requires
 vote-requires c κs = search needs
+
+answered-requires-2 : tie.Need-answered-requires-2
+answered-requires-2 c κs = search needs
 
 enum-told-3 : tie.Need-enum-told-3
 enum-told-3 c = search needs
@@ -34,11 +40,17 @@ enum-told-3 c = search needs
 block-requires : tie.Need-block-requires
 block-requires c κs = search needs
 
+answered-requires-3 : tie.Need-answered-requires-3
+answered-requires-3 c κs = search needs
+
 enum-told-4 : tie.Need-enum-told-4
 enum-told-4 c = search needs
 
 timeout-requires : tie.Need-timeout-requires
 timeout-requires c κs = search needs
+
+answered-requires-4 : tie.Need-answered-requires-4
+answered-requires-4 c κs = search needs
 
 enum-told-5 : tie.Need-enum-told-5
 enum-told-5 c = search needs
@@ -46,11 +58,17 @@ enum-told-5 c = search needs
 look-requires : tie.Need-look-requires
 look-requires c κs = search needs
 
+answered-requires-5 : tie.Need-answered-requires-5
+answered-requires-5 c κs = search needs
+
 enum-told-6 : tie.Need-enum-told-6
 enum-told-6 c = search needs
 
 cert-requires : tie.Need-cert-requires
 cert-requires c κs = search needs
+
+answered-requires-6 : tie.Need-answered-requires-6
+answered-requires-6 c κs = search needs
 
 enum-told-7 : tie.Need-enum-told-7
 enum-told-7 c = search needs
@@ -58,11 +76,17 @@ enum-told-7 c = search needs
 proof-requires : tie.Need-proof-requires
 proof-requires c κs = search needs
 
+answered-requires-7 : tie.Need-answered-requires-7
+answered-requires-7 c κs = search needs
+
 enum-told-8 : tie.Need-enum-told-8
 enum-told-8 c = search needs
 
 check-requires : tie.Need-check-requires
 check-requires c κs = search needs
+
+answered-requires-8 : tie.Need-answered-requires-8
+answered-requires-8 c κs = search needs
 
 enum-told-9 : tie.Need-enum-told-9
 enum-told-9 c = search needs
@@ -70,11 +94,17 @@ enum-told-9 c = search needs
 check-requires-2 : tie.Need-check-requires-2
 check-requires-2 c κs = search needs
 
+answered-requires-9 : tie.Need-answered-requires-9
+answered-requires-9 c κs = search needs
+
 enum-told-10 : tie.Need-enum-told-10
 enum-told-10 c = search needs
 
 pack-requires : tie.Need-pack-requires
 pack-requires c κs = search needs
+
+answered-requires-10 : tie.Need-answered-requires-10
+answered-requires-10 c κs = search needs
 
 enum-told-11 : tie.Need-enum-told-11
 enum-told-11 c = search needs
@@ -82,48 +112,70 @@ enum-told-11 c = search needs
 unpack-requires : tie.Need-unpack-requires
 unpack-requires c κs = search needs
 
+answered-requires-11 : tie.Need-answered-requires-11
+answered-requires-11 c κs = search needs
+
 enum-told-12 : tie.Need-enum-told-12
 enum-told-12 c = search needs
 
 view-requires : tie.Need-view-requires
 view-requires c κs = search needs
 
+answered-requires-12 : tie.Need-answered-requires-12
+answered-requires-12 c κs = search needs
+
 enum-told-13 : tie.Need-enum-told-13
 enum-told-13 c = search needs
 
-view-requires-2 : tie.Need-view-requires-2
-view-requires-2 c κs = search needs
+votes-requires : tie.Need-votes-requires
+votes-requires c κs = search needs
+
+answered-requires-13 : tie.Need-answered-requires-13
+answered-requires-13 c κs = search needs
 
 enum-told-14 : tie.Need-enum-told-14
 enum-told-14 c = search needs
 
-help-requires : tie.Need-help-requires
-help-requires c κs = search needs
+explain-requires : tie.Need-explain-requires
+explain-requires c κs = search needs
+
+answered-requires-14 : tie.Need-answered-requires-14
+answered-requires-14 c κs = search needs
 
 enum-told-15 : tie.Need-enum-told-15
 enum-told-15 c = search needs
 
+help-requires : tie.Need-help-requires
+help-requires c κs = search needs
+
+answered-requires-15 : tie.Need-answered-requires-15
+answered-requires-15 c κs = search needs
+
+enum-told-16 : tie.Need-enum-told-16
+enum-told-16 c = search needs
+
+enum-told-17 : tie.Need-enum-told-17
+enum-told-17 c = search needs
+
 malformed-requires : tie.Need-malformed-requires
 malformed-requires c κs = search needs
+
+answered-requires-16 : tie.Need-answered-requires-16
+answered-requires-16 c κs = search needs
 
 same-length : tie.Need-same-length
 same-length c = search needs
 
-returns-2 : tie.Need-returns-2
-unfolding tells
-returns-2 c =
-    telling (c .before .before .before .before .before .before .before .before .before .before .before .before .before .args .line .now) (c .before .before .before .before .before .before .command-of .result) command.Start (c .before .before .before .before .before .before .command-of .ensures) (c .before .before .before .before .enum-told .given .1) refl _ _ _ _
-
 same-length-2 : tie.Need-same-length-2
 same-length-2 c = search needs
 
+returns-2 : tie.Need-returns-2
+unfolding tells
+returns-2 c =
+    telling (c .before .before .before .before .before .before .before .before .before .before .before .before .before .before .before .before .before .before .args .line .now) (c .before .before .before .before .before .before .before .before .before .before .command-of .result) command.Start (c .before .before .before .before .before .before .before .before .before .before .command-of .ensures) (c .before .before .before .before .before .before .before .before .enum-told .given .1) refl _ _ _ _
+
 same-length-3 : tie.Need-same-length-3
 same-length-3 c = search needs
-
-returns-3 : tie.Need-returns-3
-unfolding tells
-returns-3 c =
-    telling (c .before .before .before .before .before .before .before .before .before .before .before .before .before .before .before .before .args .line .now) (c .before .before .before .before .before .before .before .before .before .command-of .result) command.Vote (c .before .before .before .before .before .before .before .before .before .command-of .ensures) (c .before .before .before .before .before .before .before .enum-told2 .given .1) refl _ _ _ _
 
 same-length-4 : tie.Need-same-length-4
 same-length-4 c = search needs
@@ -131,10 +183,10 @@ same-length-4 c = search needs
 same-length-5 : tie.Need-same-length-5
 same-length-5 c = search needs
 
-returns-4 : tie.Need-returns-4
+returns-3 : tie.Need-returns-3
 unfolding tells
-returns-4 c =
-    telling (c .before .before .before .before .before .before .before .before .before .before .before .before .before .before .before .before .args .line .now) (c .before .before .before .before .before .before .before .before .before .command-of .result) command.Block (c .before .before .before .before .before .before .before .before .before .command-of .ensures) (c .before .before .before .before .before .before .before .enum-told3 .given .1) refl _ _ _ _
+returns-3 c =
+    telling (c .before .before .before .before .before .before .before .before .before .before .before .before .before .before .before .before .before .before .before .before .before .args .line .now) (c .before .before .before .before .before .before .before .before .before .before .before .before .before .command-of .result) command.Vote (c .before .before .before .before .before .before .before .before .before .before .before .before .before .command-of .ensures) (c .before .before .before .before .before .before .before .before .before .before .before .enum-told2 .given .1) refl _ _ _ _
 
 same-length-6 : tie.Need-same-length-6
 same-length-6 c = search needs
@@ -142,63 +194,122 @@ same-length-6 c = search needs
 same-length-7 : tie.Need-same-length-7
 same-length-7 c = search needs
 
-returns-5 : tie.Need-returns-5
-unfolding tells
-returns-5 c =
-    telling (c .before .before .before .before .before .before .before .before .before .before .before .before .before .before .before .before .args .line .now) (c .before .before .before .before .before .before .before .before .before .command-of .result) command.Timeout (c .before .before .before .before .before .before .before .before .before .command-of .ensures) (c .before .before .before .before .before .before .before .enum-told4 .given .1) refl _ _ _ _
-
 same-length-8 : tie.Need-same-length-8
 same-length-8 c = search needs
+
+returns-4 : tie.Need-returns-4
+unfolding tells
+returns-4 c =
+    telling (c .before .before .before .before .before .before .before .before .before .before .before .before .before .before .before .before .before .before .before .before .before .args .line .now) (c .before .before .before .before .before .before .before .before .before .before .before .before .before .command-of .result) command.Block (c .before .before .before .before .before .before .before .before .before .before .before .before .before .command-of .ensures) (c .before .before .before .before .before .before .before .before .before .before .before .enum-told3 .given .1) refl _ _ _ _
 
 same-length-9 : tie.Need-same-length-9
 same-length-9 c = search needs
 
-returns-6 : tie.Need-returns-6
-unfolding tells
-returns-6 c =
-    telling (c .before .before .before .before .before .before .before .before .before .before .before .before .before .before .before .before .args .line .now) (c .before .before .before .before .before .before .before .before .before .command-of .result) command.Look (c .before .before .before .before .before .before .before .before .before .command-of .ensures) (c .before .before .before .before .before .before .before .enum-told5 .given .1) refl _ _ _ _
-
 same-length-10 : tie.Need-same-length-10
 same-length-10 c = search needs
-
-returns-7 : tie.Need-returns-7
-returns-7 c = search needs
 
 same-length-11 : tie.Need-same-length-11
 same-length-11 c = search needs
 
-returns-8 : tie.Need-returns-8
-returns-8 c = search needs
-
-returns-9 : tie.Need-returns-9
-returns-9 c = search needs
-
-returns-10 : tie.Need-returns-10
-returns-10 c = search needs
-
-returns-11 : tie.Need-returns-11
-returns-11 c = search needs
-
-returns-12 : tie.Need-returns-12
-returns-12 c = search needs
+returns-5 : tie.Need-returns-5
+unfolding tells
+returns-5 c =
+    telling (c .before .before .before .before .before .before .before .before .before .before .before .before .before .before .before .before .before .before .before .before .before .args .line .now) (c .before .before .before .before .before .before .before .before .before .before .before .before .before .command-of .result) command.Timeout (c .before .before .before .before .before .before .before .before .before .before .before .before .before .command-of .ensures) (c .before .before .before .before .before .before .before .before .before .before .before .enum-told4 .given .1) refl _ _ _ _
 
 same-length-12 : tie.Need-same-length-12
 same-length-12 c = search needs
 
+same-length-13 : tie.Need-same-length-13
+same-length-13 c = search needs
+
+same-length-14 : tie.Need-same-length-14
+same-length-14 c = search needs
+
+returns-6 : tie.Need-returns-6
+unfolding tells
+returns-6 c =
+    telling (c .before .before .before .before .before .before .before .before .before .before .before .before .before .before .before .before .before .before .before .before .before .args .line .now) (c .before .before .before .before .before .before .before .before .before .before .before .before .before .command-of .result) command.Look (c .before .before .before .before .before .before .before .before .before .before .before .before .before .command-of .ensures) (c .before .before .before .before .before .before .before .before .before .before .before .enum-told5 .given .1) refl _ _ _ _
+
+same-length-15 : tie.Need-same-length-15
+same-length-15 c = search needs
+
+same-length-16 : tie.Need-same-length-16
+same-length-16 c = search needs
+
+returns-7 : tie.Need-returns-7
+returns-7 c = search needs
+
+same-length-17 : tie.Need-same-length-17
+same-length-17 c = search needs
+
+same-length-18 : tie.Need-same-length-18
+same-length-18 c = search needs
+
+returns-8 : tie.Need-returns-8
+returns-8 c = search needs
+
+same-length-19 : tie.Need-same-length-19
+same-length-19 c = search needs
+
+returns-9 : tie.Need-returns-9
+returns-9 c = search needs
+
+same-length-20 : tie.Need-same-length-20
+same-length-20 c = search needs
+
+returns-10 : tie.Need-returns-10
+returns-10 c = search needs
+
+same-length-21 : tie.Need-same-length-21
+same-length-21 c = search needs
+
+returns-11 : tie.Need-returns-11
+returns-11 c = search needs
+
+same-length-22 : tie.Need-same-length-22
+same-length-22 c = search needs
+
+returns-12 : tie.Need-returns-12
+returns-12 c = search needs
+
+same-length-23 : tie.Need-same-length-23
+same-length-23 c = search needs
+
+same-length-24 : tie.Need-same-length-24
+same-length-24 c = search needs
+
 returns-13 : tie.Need-returns-13
 returns-13 c = search needs
 
-same-length-13 : tie.Need-same-length-13
-same-length-13 c = search needs
+same-length-25 : tie.Need-same-length-25
+same-length-25 c = search needs
+
+same-length-26 : tie.Need-same-length-26
+same-length-26 c = search needs
 
 returns-14 : tie.Need-returns-14
 returns-14 c = search needs
 
+same-length-27 : tie.Need-same-length-27
+same-length-27 c = search needs
+
 returns-15 : tie.Need-returns-15
 returns-15 c = search needs
 
+same-length-28 : tie.Need-same-length-28
+same-length-28 c = search needs
+
 returns-16 : tie.Need-returns-16
 returns-16 c = search needs
+
+returns-17 : tie.Need-returns-17
+returns-17 c = search needs
+
+same-length-29 : tie.Need-same-length-29
+same-length-29 c = search needs
+
+returns-18 : tie.Need-returns-18
+returns-18 c = search needs
 
 pub obey-spec : {M : Type 1} → statement M
 obey-spec =
@@ -209,59 +320,96 @@ obey-spec =
     command-of-requires
     enum-told
     start-requires
+    answered-requires
     enum-told-2
     vote-requires
+    answered-requires-2
     enum-told-3
     block-requires
+    answered-requires-3
     enum-told-4
     timeout-requires
+    answered-requires-4
     enum-told-5
     look-requires
+    answered-requires-5
     enum-told-6
     cert-requires
+    answered-requires-6
     enum-told-7
     proof-requires
+    answered-requires-7
     enum-told-8
     check-requires
+    answered-requires-8
     enum-told-9
     check-requires-2
+    answered-requires-9
     enum-told-10
     pack-requires
+    answered-requires-10
     enum-told-11
     unpack-requires
+    answered-requires-11
     enum-told-12
     view-requires
+    answered-requires-12
     enum-told-13
-    view-requires-2
+    votes-requires
+    answered-requires-13
     enum-told-14
-    help-requires
+    explain-requires
+    answered-requires-14
     enum-told-15
+    help-requires
+    answered-requires-15
+    enum-told-16
+    enum-told-17
     malformed-requires
+    answered-requires-16
     same-length
-    returns-2
     same-length-2
+    returns-2
     same-length-3
-    returns-3
     same-length-4
     same-length-5
-    returns-4
+    returns-3
     same-length-6
     same-length-7
-    returns-5
     same-length-8
+    returns-4
     same-length-9
-    returns-6
     same-length-10
-    returns-7
     same-length-11
-    returns-8
-    returns-9
-    returns-10
-    returns-11
-    returns-12
+    returns-5
     same-length-12
-    returns-13
     same-length-13
+    same-length-14
+    returns-6
+    same-length-15
+    same-length-16
+    returns-7
+    same-length-17
+    same-length-18
+    returns-8
+    same-length-19
+    returns-9
+    same-length-20
+    returns-10
+    same-length-21
+    returns-11
+    same-length-22
+    returns-12
+    same-length-23
+    same-length-24
+    returns-13
+    same-length-25
+    same-length-26
     returns-14
+    same-length-27
     returns-15
-    returns-16)
+    same-length-28
+    returns-16
+    returns-17
+    same-length-29
+    returns-18)

@@ -1,0 +1,23 @@
+-- The number and the end of the line.
+use Rattle.lines.specs.Answers.{numberLine}
+use Rattle.lines.proofs.Putting.{and-then}
+use borrow.Author.Needs.{needs}
+use Rattle.lines.proofs.number_line.Statement.{statement}
+use Rattle.lines.proofs.number_line.Tie as tie
+
+put-decimal-requires : tie.Need-put-decimal-requires
+put-decimal-requires c κs = search needs
+
+put-byte-requires : tie.Need-put-byte-requires
+put-byte-requires c κs = search needs
+
+same-length : tie.Need-same-length
+same-length c = search needs
+
+returns : tie.Need-returns
+unfolding numberLine
+returns c =
+    and-then (c .before .before .before .before .before .before .put-decimal .ensures) (c .before .before .put-byte .ensures)
+
+pub number-line-spec : {M : Type 1} → statement M
+number-line-spec = tie.close (tie.spec put-decimal-requires put-byte-requires same-length returns)

@@ -1,0 +1,27 @@
+-- The text and the number.
+use Rattle.lines.proofs.Putting.{and-then}
+use borrow.Author.Needs.{needs}
+use Rattle.lines.proofs.put_named.Statement.{statement}
+use Rattle.lines.proofs.put_named.Tie as tie
+
+put-text-requires : tie.Need-put-text-requires
+put-text-requires c κs = search needs
+
+put-decimal-requires : tie.Need-put-decimal-requires
+put-decimal-requires c κs = search needs
+
+same-length : tie.Need-same-length
+same-length c = search needs
+
+returns : tie.Need-returns
+returns c =
+    and-then (c .before .before .before .before .before .before .put-text .ensures) (c .before .before .put-decimal .ensures)
+
+pub put-named-spec : {M : Type 1} → statement M
+put-named-spec =
+    tie.close
+    (tie.spec
+    put-text-requires
+    put-decimal-requires
+    same-length
+    returns)
