@@ -61,107 +61,8 @@ look-requires c κs = search needs
 answered-requires-5 : tie.Need-answered-requires-5
 answered-requires-5 c κs = search needs
 
-enum-told-6 : tie.Need-enum-told-6
-enum-told-6 c = search needs
-
-cert-requires : tie.Need-cert-requires
-cert-requires c κs = search needs
-
-answered-requires-6 : tie.Need-answered-requires-6
-answered-requires-6 c κs = search needs
-
-enum-told-7 : tie.Need-enum-told-7
-enum-told-7 c = search needs
-
-proof-requires : tie.Need-proof-requires
-proof-requires c κs = search needs
-
-answered-requires-7 : tie.Need-answered-requires-7
-answered-requires-7 c κs = search needs
-
-enum-told-8 : tie.Need-enum-told-8
-enum-told-8 c = search needs
-
-check-requires : tie.Need-check-requires
-check-requires c κs = search needs
-
-answered-requires-8 : tie.Need-answered-requires-8
-answered-requires-8 c κs = search needs
-
-enum-told-9 : tie.Need-enum-told-9
-enum-told-9 c = search needs
-
-check-requires-2 : tie.Need-check-requires-2
-check-requires-2 c κs = search needs
-
-answered-requires-9 : tie.Need-answered-requires-9
-answered-requires-9 c κs = search needs
-
-enum-told-10 : tie.Need-enum-told-10
-enum-told-10 c = search needs
-
-pack-requires : tie.Need-pack-requires
-pack-requires c κs = search needs
-
-answered-requires-10 : tie.Need-answered-requires-10
-answered-requires-10 c κs = search needs
-
-enum-told-11 : tie.Need-enum-told-11
-enum-told-11 c = search needs
-
-unpack-requires : tie.Need-unpack-requires
-unpack-requires c κs = search needs
-
-answered-requires-11 : tie.Need-answered-requires-11
-answered-requires-11 c κs = search needs
-
-enum-told-12 : tie.Need-enum-told-12
-enum-told-12 c = search needs
-
-view-requires : tie.Need-view-requires
-view-requires c κs = search needs
-
-answered-requires-12 : tie.Need-answered-requires-12
-answered-requires-12 c κs = search needs
-
-enum-told-13 : tie.Need-enum-told-13
-enum-told-13 c = search needs
-
-votes-requires : tie.Need-votes-requires
-votes-requires c κs = search needs
-
-answered-requires-13 : tie.Need-answered-requires-13
-answered-requires-13 c κs = search needs
-
-enum-told-14 : tie.Need-enum-told-14
-enum-told-14 c = search needs
-
-explain-requires : tie.Need-explain-requires
-explain-requires c κs = search needs
-
-answered-requires-14 : tie.Need-answered-requires-14
-answered-requires-14 c κs = search needs
-
-enum-told-15 : tie.Need-enum-told-15
-enum-told-15 c = search needs
-
-help-requires : tie.Need-help-requires
-help-requires c κs = search needs
-
-answered-requires-15 : tie.Need-answered-requires-15
-answered-requires-15 c κs = search needs
-
-enum-told-16 : tie.Need-enum-told-16
-enum-told-16 c = search needs
-
-enum-told-17 : tie.Need-enum-told-17
-enum-told-17 c = search needs
-
-malformed-requires : tie.Need-malformed-requires
-malformed-requires c κs = search needs
-
-answered-requires-16 : tie.Need-answered-requires-16
-answered-requires-16 c κs = search needs
+ask-requires : tie.Need-ask-requires
+ask-requires c κs = search needs
 
 same-length : tie.Need-same-length
 same-length c = search needs
@@ -239,78 +140,6 @@ same-length-16 c = search needs
 returns-7 : tie.Need-returns-7
 returns-7 c = search needs
 
-same-length-17 : tie.Need-same-length-17
-same-length-17 c = search needs
-
-same-length-18 : tie.Need-same-length-18
-same-length-18 c = search needs
-
-returns-8 : tie.Need-returns-8
-returns-8 c = search needs
-
-same-length-19 : tie.Need-same-length-19
-same-length-19 c = search needs
-
-returns-9 : tie.Need-returns-9
-returns-9 c = search needs
-
-same-length-20 : tie.Need-same-length-20
-same-length-20 c = search needs
-
-returns-10 : tie.Need-returns-10
-returns-10 c = search needs
-
-same-length-21 : tie.Need-same-length-21
-same-length-21 c = search needs
-
-returns-11 : tie.Need-returns-11
-returns-11 c = search needs
-
-same-length-22 : tie.Need-same-length-22
-same-length-22 c = search needs
-
-returns-12 : tie.Need-returns-12
-returns-12 c = search needs
-
-same-length-23 : tie.Need-same-length-23
-same-length-23 c = search needs
-
-same-length-24 : tie.Need-same-length-24
-same-length-24 c = search needs
-
-returns-13 : tie.Need-returns-13
-returns-13 c = search needs
-
-same-length-25 : tie.Need-same-length-25
-same-length-25 c = search needs
-
-same-length-26 : tie.Need-same-length-26
-same-length-26 c = search needs
-
-returns-14 : tie.Need-returns-14
-returns-14 c = search needs
-
-same-length-27 : tie.Need-same-length-27
-same-length-27 c = search needs
-
-returns-15 : tie.Need-returns-15
-returns-15 c = search needs
-
-same-length-28 : tie.Need-same-length-28
-same-length-28 c = search needs
-
-returns-16 : tie.Need-returns-16
-returns-16 c = search needs
-
-returns-17 : tie.Need-returns-17
-returns-17 c = search needs
-
-same-length-29 : tie.Need-same-length-29
-same-length-29 c = search needs
-
-returns-18 : tie.Need-returns-18
-returns-18 c = search needs
-
 pub obey-spec : {M : Type 1} → statement M
 obey-spec =
     tie.close
@@ -333,40 +162,7 @@ obey-spec =
     enum-told-5
     look-requires
     answered-requires-5
-    enum-told-6
-    cert-requires
-    answered-requires-6
-    enum-told-7
-    proof-requires
-    answered-requires-7
-    enum-told-8
-    check-requires
-    answered-requires-8
-    enum-told-9
-    check-requires-2
-    answered-requires-9
-    enum-told-10
-    pack-requires
-    answered-requires-10
-    enum-told-11
-    unpack-requires
-    answered-requires-11
-    enum-told-12
-    view-requires
-    answered-requires-12
-    enum-told-13
-    votes-requires
-    answered-requires-13
-    enum-told-14
-    explain-requires
-    answered-requires-14
-    enum-told-15
-    help-requires
-    answered-requires-15
-    enum-told-16
-    enum-told-17
-    malformed-requires
-    answered-requires-16
+    ask-requires
     same-length
     same-length-2
     returns-2
@@ -388,28 +184,4 @@ obey-spec =
     returns-6
     same-length-15
     same-length-16
-    returns-7
-    same-length-17
-    same-length-18
-    returns-8
-    same-length-19
-    returns-9
-    same-length-20
-    returns-10
-    same-length-21
-    returns-11
-    same-length-22
-    returns-12
-    same-length-23
-    same-length-24
-    returns-13
-    same-length-25
-    same-length-26
-    returns-14
-    same-length-27
-    returns-15
-    same-length-28
-    returns-16
-    returns-17
-    same-length-29
-    returns-18)
+    returns-7)
