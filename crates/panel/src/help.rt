@@ -91,7 +91,7 @@ fn kinds(page: &mut [u8], at: usize) -> usize {
     tell_line(
         page,
         r,
-        b"? is a line that is no command. Any other refusal is its number alone:",
+        b"? is a line that is no command. A refusal is its number, and beside 15 of a check what is missing:",
     )
 }
 
