@@ -1,6 +1,6 @@
 -- What is known of a line that is sent out of a page.
 use mathlib.Core.Path.{_≡_}
-use mathlib.Core.Bool.{Bool, true, false}
+use mathlib.Core.Bool.{Bool, false}
 use Prim.Native.Nat.{ℕ, _≤_}
 
 -- The place where the next line begins: the page's front where the line was sent, the page's end where it was not. After a line that

@@ -1,15 +1,14 @@
 -- The texts put together: digits, pairs, records, lines. Assumes nothing.
-use mathlib.Core.Path.{_≡_, refl, sym, ap, ap₂, _∙_}
-use mathlib.Core.List.{List, [], _∷_, _++_, append-assoc}
-use Prim.Native.Nat.{ℕ, zero, suc, _+_, _*_, _/_, _%_, _≤_, _<_, min}
+use mathlib.Core.Path.{_≡_, sym, ap, _∙_}
+use mathlib.Core.List.{List, [], _∷_, _++_}
+use Prim.Native.Nat.{ℕ, _+_, _/_, _%_, _≤_, _<_, min}
 use native.Mathlib.Numerals.{add-one}
-use native.Mathlib.Omega.{arith}
 use lib.ListN.{length, getD, take}
-use lib.Seq.{take-suc, take-length, take-all}
-use lib.Dec.{eqb, leb}
-use borrow.Author.Tests.{eq-eqb, ne-eqb, leb-true, leb-false}
+use lib.Seq.{take-suc, take-length}
+use lib.Dec.{eqb}
+use borrow.Author.Tests.{eq-eqb, ne-eqb}
 use Rattle.rulebook.specs.PaperNumbers.{Panel}
-use Rattle.rulebook.proofs.ToolLaws.{choose-on, choose-off, given-on, given-off, by-test}
+use Rattle.rulebook.proofs.ToolLaws.{choose-on, choose-off, given-on, given-off}
 use Rattle.lines.specs.Text.{glyph, decimal, hexPair, hexPairs, hexText, recordText, recordsTo, recordsText}
 use Rattle.lines.specs.Put.{Put}
 use Rattle.lines.specs.Answers.{numberLine, answerLine, missingLine, fiveValues, checkLine}

@@ -1,15 +1,14 @@
 -- Text after text in a buffer is one text. Assumes nothing.
-use mathlib.Core.Path.{_≡_, refl, sym, ap, ap₂, _∙_, subst}
-use mathlib.Core.List.{List, [], _∷_, _++_, append-assoc}
-use Prim.Native.Nat.{ℕ, zero, suc, _+_, _≤_, _<_}
+use mathlib.Core.Path.{_≡_, refl, sym, ap, _∙_, subst}
+use mathlib.Core.List.{List, [], _∷_, _++_}
+use Prim.Native.Nat.{ℕ, suc, _+_, _≤_, _<_}
 use native.Mathlib.Omega.{arith}
 use lib.Dec.{leb}
 use borrow.Author.Tests.{leb-true, leb-false}
 use Rattle.rulebook.proofs.ToolLaws.{by-test}
-use lib.ListN.{length, set, drop, length-append}
-use lib.Seq.{sets, length-sets, set-out, sets-eq}
+use lib.ListN.{length, set, length-append}
+use lib.Seq.{sets, length-sets, set-out}
 use Rattle.numbers.proofs.Stores.{stores-append, stores-lay, laid-front}
-use Rattle.numbers.specs.Written.{laid}
 use Rattle.rulebook.specs.Writers.{over}
 use Rattle.lines.specs.Put.{reach, Put}
 

@@ -2,9 +2,8 @@
 ghost use mathlib.Core.Path.{_≡_};
 ghost use mathlib.Core.List.{[], _∷_, _++_};
 ghost use Prim.Native.Nat.{_+_, _*_, _≤_, _<_, min};
-ghost use lib.ListN.{length, getD, take};
-ghost use Rattle.rulebook.specs.PaperNumbers.{Panel};
-ghost use Rattle.lines.specs.Text.{decimal, hexPair, hexPairs, hexText, recordText, recordsText};
+ghost use lib.ListN.{length, take};
+ghost use Rattle.lines.specs.Text.{decimal, hexPair, hexText, recordText, recordsText};
 ghost use Rattle.lines.specs.Text.{glyph as Text·glyph};
 ghost use Rattle.lines.specs.Put.{Put};
 ghost use Rattle.lines.specs.Answers.{numberLine, spaced, stepLine, packetLine, messageLine, missingLine, checkLine};

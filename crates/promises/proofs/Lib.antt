@@ -6,3 +6,4 @@ pub mod ShownChecks
 pub mod Spelled
 pub mod Held
 pub mod Figured
+pub mod Printed

@@ -4,3 +4,4 @@ pub mod Panels
 pub mod Exactly
 pub mod Spelling
 pub mod Figures
+pub mod Printed

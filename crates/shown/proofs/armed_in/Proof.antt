@@ -1,8 +1,6 @@
 -- No such slot, words of another length, and the window's flag.
 use mathlib.Core.Bool.{false}
-use mathlib.Core.Path.{_∙_, ap, sym}
-use Prim.Native.Nat.{_-_}
-use native.Mathlib.Omega.{arith}
+use mathlib.Core.Path.{_∙_, sym}
 use lib.Dec.{eqb}
 use lib.ListN.{length}
 use borrow.Author.Tests.{not-true, not-false, eq-eqb, ne-eqb}

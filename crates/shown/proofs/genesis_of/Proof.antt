@@ -1,6 +1,5 @@
 -- Words of another length, and genesis.
 use mathlib.Core.Path.{_∙_, ap, sym}
-use Prim.Native.Nat.{_-_}
 use borrow.Author.Needs.{needs}
 use Rattle.rulebook.specs.Ledger.{Ledger}
 use Rattle.record.specs.Setting.{noLedger}

@@ -1,7 +1,7 @@
 -- The loop over the numbers.
 use Prim.Native.Nat.{_-_}
 use lib.ListN.{length}
-use mathlib.Core.Path.{_∙_, _≡_}
+use mathlib.Core.Path.{_≡_}
 use borrow.Author.Needs.{needs}
 use Rattle.panel.proofs.help.refusals.Statement.{statement}
 use Rattle.panel.proofs.help.refusals.Tie as tie

@@ -1,0 +1,33 @@
+-- What the panel prints is the answer. Assumes nothing.
+use mathlib.Core.Path.{_≡_, ap, _∙_}
+use mathlib.Core.List.{List}
+use Prim.Native.Nat.{ℕ}
+use lib.ListN.{take}
+use Rattle.rulebook.proofs.RuleLaws.{over-front}
+use Rattle.lines.specs.Answers.{numberLine, startLine, stepLine, packetLine, messageLine, checkLine}
+use Rattle.lines.proofs.Putting.{stands-whole}
+use Rattle.promises.specs.Printed.{Sends, StartPrinted, StepPrinted, PacketPrinted, MessagePrinted, CheckPrinted}
+
+-- A text in other words is sent as it stands.
+sends : (made sent : List ℕ) → made ≡ sent → Sends made sent
+sends made sent e page page' used w h =
+    let s = stands-whole w h in (λ j. take (s .0 j) (s .1 j)) ∙ over-front made page ∙ e
+
+pub start-printed : StartPrinted
+unfolding startLine
+start-printed ws stakes own genesis number left s = sends _ _ (ap numberLine (s .numbered))
+
+pub step-printed : StepPrinted
+step-printed ws out i number made ws' left s =
+    sends _ _ (λ j. stepLine (record { number = s .numbered j; values = s .counted j }) left)
+
+pub packet-printed : PacketPrinted
+packet-printed wrote buffer number count after s =
+    sends _ _ (λ j. packetLine (record { number = s .numbered j; values = s .counted j }) after)
+
+pub message-printed : MessagePrinted
+message-printed answer number values s = sends _ _ (λ j. messageLine (record { number = s .numbered j; values = s .valued j }))
+
+pub check-printed : CheckPrinted
+check-printed answer number values missing s =
+    sends _ _ (λ j. checkLine (record { number = s .numbered j; values = s .valued j }) (s .lacked j))
