@@ -12,7 +12,7 @@
  * refused with QR_BAD_RECORD where they are no record; a record that this library left is never refused so.
  *
  * Answers. Every operation answers a number: 0 where it is done, else why not (enum qr_number). A refusal changes none
- * of the record, the outbox and the buffer, and puts zeros into the places for the values beside it. A number that is
+ * of the record, the outbox and the buffers, and puts zeros into the places for the values beside it. A number that is
  * out of range, a slot of 99 or a kind of 7, is not a fault of the host: it has its own refusal.
  *
  * The archive is libquointrowel.a, made by `rt staticlib quointrowel`, for x86-64. Of the host it wants memcpy and memset, as
@@ -38,10 +38,10 @@ enum qr_number {
     QR_OWN_NAME = 6,      /* vote in the own node's name from outside */
     QR_ALREADY_KEPT = 7,  /* that very vote, block with parent, or timeout is kept */
     QR_OTHER_STANDS = 8,  /* another stands in its place */
-    QR_NO_ROOM = 9,       /* outbox below 384 words; buffer below 32, 64 or 16 bytes */
+    QR_NO_ROOM = 9,       /* outbox below 384 words; buffer below 32, 64 or 16 bytes; too few places for a tray's answers */
     QR_NOT_ARMED = 10,    /* timeout for a window that is not armed */
     QR_BAD_PARENT = 11,   /* parent slot not below the slot, or slot 0 without genesis */
-    QR_BAD_LENGTH = 12,   /* packet ends early, or bytes remain */
+    QR_BAD_LENGTH = 12,   /* packet ends early, or bytes remain; a part of a vote ends a tray */
     QR_BAD_NUMBER = 13,   /* number not shortest, or above 64 bits */
     QR_BAD_SIGNERS = 14,  /* signer beyond the table, in both masks, or B where 0 is due */
     QR_TOO_LIGHT = 15,    /* weight below the threshold; a check says how much is missing */
@@ -122,6 +122,17 @@ uint64_t qr_timeout(uint64_t *record, size_t record_words, uint64_t *outbox, siz
 
 /* Only runs the rules. Refusals: 17, 9. */
 uint64_t qr_look(uint64_t *record, size_t record_words, uint64_t *outbox, size_t outbox_words, size_t *made);
+
+/*
+ * A run of other nodes' votes in one call, four words a vote: kind, node, slot, block. answers gets one number for each
+ * vote, as qr_vote would answer it, from its front; numbers past them stay. The record, the outbox's records in order and
+ * the answers are those of as many calls of qr_vote, a refused vote among them included; *made gets the number of records
+ * of all votes together. The record is looked through once. An empty run is done, with 0 records, and runs no rule.
+ * Refusals of the run as a whole, which takes nothing then: 17; 9, for the outbox or where answers has fewer places than
+ * there are whole votes; 12, for a part of a vote at the end.
+ */
+uint64_t qr_tray(uint64_t *record, size_t record_words, uint64_t *outbox, size_t outbox_words, size_t *made,
+                 const uint64_t *votes, size_t vote_words, uint64_t *answers, size_t answer_count);
 
 /*
  * Write a packet to the buffer's front and put the number of its bytes into *written; bytes past them and the record

@@ -1,13 +1,13 @@
 /* Bench cases B1 and B9 of the scope document, through the C face: one node of stake 5, one block, its finality proof; and a
-   proof that is too light, with what is missing. */
+   proof that is too light, with what is missing. Then a vote as a message, and a tray of votes. */
 #include <inttypes.h>
 #include <stdio.h>
 
 #include "quointrowel.h"
 
-static void show_records(uint64_t number, const uint64_t *outbox, size_t made)
+static void show_records(const char *what, uint64_t number, const uint64_t *outbox, size_t made)
 {
-    printf("B1: %" PRIu64 ", %zu records:", number, made);
+    printf("%s: %" PRIu64 ", %zu records:", what, number, made);
     for (size_t i = 0; i < made; i++)
         printf(" (%" PRIu64 ",%" PRIu64 ",%" PRIu64 ")", outbox[3 * i], outbox[3 * i + 1], outbox[3 * i + 2]);
     printf("\n");
@@ -34,6 +34,24 @@ static void show_message(void)
            vote[2], vote[3]);
 }
 
+/* A node of stakes 4, 3, 3 catches up on four votes at once: a vote, one in its own name, the first again, another node's. */
+static void show_tray(uint64_t *record, uint64_t *outbox)
+{
+    const uint64_t stakes[3] = {4, 3, 3};
+    const uint64_t votes[16] = {1, 1, 1, 7, 1, 0, 1, 7, 1, 1, 1, 7, 3, 2, 1, 0};
+    uint64_t answers[5] = {99, 99, 99, 99, 99};
+    size_t made;
+    if (qr_start(record, QR_RECORD_WORDS, stakes, 3, 0, 1) != QR_DONE)
+        return;
+    uint64_t number = qr_tray(record, QR_RECORD_WORDS, outbox, QR_OUTBOX_WORDS, &made, votes, 16, answers, 5);
+    show_records("tray", number, outbox, made);
+    printf("answers:");
+    for (size_t i = 0; i < 5; i++)
+        printf(" %" PRIu64, answers[i]);
+    number = qr_tray(record, QR_RECORD_WORDS, outbox, QR_OUTBOX_WORDS, &made, votes, 15, answers, 3);
+    printf("; a part at the end: %" PRIu64 "\n", number);
+}
+
 int main(void)
 {
     const uint64_t stakes[1] = {5};
@@ -51,7 +69,7 @@ int main(void)
     if (qr_start(record, QR_RECORD_WORDS, stakes, 1, 0, 1) != QR_DONE)
         return 1;
     uint64_t number = qr_block(record, QR_RECORD_WORDS, outbox, QR_OUTBOX_WORDS, &made, 1, 7, 0, 1);
-    show_records(number, outbox, made);
+    show_records("B1", number, outbox, made);
 
     number = qr_write_proof(record, QR_RECORD_WORDS, packet, sizeof packet, &written, 1, 7);
     printf("B9: %" PRIu64 ", proof of %zu bytes:", number, written);
@@ -65,5 +83,6 @@ int main(void)
     number = qr_check_proof(stakes, 1, light_proof, sizeof light_proof, values, &missing);
     show_check("kind 5 without signers", number, values, missing);
     show_message();
+    show_tray(record, outbox);
     return 0;
 }

@@ -13,7 +13,8 @@ use Rattle.rulebook.specs.Writers as writer
 use Rattle.rulebook.specs.Writers.{Writes}
 use Rattle.node.specs.Stepping.{StepOf, stepLeaves}
 use Rattle.soundness.specs.Starting.{StartOf}
-use Rattle.answers.specs.Face.{Beside, Started, Stepped, Wrote, MessageRead, Checked}
+use Rattle.trays.specs.Lent.{TrayOf}
+use Rattle.answers.specs.Face.{Beside, Started, Stepped, Trayed, Wrote, MessageRead, Checked}
 
 pub started : (ws stakes : List ℕ) (own genesis : ℕ) (a : StartAnswer) (n : ℕ) (left : List ℕ) → StartOf ws stakes own genesis a left
     → n ≡ startPanel a .number → Started ws stakes own genesis n left
@@ -33,6 +34,17 @@ stepped ws out i j a n k ws' left g s e d =
   where
     answered : a ≡ stepLeaves ws out i .answer
     answered = s .answered ∙ ap (λ (x : Input). stepLeaves ws out x .answer) g
+
+pub trayed : (ws out votes places : List ℕ) (a : StepAnswer) (n k : ℕ) (ws' left answers : List ℕ) → TrayOf ws out votes places a ws' left answers
+    → n ≡ stepPanel a .number → Beside k (stepPanel a .values) → Trayed ws out votes places n k ws' left answers
+trayed ws out votes places a n k ws' left answers s e d =
+    record {
+      numbered = e ∙ ap (λ (x : StepAnswer). stepPanel x .number) (s .answered);
+      counted = d ∙ ap (λ (x : StepAnswer). stepPanel x .values) (s .answered);
+      words = s .words;
+      outbox = s .outbox;
+      answered = s .answers;
+    }
 
 pub wrote : (w : writer.Wrote) (buffer : List ℕ) (a : WriteAnswer) (n k : ℕ) (after : List ℕ) → Writes w buffer a after
     → n ≡ writePanel a .number → Beside k (writePanel a .values) → Wrote w buffer n k after

@@ -7,7 +7,7 @@ use Rattle.rulebook.specs.declared.Input.{Input}
 use Rattle.rulebook.specs.declared.ReadAnswer.{ReadAnswer}
 use Rattle.rulebook.specs.declared.CheckAnswer.{CheckAnswer}
 use Rattle.rulebook.specs.Writers as writer
-use Rattle.answers.specs.Face.{Beside, Started, Stepped, Wrote, MessageRead, Checked}
+use Rattle.answers.specs.Face.{Beside, Started, Stepped, Trayed, Wrote, MessageRead, Checked}
 
 -- One value beside one number.
 beside-one : {v v' : ℕ} {values : List ℕ} → Beside v values → Beside v' values → v ≡ v'
@@ -23,6 +23,12 @@ pub stepped-one : {ws out left left' box box' : List ℕ} {i : Input} {n n' made
     → (n ≡ n') × (made ≡ made') × (left ≡ left') × (box ≡ box')
 stepped-one a b =
     (a .numbered ∙ sym (b .numbered), beside-one (a .counted) (b .counted), a .words ∙ sym (b .words), a .outbox ∙ sym (b .outbox))
+
+-- qr_tray.
+pub trayed-one : {ws out votes places left left' box box' answers answers' : List ℕ} {n n' made made' : ℕ} → Trayed ws out votes places n made left box answers
+    → Trayed ws out votes places n' made' left' box' answers' → (n ≡ n') × (made ≡ made') × (left ≡ left') × (box ≡ box') × (answers ≡ answers')
+trayed-one a b =
+    (a .numbered ∙ sym (b .numbered), beside-one (a .counted) (b .counted), a .words ∙ sym (b .words), a .outbox ∙ sym (b .outbox), a .answered ∙ sym (b .answered))
 
 -- qr_write_certificate, qr_write_proof, qr_write_vote.
 pub wrote-one : {w : writer.Wrote} {buffer after after' : List ℕ} {n n' count count' : ℕ} → Wrote w buffer n count after → Wrote w buffer n' count' after'

@@ -12,6 +12,7 @@ use Rattle.rulebook.specs.Writers.{over}
 use Rattle.rulebook.specs.Writers as written
 pub use Rattle.inputs.specs.Inputs.{voteInput, blockInput, timeoutInput}
 use Rattle.node.specs.Stepping.{stepLeaves}
+use Rattle.trays.specs.Lent.{trayLeaves}
 use Rattle.soundness.specs.Starting.{startJudged, startAnswer, startLeft}
 
 -- The one value beside a number.
@@ -37,6 +38,14 @@ pub record Stepped (ws out : List ℕ) (i : Input) (number made : ℕ) (ws' left
   pub counted : Beside made (stepPanel (stepLeaves ws out i .answer) .values)
   pub words : ws' ≡ stepLeaves ws out i .words
   pub outbox : left ≡ stepLeaves ws out i .outbox
+
+-- A tray: its number, the count of all its votes' records, and all the words of record, outbox and answer buffer.
+pub record Trayed (ws out votes places : List ℕ) (number made : ℕ) (ws' left answers : List ℕ) : Type 0 where
+  pub numbered : number ≡ stepPanel (trayLeaves ws out votes places .answer) .number
+  pub counted : Beside made (stepPanel (trayLeaves ws out votes places .answer) .values)
+  pub words : ws' ≡ trayLeaves ws out votes places .words
+  pub outbox : left ≡ trayLeaves ws out votes places .outbox
+  pub answered : answers ≡ trayLeaves ws out votes places .answers
 
 -- A writer: its number, the count of its bytes, and the whole buffer.
 pub record Wrote (wrote : written.Wrote) (buffer : List ℕ) (number count : ℕ) (after : List ℕ) : Type 0 where

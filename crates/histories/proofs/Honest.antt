@@ -1,18 +1,15 @@
 -- What honest nodes write, at any moment of their lives, is genuine by what their outboxes told.
 use mathlib.Core.Path.{_≡_, refl, sym, ap, _∙_, subst}
-use mathlib.Core.List.{List, [], _∷_, _++_}
+use mathlib.Core.List.{List, [], _∷_, _++_, append-assoc}
 use Prim.Native.Nat.{ℕ}
-use lib.Dec.{leb}
 use lib.ListN.{length}
 use Rattle.rulebook.specs.declared.Input.{Input}
-use Rattle.rulebook.specs.WellFormed.{outboxWords}
 use Rattle.rulebook.specs.Writers.{Wrote}
-use Rattle.rulebook.proofs.ToolLaws.{by-test, given-on, given-off}
 use Rattle.readback.proofs.Words.{certificate-length, proof-length}
 use Rattle.safety.specs.Ring.{castBy, GenuinePacket}
 use Rattle.safety.proofs.Packets.{packet-more}
 use Rattle.safety.proofs.Honest.{written-certificate-genuine, written-proof-genuine}
-use Rattle.histories.specs.Calls.{Call, Calls, noMore, called, inputsOf, Life, Lived, leftBy}
+use Rattle.histories.specs.Calls.{Call, Calls, noMore, called, fedBy, inputsOf, Life, Lived, leftBy}
 use Rattle.histories.specs.Ring.{toldBallot, upTo, CodeWrittenGenuine}
 use Rattle.histories.proofs.Demand.{cast-told, ring-of-calls, front, certificate-on, proof-on}
 
@@ -31,11 +28,8 @@ inputs-split : (before later : List Call) → inputsOf (before ++ later) ≡ inp
 unfolding inputsOf
 inputs-split [] later = refl
 inputs-split (c ∷ cs) later =
-    by-test (leb outboxWords (length (c .lent)))
-    (λ t. given-on _ _ _ t ∙ ap (λ (is : List Input). c .input ∷ is) (inputs-split cs later)
-    ∙ ap (λ (is : List Input). is ++ inputsOf later) (sym (given-on _ (inputsOf cs) (λ _. c .input ∷ inputsOf cs) t)))
-    (λ t. given-off _ _ _ t ∙ inputs-split cs later
-    ∙ ap (λ (is : List Input). is ++ inputsOf later) (sym (given-off _ (inputsOf cs) (λ _. c .input ∷ inputsOf cs) t)))
+    let is : List Input = fedBy (c .operation) (c .lent) in
+    ap (λ (js : List Input). is ++ js) (inputs-split cs later) ∙ sym (append-assoc is (inputsOf cs) (inputsOf later))
 
 -- ---- what is written then
 

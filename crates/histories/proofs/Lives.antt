@@ -1,22 +1,26 @@
--- A history of calls of the public step from a fresh start is a life of the safety theorem: the same ledger, the same records.
-use mathlib.Core.Path.{_≡_, refl, sym, ap, _∙_}
-use mathlib.Core.Bool.{true, not, _||_}
-use mathlib.Core.List.{List, [], _∷_, _++_}
-use Prim.Native.Nat.{ℕ, _*_, _≤_, _<_}
+-- A history of calls of the step and the tray from a fresh start is a life of the safety theorem: the same ledger, the same records.
+use mathlib.Core.Path.{_≡_, refl, sym, ap, _∙_, subst}
+use mathlib.Core.Bool.{Bool, true, false, not, _&&_, _||_}
+use mathlib.Core.List.{List, [], _∷_, _++_, map}
+use Prim.Native.Nat.{ℕ, _*_, _%_, _≤_, _<_}
 use native.Mathlib.Omega.{arith}
 use lib.ListN.{length, drop, length-reverse}
 use lib.Dec.{eqb, leb}
-use borrow.Author.Tests.{eq-eqb, leb-true, leb-false, le-leb, lt-leb}
+use borrow.Author.Tests.{eq-eqb, leb-true, leb-false}
 use Rattle.rulebook.specs.declared.Input.{Input}
+use Rattle.rulebook.specs.declared.Input.the-variants as input
+use Rattle.rulebook.specs.declared.Refusal.{Refusal}
 use Rattle.rulebook.specs.declared.Refusal.the-variants as refusal
 use Rattle.rulebook.specs.declared.StartAnswer.the-variants as start
+use Rattle.rulebook.specs.declared.StepAnswer.{StepAnswer}
+use Rattle.rulebook.specs.declared.Vote.{Vote}
 use Rattle.rulebook.specs.declared.Verdict.{Verdict}
 use Rattle.rulebook.specs.declared.Verdict.the-variants.{Fine, Refused}
 use Rattle.rulebook.specs.Ledger.{Ledger, fresh}
 use Rattle.rulebook.specs.Rules.{Record, State}
 use Rattle.rulebook.specs.Run.{run}
 use Rattle.rulebook.specs.Inputs.{Fed, startVerdict, verdict, intake, fedWith, refusedWith, fedOn, feed}
-use Rattle.rulebook.specs.WellFormed.{outboxWords, step}
+use Rattle.rulebook.specs.WellFormed.{wellFormed, outboxWords, step}
 use Rattle.rulebook.proofs.ToolLaws.{given-on, given-off, by-test}
 use Rattle.settling.specs.Facts.{Sound}
 use Rattle.rulebook.proofs.RuleLaws.{refuse-fine}
@@ -30,9 +34,30 @@ use Rattle.soundness.specs.Starting.{startJudged, startAnswer, startLeft}
 use Rattle.soundness.proofs.Laws.{sound-long, sound-formed, sound-ledger}
 use Rattle.soundness.proofs.InStep.{spelled-sound, spelled-back}
 use Rattle.node.specs.Stepping.{spelled, asFed, Leaves, stepLeaves, StepOf}
-use Rattle.safety.specs.Ballots.{among}
+use Rattle.trays.specs.Trays.{votesIn, wholeVotes, serve, Tray, trayRefused, trayServed, tray}
+use Rattle.trays.specs.Lent.{asServed, trayLeaves, TrayOf}
+use Rattle.trays.specs.Lent as lent
+use Rattle.trays.proofs.Theorems.{serve-sound}
+use Rattle.safety.specs.Ballots.{sameRecord, among}
 use Rattle.safety.specs.Ring.{afterAll, madeIn}
-use Rattle.histories.specs.Calls.{Call, Calls, noMore, called, lastOf, inputsOf, firstRecords, toldIn, toldBy, Life, Lived}
+use Rattle.safety.proofs.Lives.{life-on}
+use Rattle.histories.specs.Calls.{Operation, oneInput, aTray, Call, Meets, Calls, noMore, called, lastOf, fedBy, inputsOf, firstRecords, toldIn, toldBy, Life, Lived}
+
+-- ---- records among others
+
+or-false : (t : Bool) → (t || false) ≡ t
+or-false true = refl
+or-false false = refl
+
+or-assoc : (a b c : Bool) → ((a || b) || c) ≡ (a || (b || c))
+or-assoc true b c = refl
+or-assoc false b c = refl
+
+-- A record is among two runs of records where it is among one of them.
+among-both : (xs ys : List Record) (r : Record) → among (xs ++ ys) r ≡ (among xs r || among ys r)
+among-both [] ys r = refl
+among-both (x ∷ xs) ys r =
+    ap (λ (t : Bool). sameRecord x r || t) (among-both xs ys r) ∙ sym (or-assoc (sameRecord x r) (among xs r) (among ys r))
 
 -- ---- one call
 
@@ -52,55 +77,126 @@ told-fed l i Fine rest =
     ∙ read-spelled (fedWith o .records) rest
 told-fed l i (Refused r) rest = refl
 
--- What a call has done to sound words: they are sound again, and they and the told records are those of `fed`.
-pub record Did (ws : List ℕ) (c : Call) (l : Ledger) (rs : List Record) : Type 0 where
-  pub sound : soundWords (c .words) ≡ true
-  pub ledger : ledgerOf (c .words) ≡ l
-  pub told : toldIn (c .answer) (c .left) ≡ rs
+-- What a call has done to sound words: they are sound again, and they and the told records are those of the inputs that it fed.
+pub record Did (ws : List ℕ) (is : List Input) (answer : StepAnswer) (ws' left : List ℕ) : Type 0 where
+  pub sound : soundWords ws' ≡ true
+  pub ledger : ledgerOf ws' ≡ afterAll (ledgerOf ws) is
+  pub told : (r : Record) → among (toldIn answer left) r ≡ madeIn (ledgerOf ws) is r
 
-module _ (ws : List ℕ) (c : Call) (sound : soundWords ws ≡ true) (s : StepOf ws (c .lent) (c .input) (c .answer) (c .words) (c .left)) where
-  leaves : stepLeaves ws (c .lent) (c .input) ≡ asFed (step (ledgerOf ws) (length (c .lent)) (c .input)) (c .lent)
+module _ (ws lent : List ℕ) (i : Input) (answer : StepAnswer) (ws' left : List ℕ) (sound : soundWords ws ≡ true) (s : StepOf ws lent i answer ws' left) where
+  leaves : stepLeaves ws lent i ≡ asFed (step (ledgerOf ws) (length lent) i) lent
   unfolding stepLeaves
   leaves = given-on _ _ _ (eq-eqb (length ws) recordWords (sound-long ws sound))
 
-  did : (f : Fed) → step (ledgerOf ws) (length (c .lent)) (c .input) ≡ f → Sound (f .ledger)
-      → toldIn (f .answer) (spelled (f .records) ++ drop (3 * length (f .records)) (c .lent)) ≡ f .records → Did ws c (f .ledger) (f .records)
-  did f e h t =
-      let q : stepLeaves ws (c .lent) (c .input) ≡ asFed f (c .lent) = leaves ∙ ap (λ (x : Fed). asFed x (c .lent)) e in
-      let w : c .words ≡ wordsOf (f .ledger) = s .words ∙ ap (λ (x : Leaves). x .words) q in
-      let a : c .answer ≡ f .answer = s .answered ∙ ap (λ (x : Leaves). x .answer) q in
-      let o : c .left ≡ spelled (f .records) ++ drop (3 * length (f .records)) (c .lent) = s .outbox ∙ ap (λ (x : Leaves). x .outbox) q in
+  did : (f : Fed) (is : List Input) → step (ledgerOf ws) (length lent) i ≡ f → Sound (f .ledger) → f .ledger ≡ afterAll (ledgerOf ws) is
+      → ((r : Record) → among (toldIn (f .answer) (spelled (f .records) ++ drop (3 * length (f .records)) lent)) r ≡ madeIn (ledgerOf ws) is r)
+      → Did ws is answer ws' left
+  did f is e h d t =
+      let q : stepLeaves ws lent i ≡ asFed f lent = leaves ∙ ap (λ (x : Fed). asFed x lent) e in
+      let w : ws' ≡ wordsOf (f .ledger) = s .words ∙ ap (λ (x : Leaves). x .words) q in
+      let a : answer ≡ f .answer = s .answered ∙ ap (λ (x : Leaves). x .answer) q in
+      let o : left ≡ spelled (f .records) ++ drop (3 * length (f .records)) lent = s .outbox ∙ ap (λ (x : Leaves). x .outbox) q in
       record {
         sound = ap soundWords w ∙ spelled-sound (f .ledger) h;
-        ledger = ap ledgerOf w ∙ spelled-back (f .ledger) h;
-        told = (λ i. toldIn (a i) (o i)) ∙ t;
+        ledger = ap ledgerOf w ∙ spelled-back (f .ledger) h ∙ d;
+        told = λ r. (λ j. among (toldIn (a j) (o j)) r) ∙ t r;
       }
 
   -- With room in the outbox the input is fed.
-  pub call-fed : outboxWords ≤ length (c .lent) → Did ws c (feed (ledgerOf ws) (c .input) .ledger) (feed (ledgerOf ws) (c .input) .records)
-  unfolding feed
-  call-fed h =
-      did (feed (ledgerOf ws) (c .input)) (step-fed (ledgerOf ws) (c .input) (length (c .lent)) (sound-formed ws sound) h)
-      (feed-sound (ledgerOf ws) (sound-ledger ws sound) (c .input))
-      (told-fed (ledgerOf ws) (c .input) (verdict (ledgerOf ws) (c .input)) _)
+  step-fed-all : outboxWords ≤ length lent → Did ws (i ∷ []) answer ws' left
+  unfolding feed afterAll madeIn
+  step-fed-all h =
+      let l = ledgerOf ws in
+      did (feed l i) (i ∷ []) (step-fed l i (length lent) (sound-formed ws sound) h) (feed-sound l (sound-ledger ws sound) i) refl
+      (λ r. ap (λ (rs : List Record). among rs r) (told-fed l i (verdict l i) _) ∙ sym (or-false (among (feed l i .records) r)))
 
   -- Without room nothing is.
-  pub call-short : length (c .lent) < outboxWords → Did ws c (ledgerOf ws) []
-  unfolding refusedWith toldIn
-  call-short h =
-      did (refusedWith (ledgerOf ws) refusal.NoRoom) (step-short (ledgerOf ws) (c .input) (length (c .lent)) (sound-formed ws sound) h)
-      (sound-ledger ws sound) refl
+  step-fed-none : length lent < outboxWords → Did ws [] answer ws' left
+  unfolding refusedWith toldIn afterAll madeIn
+  step-fed-none h =
+      did (refusedWith (ledgerOf ws) refusal.NoRoom) [] (step-short (ledgerOf ws) i (length lent) (sound-formed ws sound) h)
+      (sound-ledger ws sound) refl (λ r. refl)
+
+  step-did : Did ws (fedBy (oneInput i) lent) answer ws' left
+  unfolding fedBy
+  step-did =
+      by-test (leb outboxWords (length lent))
+      (λ t. subst (λ (is : List Input). Did ws is answer ws' left) (sym (given-on _ _ _ t)) (step-fed-all (leb-true outboxWords (length lent) t)))
+      (λ t. subst (λ (is : List Input). Did ws is answer ws' left) (sym (given-off _ _ _ t)) (step-fed-none (leb-false outboxWords (length lent) t)))
+
+-- A tray's votes one after the other.
+serve-after : (l : Ledger) (vs : List Vote) → serve l vs .ledger ≡ afterAll l (map input.Vote vs)
+unfolding serve afterAll
+serve-after l [] = refl
+serve-after l (v ∷ vs) = serve-after (feed l (input.Vote v) .ledger) vs
+
+serve-made : (l : Ledger) (vs : List Vote) (r : Record) → among (serve l vs .records) r ≡ madeIn l (map input.Vote vs) r
+unfolding serve madeIn
+serve-made l [] r = refl
+serve-made l (v ∷ vs) r =
+    let f : Fed = feed l (input.Vote v) in
+    among-both (f .records) (serve (f .ledger) vs .records) r ∙ ap (λ (t : Bool). among (f .records) r || t) (serve-made (f .ledger) vs r)
+
+module _ (ws lent votes places : List ℕ) (answer : StepAnswer) (ws' left answers : List ℕ) (sound : soundWords ws ≡ true)
+    (s : TrayOf ws lent votes places answer ws' left answers) where
+  tray-did-as : (t : Tray) (is : List Input) → tray (ledgerOf ws) (length lent) (length places) votes ≡ t → Sound (t .served .ledger)
+      → t .served .ledger ≡ afterAll (ledgerOf ws) is
+      → ((r : Record) → among (toldIn (t .answer) (spelled (t .served .records) ++ drop (3 * length (t .served .records)) lent)) r ≡ madeIn (ledgerOf ws) is r)
+      → Did ws is answer ws' left
+  unfolding trayLeaves
+  tray-did-as t is e h d m =
+      let q : trayLeaves ws lent votes places ≡ asServed t lent places =
+      given-on _ _ _ (eq-eqb (length ws) recordWords (sound-long ws sound)) ∙ ap (λ (x : Tray). asServed x lent places) e in
+      let w : ws' ≡ wordsOf (t .served .ledger) = s .words ∙ ap (λ (x : lent.Leaves). x .words) q in
+      let a : answer ≡ t .answer = s .answered ∙ ap (λ (x : lent.Leaves). x .answer) q in
+      let o : left ≡ spelled (t .served .records) ++ drop (3 * length (t .served .records)) lent = s .outbox ∙ ap (λ (x : lent.Leaves). x .outbox) q in
+      record {
+        sound = ap soundWords w ∙ spelled-sound (t .served .ledger) h;
+        ledger = ap ledgerOf w ∙ spelled-back (t .served .ledger) h ∙ d;
+        told = λ r. (λ j. among (toldIn (a j) (o j)) r) ∙ m r;
+      }
+
+  -- A refused tray feeds nothing.
+  tray-none : (x : Refusal) → tray (ledgerOf ws) (length lent) (length places) votes ≡ trayRefused (ledgerOf ws) x → Did ws [] answer ws' left
+  unfolding trayRefused serve toldIn afterAll madeIn
+  tray-none x e = tray-did-as (trayRefused (ledgerOf ws) x) [] e (sound-ledger ws sound) refl (λ r. refl)
+
+  -- A tray that is served feeds its votes.
+  tray-all : tray (ledgerOf ws) (length lent) (length places) votes ≡ trayServed (serve (ledgerOf ws) (votesIn votes)) → Did ws (map input.Vote (votesIn votes)) answer ws' left
+  unfolding trayServed toldIn
+  tray-all e =
+      let l = ledgerOf ws in
+      let vs = votesIn votes in
+      tray-did-as (trayServed (serve l vs)) (map input.Vote vs) e (serve-sound l vs (sound-ledger ws sound)) (serve-after l vs)
+      (λ r. ap (λ (rs : List Record). among rs r) (read-spelled (serve l vs .records) _) ∙ serve-made l vs r)
+
+  tray-did : Did ws (fedBy (aTray votes places answers) lent) answer ws' left
+  unfolding fedBy tray
+  tray-did =
+      let formed : wellFormed (ledgerOf ws) ≡ true = sound-formed ws sound in
+      by-test (leb outboxWords (length lent) && leb (wholeVotes votes) (length places))
+      (λ t. by-test (eqb (length votes % 4) 0)
+      (λ u. subst (λ (is : List Input). Did ws is answer ws' left) (sym (given-on _ _ _ t ∙ given-on _ _ _ u))
+      (tray-all (given-on _ _ _ formed ∙ given-on _ _ _ t ∙ given-on _ _ _ u)))
+      (λ u. subst (λ (is : List Input). Did ws is answer ws' left) (sym (given-on _ _ _ t ∙ given-off _ _ _ u))
+      (tray-none refusal.BadLength (given-on _ _ _ formed ∙ given-on _ _ _ t ∙ given-off _ _ _ u))))
+      (λ t. subst (λ (is : List Input). Did ws is answer ws' left) (sym (given-off _ _ _ t))
+      (tray-none refusal.NoRoom (given-on _ _ _ formed ∙ given-off _ _ _ t)))
+
+-- A call of either operation.
+call-did : (ws lent : List ℕ) (o : Operation) (answer : StepAnswer) (ws' left : List ℕ) → soundWords ws ≡ true → Meets o ws lent answer ws' left
+    → Did ws (fedBy o lent) answer ws' left
+call-did ws lent (oneInput i) answer ws' left e s = step-did ws lent i answer ws' left e s
+call-did ws lent (aTray votes places answers) answer ws' left e s = tray-did ws lent votes places answer ws' left answers e s
 
 -- ---- many calls
 
-module _ (c : Call) (cs : List Call) where
-  inputs-fed : outboxWords ≤ length (c .lent) → inputsOf (c ∷ cs) ≡ c .input ∷ inputsOf cs
-  unfolding inputsOf
-  inputs-fed h = given-on _ _ _ (le-leb outboxWords (length (c .lent)) h)
-
-  inputs-short : length (c .lent) < outboxWords → inputsOf (c ∷ cs) ≡ inputsOf cs
-  unfolding inputsOf
-  inputs-short h = given-off _ _ _ (lt-leb outboxWords (length (c .lent)) h)
+made-both : (l : Ledger) (is js : List Input) (r : Record) → madeIn l (is ++ js) r ≡ (madeIn l is r || madeIn (afterAll l is) js r)
+unfolding madeIn afterAll
+made-both l [] js r = refl
+made-both l (i ∷ is) js r =
+    ap (λ (t : Bool). among (feed l i .records) r || t) (made-both (feed l i .ledger) is js r)
+    ∙ sym (or-assoc (among (feed l i .records) r) (madeIn (feed l i .ledger) is r) (madeIn (afterAll (feed l i .ledger) is) js r))
 
 -- What a history has done: the words are sound, their ledger is the one after the inputs, and what was told is what was made.
 pub record DidAll (l : Ledger) (ws : List ℕ) (cs : List Call) : Type 0 where
@@ -108,34 +204,22 @@ pub record DidAll (l : Ledger) (ws : List ℕ) (cs : List Call) : Type 0 where
   pub ledger : ledgerOf (lastOf ws cs) ≡ afterAll l (inputsOf cs)
   pub told : (r : Record) → toldBy cs r ≡ madeIn l (inputsOf cs) r
 
-pub all-done : (l : Ledger) (ws : List ℕ) (cs : List Call) → soundWords ws ≡ true → ledgerOf ws ≡ l → Calls ws cs → DidAll l ws cs
-unfolding lastOf toldBy afterAll madeIn inputsOf
-all-done l ws [] e q noMore = record { sound = e; ledger = q; told = λ r. refl }
-all-done l ws (c ∷ cs) e q (called s k) =
-    by-test (leb outboxWords (length (c .lent)))
-    (λ t.
-    let h : outboxWords ≤ length (c .lent) = leb-true outboxWords (length (c .lent)) t in
-    let d = call-fed ws c e s h in
-    let a = all-done (feed (ledgerOf ws) (c .input) .ledger) (c .words) cs (d .sound) (d .ledger) k in
-    let i : inputsOf (c ∷ cs) ≡ c .input ∷ inputsOf cs = inputs-fed c cs h in
+pub all-done : (ws : List ℕ) (cs : List Call) → soundWords ws ≡ true → Calls ws cs → DidAll (ledgerOf ws) ws cs
+unfolding lastOf toldBy inputsOf afterAll madeIn
+all-done ws [] e noMore = record { sound = e; ledger = refl; told = λ r. refl }
+all-done ws (c ∷ cs) e (called s k) =
+    let l = ledgerOf ws in
+    let is = fedBy (c .operation) (c .lent) in
+    let d = call-did ws (c .lent) (c .operation) (c .answer) (c .words) (c .left) e s in
+    let a = all-done (c .words) cs (d .sound) k in
     record {
       sound = a .sound;
-      ledger = a .ledger ∙ ap (λ (m : Ledger). afterAll (feed m (c .input) .ledger) (inputsOf cs)) q ∙ ap (afterAll l) (sym i);
+      ledger = a .ledger ∙ ap (λ (m : Ledger). afterAll m (inputsOf cs)) (d .ledger) ∙ sym (life-on l is (inputsOf cs));
       told = λ r.
-          (λ j. among (d .told j) r || a .told r j)
-          ∙ ap (λ (m : Ledger). among (feed m (c .input) .records) r || madeIn (feed m (c .input) .ledger) (inputsOf cs) r) q
-          ∙ ap (λ (is : List Input). madeIn l is r) (sym i);
-    })
-    (λ t.
-    let h : length (c .lent) < outboxWords = leb-false outboxWords (length (c .lent)) t in
-    let d = call-short ws c e s h in
-    let a = all-done l (c .words) cs (d .sound) (d .ledger ∙ q) k in
-    let i : inputsOf (c ∷ cs) ≡ inputsOf cs = inputs-short c cs h in
-    record {
-      sound = a .sound;
-      ledger = a .ledger ∙ ap (afterAll l) (sym i);
-      told = λ r. (λ j. among (d .told j) r || a .told r j) ∙ ap (λ (is : List Input). madeIn l is r) (sym i);
-    })
+          (λ j. d .told r j || a .told r j)
+          ∙ ap (λ (m : Ledger). madeIn l is r || madeIn m (inputsOf cs) r) (d .ledger)
+          ∙ sym (made-both l is (inputsOf cs) r);
+    }
 
 -- ---- a life
 
@@ -158,7 +242,5 @@ module _ (stakes : List ℕ) (own genesis : ℕ) (life : Life) (h : Lived stakes
   pub lived : DidAll (fresh stakes own genesis) (life .words) (life .calls)
   lived =
       let f : Sound (fresh stakes own genesis) = fresh-sound stakes own genesis (started .0) in
-      all-done (fresh stakes own genesis) (life .words) (life .calls)
-      (ap soundWords (started .1) ∙ spelled-sound (fresh stakes own genesis) f)
-      (ap ledgerOf (started .1) ∙ spelled-back (fresh stakes own genesis) f)
-      (h .steps)
+      subst (λ (l : Ledger). DidAll l (life .words) (life .calls)) (ap ledgerOf (started .1) ∙ spelled-back (fresh stakes own genesis) f)
+      (all-done (life .words) (life .calls) (ap soundWords (started .1) ∙ spelled-sound (fresh stakes own genesis) f) (h .steps))

@@ -1,7 +1,7 @@
 -- The premise on the code can be met: every ring of the safety theorem is one of calls.
 use mathlib.Core.Path.{_≡_, refl, sym, ap, _∙_, subst}
 use mathlib.Core.Bool.{Bool, true, not}
-use mathlib.Core.List.{List, [], _∷_}
+use mathlib.Core.List.{List, [], _∷_, _++_}
 use Prim.Native.Nat.{ℕ}
 use native.Mathlib.Omega.{arith}
 use lib.ListN.{length, replicate, length-replicate}
@@ -22,7 +22,7 @@ use Rattle.soundness.specs.Starting.{startJudged, startAnswer, startLeft}
 use Rattle.node.specs.Stepping.{stepLeaves}
 use Rattle.safety.specs.Ballots.{has, recordFor}
 use Rattle.safety.specs.Ring.{afterAll, madeIn}
-use Rattle.histories.specs.Calls.{Call, Calls, noMore, called, inputsOf, Life, Lived, leftBy}
+use Rattle.histories.specs.Calls.{oneInput, Call, Calls, noMore, called, fedBy, inputsOf, Life, Lived, leftBy}
 use Rattle.histories.specs.Ring.{CodeRingMet}
 use Rattle.histories.proofs.Lives.{lived}
 
@@ -41,7 +41,7 @@ callFor : List ℕ → Input → Call
 callFor ws i =
     let out = zeros outboxWords in
     record {
-      input = i;
+      operation = oneInput i;
       lent = out;
       answer = stepLeaves ws out i .answer;
       words = stepLeaves ws out i .words;
@@ -61,10 +61,11 @@ pub room : leb outboxWords (length (zeros outboxWords)) ≡ true
 room = let e = zeros-long outboxWords in le-leb outboxWords (length (zeros outboxWords)) (omega (arith, e))
 
 inputs-fed : (ws : List ℕ) (is : List Input) → inputsOf (callsFor ws is) ≡ is
-unfolding callsFor callFor inputsOf
+unfolding callsFor callFor inputsOf fedBy
 inputs-fed ws [] = refl
 inputs-fed ws (i ∷ is) =
-    given-on (leb outboxWords (length (zeros outboxWords))) _ _ room ∙ ap (λ (js : List Input). i ∷ js) (inputs-fed (callFor ws i .words) is)
+    ap (λ (js : List Input). js ++ inputsOf (callsFor (callFor ws i .words) is)) (given-on (leb outboxWords (length (zeros outboxWords))) _ _ room)
+    ∙ ap (λ (js : List Input). i ∷ js) (inputs-fed (callFor ws i .words) is)
 
 -- ---- a life
 

@@ -1,10 +1,11 @@
--- A node's life as a host sees it: a start, and calls of the public step, each known by its contract alone.
-use mathlib.Core.Bool.{Bool, false, _||_}
-use mathlib.Core.List.{List, [], _∷_}
-use Prim.Native.Nat.{ℕ, zero, suc}
+-- A node's life as a host sees it: a start, and then calls of the public step and of the tray in any mixture, each known by its contract alone.
+use mathlib.Core.Bool.{Bool, false, _&&_, _||_}
+use mathlib.Core.List.{List, [], _∷_, _++_, map}
+use Prim.Native.Nat.{ℕ, zero, suc, _%_}
 use lib.ListN.{length}
-use lib.Dec.{leb}
+use lib.Dec.{eqb, leb}
 use Rattle.rulebook.specs.declared.Input.{Input}
+use Rattle.rulebook.specs.declared.Input.the-variants as input
 use Rattle.rulebook.specs.declared.StartAnswer.the-variants.{Started}
 use Rattle.rulebook.specs.declared.StepAnswer.{StepAnswer}
 use Rattle.rulebook.specs.declared.StepAnswer.the-variants.{Done, Refused}
@@ -13,20 +14,32 @@ use Rattle.rulebook.specs.Rules.{Record, recordOf}
 use Rattle.rulebook.specs.WellFormed.{outboxWords}
 use Rattle.soundness.specs.Starting.{StartOf}
 use Rattle.node.specs.Stepping.{StepOf}
+use Rattle.trays.specs.Trays.{votesIn, wholeVotes}
+use Rattle.trays.specs.Lent.{TrayOf}
 use Rattle.safety.specs.Ballots.{among}
 
--- One call: the input, the outbox that was lent, the answer, and the record's and the outbox's words afterwards.
+-- What was called: a step with its input, or a tray with the votes' words and the words of the answer buffer, as lent and as left.
+pub data Operation : Type 0 where
+  oneInput : Input → Operation
+  aTray : (votes places answers : List ℕ) → Operation
+
+-- One call: the operation, the outbox that was lent, the answer, and the record's and the outbox's words afterwards.
 pub record Call : Type 0 where
-  pub input : Input
+  pub operation : Operation
   pub lent : List ℕ
   pub answer : StepAnswer
   pub words : List ℕ
   pub left : List ℕ
 
--- Calls one after the other, each as step's contract has it on the words that the one before left.
+-- What the operation's contract has of its answer and of all memory afterwards.
+abbrev pub Meets : Operation → List ℕ → List ℕ → StepAnswer → List ℕ → List ℕ → Type 0
+Meets (oneInput i) ws lent r ws' left = StepOf ws lent i r ws' left
+Meets (aTray votes places answers) ws lent r ws' left = TrayOf ws lent votes places r ws' left answers
+
+-- Calls one after the other, each as its operation's contract has it on the words that the one before left.
 pub data Calls : List ℕ → List Call → Type 0 where
   noMore : {ws : List ℕ} → Calls ws []
-  called : {ws : List ℕ} {c : Call} {cs : List Call} → StepOf ws (c .lent) (c .input) (c .answer) (c .words) (c .left)
+  called : {ws : List ℕ} {c : Call} {cs : List Call} → Meets (c .operation) ws (c .lent) (c .answer) (c .words) (c .left)
       → Calls (c .words) cs → Calls ws (c ∷ cs)
 
 -- The record's words after them.
@@ -34,10 +47,18 @@ unfoldable pub lastOf : List ℕ → List Call → List ℕ
 lastOf ws [] = ws
 lastOf ws (c ∷ cs) = lastOf (c .words) cs
 
--- The inputs that the node was fed: a call without room in its outbox feeds nothing.
+-- The inputs that a call feeds: a step its one, a tray its votes. A call without room in its outbox, or for a tray's answers, feeds nothing,
+-- and so does a tray with a part of a vote at its end.
+unfoldable pub fedBy : Operation → List ℕ → List Input
+fedBy (oneInput i) lent = given (leb outboxWords (length lent)) [] (λ _. i ∷ [])
+fedBy (aTray votes places answers) lent =
+    given (leb outboxWords (length lent) && leb (wholeVotes votes) (length places)) []
+    (λ _. given (eqb (length votes % 4) 0) [] (λ _. map input.Vote (votesIn votes)))
+
+-- The inputs that the node was fed.
 unfoldable pub inputsOf : List Call → List Input
 inputsOf [] = []
-inputsOf (c ∷ cs) = given (leb outboxWords (length (c .lent))) (inputsOf cs) (λ _. c .input ∷ inputsOf cs)
+inputsOf (c ∷ cs) = fedBy (c .operation) (c .lent) ++ inputsOf cs
 
 -- The first n records of an outbox, three words each.
 unfoldable pub firstRecords : ℕ → List ℕ → List Record

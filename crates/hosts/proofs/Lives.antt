@@ -1,11 +1,9 @@
--- A history of calls of the C functions is a life of a node: each call is a call of the public step, with the same words and the same records.
+-- A history of calls of the C functions is a life of a node: each call is one of a public operation, with the same words and the same records.
 use mathlib.Core.Path.{_≡_, refl, sym, ap, _∙_}
 use mathlib.Core.Bool.{_||_}
 use mathlib.Core.List.{List, [], _∷_, _++_}
 use Prim.Native.Nat.{ℕ}
 use native.Mathlib.Omega.{arith}
-use lib.ListN.{length}
-use lib.Dec.{leb}
 use Rattle.rulebook.specs.declared.Input.{Input}
 use Rattle.rulebook.specs.declared.Refusal.{Refusal}
 use Rattle.rulebook.specs.declared.Refusal.the-variants as refusal
@@ -14,16 +12,15 @@ use Rattle.rulebook.specs.declared.StartAnswer.the-variants as start
 use Rattle.rulebook.specs.declared.StepAnswer.{StepAnswer}
 use Rattle.rulebook.specs.declared.StepAnswer.the-variants.{Done, Refused}
 use Rattle.rulebook.specs.PaperNumbers.{refusalNumber, startPanel, stepPanel}
-use Rattle.rulebook.specs.Tools.{given}
 use Rattle.rulebook.specs.Rules.{Record}
-use Rattle.rulebook.specs.WellFormed.{outboxWords}
 use Rattle.soundness.specs.Starting.{startJudged, startAnswer}
 use Rattle.node.specs.Stepping.{stepLeaves}
+use Rattle.trays.specs.Lent.{trayLeaves}
 use Rattle.safety.specs.Ballots.{among}
 use Rattle.histories.specs.Calls as code
-use Rattle.histories.specs.Calls.{Call, Calls, Life, Lived, lastOf, inputsOf, firstRecords, toldIn, toldBy}
+use Rattle.histories.specs.Calls.{Call, Meets, Calls, Life, Lived, lastOf, fedBy, inputsOf, firstRecords, toldIn, toldBy}
 use Rattle.answers.specs.Face.{Beside, Started}
-use Rattle.hosts.specs.Calls.{inputFor, HostCall, HostCalls, noMore, called, lastWords, inputsFed, toldOut, HostLife, HostLived, SteppedIsStep, StartedIsStart}
+use Rattle.hosts.specs.Calls.{inputFor, Function, asks, qr-tray, operationFor, HostMeets, HostCall, HostCalls, noMore, called, lastWords, inputsFed, toldOut, HostLife, HostLived, HostCallIsCall, StartedIsStart}
 
 -- No refusal's number is 0.
 pub refusal-above : {X : Type 0} (r : Refusal) → refusalNumber r ≡ 0 → X
@@ -69,12 +66,27 @@ module _ (number made : ℕ) where
   made-told (Done n) left b = let q : made ≡ n = cc in ap (λ (k : ℕ). firstRecords k left) (sym q)
   made-told (Refused r) left b = let q : 0 ≡ made = cc in ap (λ (k : ℕ). firstRecords k left) q
 
-pub stepped-is-step : SteppedIsStep
-stepped-is-step ws out i number made ws′ left s =
-    let a = stepLeaves ws out i .answer in
+-- What the operation answers on these words.
+pub answerOf : Function → List ℕ → List ℕ → StepAnswer
+answerOf (asks a) ws out = stepLeaves ws out (inputFor a) .answer
+answerOf (qr-tray votes places answers) ws out = trayLeaves ws out votes places .answer
+
+pub host-call-is-call : HostCallIsCall
+unfolding answerOf
+host-call-is-call (asks q) ws out number made ws' left s =
+    let a = answerOf (asks q) ws out in
     record {
       answer = a;
-      step = record { answered = refl; words = s .words; outbox = s .outbox };
+      meets = record { answered = refl; words = s .words; outbox = s .outbox };
+      done = done-made number made a (s .numbered) (s .counted);
+      zero = made-done number made a (s .numbered) (s .counted);
+      told = made-told number made a left (s .counted);
+    }
+host-call-is-call (qr-tray votes places answers) ws out number made ws' left s =
+    let a = answerOf (qr-tray votes places answers) ws out in
+    record {
+      answer = a;
+      meets = record { answered = refl; words = s .words; outbox = s .outbox; answers = s .answered };
       done = done-made number made a (s .numbered) (s .counted);
       zero = made-done number made a (s .numbered) (s .counted);
       told = made-told number made a left (s .counted);
@@ -94,13 +106,13 @@ started-is-start ws stakes own genesis number left s = (
 
 -- ---- many calls
 
--- Each call as a call of the public step, on the words that it found.
+-- Each call as one of the public operation, on the words that it found, with the answer that its contract has.
 pub callOf : List ℕ → HostCall → Call
 callOf ws c =
     record {
-      input = inputFor (c .asked);
+      operation = operationFor (c .function);
       lent = c .lent;
-      answer = stepLeaves ws (c .lent) (inputFor (c .asked)) .answer;
+      answer = answerOf (c .function) ws (c .lent);
       words = c .words;
       left = c .left;
     }
@@ -109,11 +121,20 @@ pub callsOf : List ℕ → List HostCall → List Call
 callsOf ws [] = []
 callsOf ws (c ∷ cs) = callOf ws c ∷ callsOf (c .words) cs
 
+-- The contract and what is told, of one function's call.
+call-meets : (f : Function) (ws out : List ℕ) (number made : ℕ) (ws' left : List ℕ) → HostMeets f ws out number made ws' left
+    → Meets (operationFor f) ws out (answerOf f ws out) ws' left × (toldIn (answerOf f ws out) left ≡ firstRecords made left)
+unfolding host-call-is-call
+call-meets (asks a) ws out number made ws' left s =
+    let k = host-call-is-call (asks a) ws out number made ws' left s in (k .meets, k .told)
+call-meets (qr-tray votes places answers) ws out number made ws' left s =
+    let k = host-call-is-call (qr-tray votes places answers) ws out number made ws' left s in (k .meets, k .told)
+
 pub calls-meet : (ws : List ℕ) (cs : List HostCall) → HostCalls ws cs → Calls ws (callsOf ws cs)
-unfolding callsOf callOf stepped-is-step
+unfolding callsOf callOf
 calls-meet ws [] noMore = code.noMore
 calls-meet ws (c ∷ cs) (called s k) =
-    code.called (stepped-is-step ws (c .lent) (inputFor (c .asked)) (c .number) (c .made) (c .words) (c .left) s .step) (calls-meet (c .words) cs k)
+    code.called (call-meets (c .function) ws (c .lent) (c .number) (c .made) (c .words) (c .left) s .0) (calls-meet (c .words) cs k)
 
 -- Calls up to a moment, and those after it.
 pub calls-split : (ws : List ℕ) (before later : List HostCall) → callsOf ws (before ++ later) ≡ callsOf ws before ++ callsOf (lastWords ws before) later
@@ -130,14 +151,13 @@ last-is ws (c ∷ cs) = last-is (c .words) cs
 pub inputs-are : (ws : List ℕ) (cs : List HostCall) → inputsOf (callsOf ws cs) ≡ inputsFed cs
 unfolding callsOf callOf inputsOf inputsFed
 inputs-are ws [] = refl
-inputs-are ws (c ∷ cs) =
-    ap (λ (is : List Input). given (leb outboxWords (length (c .lent))) is (λ _. inputFor (c .asked) ∷ is)) (inputs-are (c .words) cs)
+inputs-are ws (c ∷ cs) = ap (λ (is : List Input). fedBy (operationFor (c .function)) (c .lent) ++ is) (inputs-are (c .words) cs)
 
 pub told-is : (ws : List ℕ) (cs : List HostCall) → HostCalls ws cs → (r : Record) → toldBy (callsOf ws cs) r ≡ toldOut cs r
-unfolding callsOf callOf toldBy toldOut stepped-is-step
+unfolding callsOf callOf toldBy toldOut
 told-is ws [] noMore r = refl
 told-is ws (c ∷ cs) (called s k) r =
-    let t = stepped-is-step ws (c .lent) (inputFor (c .asked)) (c .number) (c .made) (c .words) (c .left) s .told in
+    let t = call-meets (c .function) ws (c .lent) (c .number) (c .made) (c .words) (c .left) s .1 in
     λ i. among (t i) r || told-is (c .words) cs k r i
 
 -- ---- a life

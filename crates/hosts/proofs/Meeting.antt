@@ -1,6 +1,6 @@
 -- The premise on the C face can be met: every ring of the safety theorem is one of calls of the C functions.
 use mathlib.Core.Path.{_≡_, refl, sym, ap, _∙_, subst}
-use mathlib.Core.List.{List, [], _∷_}
+use mathlib.Core.List.{List, [], _∷_, _++_}
 use Prim.Native.Nat.{ℕ}
 use lib.ListN.{length}
 use lib.Dec.{T, leb}
@@ -27,11 +27,11 @@ use Rattle.soundness.specs.Starting.{startAnswer, startLeft}
 use Rattle.node.specs.Stepping.{stepLeaves}
 use Rattle.safety.specs.Ballots.{has, recordFor}
 use Rattle.safety.specs.Ring.{afterAll, madeIn}
-use Rattle.histories.specs.Calls.{inputsOf}
+use Rattle.histories.specs.Calls.{fedBy, inputsOf}
 use Rattle.histories.proofs.Lives.{lived}
 use Rattle.histories.proofs.Meeting.{zeros, room, judged}
 use Rattle.answers.specs.Face.{Beside}
-use Rattle.hosts.specs.Calls.{Asked, qr-vote, qr-block, qr-timeout, qr-look, inputFor, HostCall, HostCalls, noMore, called, inputsFed, HostLife, HostLived, wordsLeft, toldOut}
+use Rattle.hosts.specs.Calls.{Asked, qr-vote, qr-block, qr-timeout, qr-look, asks, inputFor, HostCall, HostCalls, noMore, called, inputsFed, HostLife, HostLived, wordsLeft, toldOut}
 use Rattle.hosts.specs.Ring.{HostRingMet}
 use Rattle.hosts.proofs.Lives.{last-is, inputs-are, told-is, lifeOf, lived-is}
 
@@ -74,7 +74,7 @@ callFor : List ℕ → Input → HostCall
 callFor ws i =
     let f = stepLeaves ws (zeros outboxWords) (inputFor (askedFor i)) in
     record {
-      asked = askedFor i;
+      function = asks (askedFor i);
       lent = zeros outboxWords;
       number = stepPanel (f .answer) .number;
       made = countOf (f .answer);
@@ -94,10 +94,11 @@ calls-meet ws (i ∷ is) =
     (calls-meet (callFor ws i .words) is)
 
 inputs-fed : (ws : List ℕ) (is : List Input) → inputsFed (callsFor ws is) ≡ is
-unfolding callsFor callFor inputsFed
+unfolding callsFor callFor inputsFed fedBy
 inputs-fed ws [] = refl
 inputs-fed ws (i ∷ is) =
-    given-on (leb outboxWords (length (zeros outboxWords))) _ _ room ∙ (λ j. asked-is i j ∷ inputs-fed (callFor ws i .words) is j)
+    ap (λ (js : List Input). js ++ inputsFed (callsFor (callFor ws i .words) is)) (given-on (leb outboxWords (length (zeros outboxWords))) _ _ room)
+    ∙ (λ j. asked-is i j ∷ inputs-fed (callFor ws i .words) is j)
 
 -- ---- a life
 

@@ -1,26 +1,22 @@
--- A node's life as a host in C sees it: qr_start, and calls of qr_vote, qr_block, qr_timeout and qr_look, each known by its contract alone.
+-- A node's life as a host in C sees it: qr_start, and calls of qr_vote, qr_block, qr_timeout, qr_look and qr_tray, each known by its contract
+-- alone.
 use mathlib.Core.Path.{_≡_}
 use mathlib.Core.Bool.{Bool, false, _||_}
-use mathlib.Core.List.{List, [], _∷_}
+use mathlib.Core.List.{List, [], _∷_, _++_}
 use Prim.Native.Nat.{ℕ}
-use lib.ListN.{length}
-use lib.Dec.{leb}
 use Rattle.rulebook.specs.declared.Input.{Input}
 use Rattle.rulebook.specs.declared.Input.the-variants as input
 use Rattle.rulebook.specs.declared.StartAnswer.the-variants as start
 use Rattle.rulebook.specs.declared.StepAnswer.{StepAnswer}
 use Rattle.rulebook.specs.declared.StepAnswer.the-variants.{Done}
-use Rattle.rulebook.specs.Tools.{given}
 use Rattle.rulebook.specs.Rules.{Record}
-use Rattle.rulebook.specs.WellFormed.{outboxWords}
 use Rattle.soundness.specs.Starting.{StartOf}
-use Rattle.node.specs.Stepping.{StepOf}
 use Rattle.safety.specs.Ballots.{among}
-use Rattle.histories.specs.Calls.{firstRecords, toldIn}
+use Rattle.histories.specs.Calls.{Operation, oneInput, aTray, Meets, fedBy, firstRecords, toldIn}
 use Rattle.inputs.specs.Inputs.{voteInput, blockInput, timeoutInput}
-use Rattle.answers.specs.Face.{Started, Stepped}
+use Rattle.answers.specs.Face.{Started, Stepped, Trayed}
 
--- The function that was called, and the numbers that it was given.
+-- The function that feeds one input, and the numbers that it was given.
 pub data Asked : Type 0 where
   qr-vote : (kind node slot block : ℕ) → Asked
   qr-block : (slot number parentslot parent : ℕ) → Asked
@@ -34,10 +30,25 @@ inputFor (qr-block s b ps p) = blockInput s b ps p
 inputFor (qr-timeout s) = timeoutInput s
 inputFor qr-look = input.Look
 
--- One call: what was asked, the outbox that was lent, the number answered, what `made` holds afterwards, and the record's and the outbox's
+-- The function that was called: one of these, or qr_tray with the votes' words and the words of the answer buffer, as lent and as left.
+pub data Function : Type 0 where
+  asks : Asked → Function
+  qr-tray : (votes places answers : List ℕ) → Function
+
+-- The public operation that it stands for.
+abbrev pub operationFor : Function → Operation
+operationFor (asks a) = oneInput (inputFor a)
+operationFor (qr-tray votes places answers) = aTray votes places answers
+
+-- What the function's contract has of the number answered, of `made` and of all memory afterwards.
+abbrev pub HostMeets : Function → List ℕ → List ℕ → ℕ → ℕ → List ℕ → List ℕ → Type 0
+HostMeets (asks a) ws lent number made ws' left = Stepped ws lent (inputFor a) number made ws' left
+HostMeets (qr-tray votes places answers) ws lent number made ws' left = Trayed ws lent votes places number made ws' left answers
+
+-- One call: the function, the outbox that was lent, the number answered, what `made` holds afterwards, and the record's and the outbox's
 -- words afterwards.
 pub record HostCall : Type 0 where
-  pub asked : Asked
+  pub function : Function
   pub lent : List ℕ
   pub number : ℕ
   pub made : ℕ
@@ -48,7 +59,7 @@ pub record HostCall : Type 0 where
 pub data HostCalls : List ℕ → List HostCall → Type 0 where
   noMore : {ws : List ℕ} → HostCalls ws []
   called : {ws : List ℕ} {c : HostCall} {cs : List HostCall}
-      → Stepped ws (c .lent) (inputFor (c .asked)) (c .number) (c .made) (c .words) (c .left)
+      → HostMeets (c .function) ws (c .lent) (c .number) (c .made) (c .words) (c .left)
       → HostCalls (c .words) cs → HostCalls ws (c ∷ cs)
 
 -- The record's words after them.
@@ -56,10 +67,10 @@ unfoldable pub lastWords : List ℕ → List HostCall → List ℕ
 lastWords ws [] = ws
 lastWords ws (c ∷ cs) = lastWords (c .words) cs
 
--- The inputs that the node was fed: a call without room in its outbox feeds nothing.
+-- The inputs that the node was fed.
 unfoldable pub inputsFed : List HostCall → List Input
 inputsFed [] = []
-inputsFed (c ∷ cs) = given (leb outboxWords (length (c .lent))) (inputsFed cs) (λ _. inputFor (c .asked) ∷ inputsFed cs)
+inputsFed (c ∷ cs) = fedBy (operationFor (c .function)) (c .lent) ++ inputsFed cs
 
 -- The record was told in one of the calls: it is among the outbox's first records, as many as `made` says.
 unfoldable pub toldOut : List HostCall → Record → Bool
@@ -83,18 +94,20 @@ pub record HostLived (stakes : List ℕ) (own genesis : ℕ) (l : HostLife) : Ty
 
 -- ---- the C functions are the operations
 
--- What a call of the C face says of the public step: the step's contract holds with an answer that is "done" exactly where the number is 0,
--- and then with as many records as `made` says; and what it tells is what stands in the outbox's front, as many records as `made` says.
-pub record AsStep (ws out : List ℕ) (i : Input) (number made : ℕ) (ws′ left : List ℕ) : Type 0 where
+-- What a call of the C face says of the public operation: the operation's contract holds with an answer that is "done" exactly where the
+-- number is 0, and then with as many records as `made` says; and what it tells is what stands in the outbox's front, as many records as `made`
+-- says.
+pub record AsCall (o : Operation) (ws out : List ℕ) (number made : ℕ) (ws' left : List ℕ) : Type 0 where
   pub answer : StepAnswer
-  pub step : StepOf ws out i answer ws′ left
+  pub meets : Meets o ws out answer ws' left
   pub done : number ≡ 0 → answer ≡ Done made
   pub zero : (n : ℕ) → answer ≡ Done n → (number ≡ 0) × (made ≡ n)
   pub told : toldIn answer left ≡ firstRecords made left
 
-abbrev pub SteppedIsStep : Type 0
-SteppedIsStep =
-    (ws out : List ℕ) (i : Input) (number made : ℕ) (ws′ left : List ℕ) → Stepped ws out i number made ws′ left → AsStep ws out i number made ws′ left
+abbrev pub HostCallIsCall : Type 0
+HostCallIsCall =
+    (f : Function) (ws out : List ℕ) (number made : ℕ) (ws' left : List ℕ) → HostMeets f ws out number made ws' left
+    → AsCall (operationFor f) ws out number made ws' left
 
 -- A start of the C face is answered 0 exactly where the start is accepted, with the same words.
 abbrev pub StartedIsStart : Type 0

@@ -39,8 +39,8 @@ module _ (stakes : List ℕ) (genesis : ℕ → ℕ) (honest : Test) (lives : �
     pub nodes : HostNodes
     pub counted : (n m s : ℕ) (v : Ballot) → T (honest n) → T (honest m) → ¬ (m ≡ n) → T (countedBallot lives n m s v) → T (toldBallot lives m s v)
 
-  -- The same with the last part over what is fed: a vote given to qr_vote at one honest node in another's name is one that the other's outbox
-  -- told.
+  -- The same with the last part over what is fed: a vote given to qr_vote, or in a tray to qr_tray, at one honest node in another's name is one
+  -- that the other's outbox told.
   pub record HostFedRing : Type 0 where
     pub nodes : HostNodes
     pub mail : (n m s : ℕ) (v : Ballot) → T (honest n) → T (honest m) → ¬ (m ≡ n) → T (broughtBy (inputsFed (lives n .calls)) s m v) → T (toldBallot lives m s v)

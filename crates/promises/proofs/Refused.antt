@@ -1,7 +1,8 @@
 -- A refusal leaves all lent memory as found. Assumes nothing.
 use mathlib.Core.Path.{_≡_, refl, sym, ap, _∙_}
+use mathlib.Core.Bool.{_&&_}
 use mathlib.Core.List.{List, [], _∷_, _++_}
-use Prim.Native.Nat.{ℕ, _*_}
+use Prim.Native.Nat.{ℕ, _*_, _%_}
 use native.Mathlib.Omega.{arith}
 use lib.ListN.{length, drop}
 use lib.Dec.{eqb, leb}
@@ -32,9 +33,12 @@ use Rattle.record.proofs.Spelled.{words-ledger}
 use Rattle.soundness.specs.Sound.{soundWords}
 use Rattle.soundness.specs.Starting.{startJudged, startAnswer, startLeft}
 use Rattle.node.specs.Stepping.{Leaves, spelled, asFound, asFed, stepLeaves}
+use Rattle.trays.specs.Trays.{votesIn, wholeVotes, Served, serve, Tray, trayRefused, trayServed, tray}
+use Rattle.trays.specs.Lent as lent
+use Rattle.trays.specs.Lent.{asServed, trayLeaves}
 use Rattle.writers.specs.Writing.{unsound, certificateOn, proofOn}
 use Rattle.answers.specs.Face.{Beside}
-use Rattle.promises.specs.Refusals.{StartRefused, StepRefused, CertificateRefused, ProofRefused, MessageRefused, FaceStartRefused, FaceStepRefused, FaceCertificateRefused, FaceProofRefused, FaceMessageRefused, FaceCheckRefused}
+use Rattle.promises.specs.Refusals.{StartRefused, StepRefused, TrayRefused, CertificateRefused, ProofRefused, MessageRefused, FaceStartRefused, FaceStepRefused, FaceTrayRefused, FaceCertificateRefused, FaceProofRefused, FaceMessageRefused, FaceCheckRefused}
 use Rattle.promises.proofs.Numbered.{start-refusal, step-refusal, write-refusal, check-refusal}
 
 -- ---- start
@@ -87,6 +91,46 @@ step-refused ws out i r ws' left h =
     (λ t.
     let q : stepLeaves ws out i ≡ asFound refusal.BadRecord ws out = given-off _ _ _ t in
     (h .words ∙ ap (λ (x : Leaves). x .words) q, h .outbox ∙ ap (λ (x : Leaves). x .outbox) q))
+
+-- ---- the tray
+
+-- A refused tray keeps the ledger, makes no record and answers no vote.
+abbrev TrayKept : Ledger → Tray → Type 0
+TrayKept l t = (r : Refusal) → t .answer ≡ step-answer.Refused r → t ≡ trayRefused l r
+
+tray-refusal : (l : Ledger) (x : Refusal) → TrayKept l (trayRefused l x)
+unfolding trayRefused
+tray-refusal l x r e = let q : x ≡ r = cc in ap (trayRefused l) q
+
+tray-served : (l : Ledger) (s : Served) → TrayKept l (trayServed s)
+unfolding trayServed
+tray-served l s r e = let z : _≡_ {A = ℕ} 0 1 = cc in absurd (omega arith)
+
+tray-kept : (l : Ledger) (room places : ℕ) (votes : List ℕ) → TrayKept l (tray l room places votes)
+unfolding tray
+tray-kept l room places votes =
+    given-keeps (TrayKept l) (wellFormed l) _ _ (tray-refusal l refusal.BadRecord)
+    (λ _. given-keeps (TrayKept l) (leb outboxWords room && leb (wholeVotes votes) places) _ _ (tray-refusal l refusal.NoRoom)
+    (λ _. given-keeps (TrayKept l) (eqb (length votes % 4) 0) _ _ (tray-refusal l refusal.BadLength) (λ _. tray-served l (serve l (votesIn votes)))))
+
+pub tray-refused : TrayRefused
+unfolding trayLeaves trayRefused serve spelled over
+tray-refused ws out votes places r ws' left answers h =
+    by-test (eqb (length ws) recordWords)
+    (λ t.
+    let q : trayLeaves ws out votes places ≡ asServed (tray (ledgerOf ws) (length out) (length places) votes) out places = given-on _ _ _ t in
+    let k = tray-kept (ledgerOf ws) (length out) (length places) votes r (ap (λ (x : lent.Leaves). x .answer) (sym q) ∙ sym (h .answered)) in
+    let f : trayLeaves ws out votes places ≡ asServed (trayRefused (ledgerOf ws) r) out places = q ∙ ap (λ (x : Tray). asServed x out places) k in (
+      h .words ∙ ap (λ (x : lent.Leaves). x .words) f ∙ words-ledger ws (eqb-true (length ws) recordWords t),
+      h .outbox ∙ ap (λ (x : lent.Leaves). x .outbox) f,
+      h .answers ∙ ap (λ (x : lent.Leaves). x .answers) f,
+    ))
+    (λ t.
+    let f : trayLeaves ws out votes places ≡ lent.asFound refusal.BadRecord ws out places = given-off _ _ _ t in (
+      h .words ∙ ap (λ (x : lent.Leaves). x .words) f,
+      h .outbox ∙ ap (λ (x : lent.Leaves). x .outbox) f,
+      h .answers ∙ ap (λ (x : lent.Leaves). x .answers) f,
+    ))
 
 -- ---- the writers
 
@@ -154,6 +198,13 @@ face-step-refused ws out i number made ws' left h ne =
     let x = step-refusal (stepLeaves ws out i .answer) (λ e. ne (h .numbered ∙ e)) in
     let k = step-refused ws out i (x .0) ws' left (record { answered = sym (x .1); words = h .words; outbox = h .outbox }) in
     (step-none (stepLeaves ws out i .answer) made (x .0) (x .1) (h .counted), k .0, k .1)
+
+pub face-tray-refused : FaceTrayRefused
+face-tray-refused ws out votes places number made ws' left answers h ne =
+    let a = trayLeaves ws out votes places .answer in
+    let x = step-refusal a (λ e. ne (h .numbered ∙ e)) in
+    let k = tray-refused ws out votes places (x .0) ws' left answers (record { answered = sym (x .1); words = h .words; outbox = h .outbox; answers = h .answered }) in
+    (step-none a made (x .0) (x .1) (h .counted), k)
 
 pub face-certificate-refused : FaceCertificateRefused
 face-certificate-refused ws buffer k s b number written after h ne =

@@ -1,10 +1,10 @@
--- What the panel shows of the answers of start, step and the writers. Assumes nothing.
+-- What the panel shows of the answers of start, step, tray and the writers. Assumes nothing.
 use mathlib.Core.Path.{_≡_, refl, sym, ap, _∙_}
-use mathlib.Core.Bool.{Bool, true, false, not}
+use mathlib.Core.Bool.{Bool, true, false, not, _&&_}
 use mathlib.Core.List.{List, [], _∷_}
-use Prim.Native.Nat.{ℕ}
+use Prim.Native.Nat.{ℕ, _%_}
 use lib.ListN.{length, length-reverse}
-use lib.Dec.{eqb, ltb}
+use lib.Dec.{eqb, leb, ltb}
 use borrow.Author.Tests.{eq-eqb, ne-eqb, le-ltb, lt-leb, ltb-true, ltb-false}
 use Rattle.rulebook.specs.declared.Input.{Input}
 use Rattle.rulebook.specs.declared.Input.the-variants as input
@@ -15,6 +15,7 @@ use Rattle.rulebook.specs.declared.Refusal.the-variants as refusal
 use Rattle.rulebook.specs.declared.Verdict.{Verdict}
 use Rattle.rulebook.specs.declared.Verdict.the-variants.{Fine, Refused}
 use Rattle.rulebook.specs.declared.Vote.{Vote}
+use Rattle.rulebook.specs.Tools.{given}
 use Rattle.rulebook.specs.PaperNumbers.{Panel, verdictNumber, placeNumber, startPanel, stepPanel, writePanel, refusalNumber}
 use Rattle.rulebook.specs.Ledger.{Ledger, cellAt}
 use Rattle.rulebook.specs.Votes.{placeOf}
@@ -30,8 +31,11 @@ use Rattle.soundness.specs.Sound.{soundWords}
 use Rattle.soundness.specs.Starting.{startJudged, startAnswer}
 use Rattle.soundness.proofs.Laws.{sound-long, sound-formed}
 use Rattle.node.specs.Stepping.{Leaves, stepLeaves}
+use Rattle.trays.specs.Trays.{votesIn, wholeVotes, serve, Tray, trayRefused, trayServed, tray}
+use Rattle.trays.specs.Lent as lent
+use Rattle.trays.specs.Lent.{trayLeaves}
 use Rattle.writers.specs.Writing.{unsound, certificateOn, proofOn}
-use Rattle.promises.specs.Panels.{besideIt, shown, soundFirst, stepJudged, VotePassed, StartShown, StepShown, PlaceShown, CertificateShown, ProofShown}
+use Rattle.promises.specs.Panels.{besideIt, shown, soundFirst, stepJudged, VotePassed, trayJudged, StartShown, StepShown, TrayShown, PlaceShown, CertificateShown, ProofShown}
 
 -- ---- start
 
@@ -136,6 +140,44 @@ unfolding shown
 place-shown ws out v a ws' left p h =
     ap (λ (x : Panel). x .number) (step-shown ws out (input.Vote v) a ws' left h) ∙ ap verdictNumber (vote-judged ws out v p)
     ∙ place-number (placeOf (cellAt (ledgerOf ws) (v .slot .0) (v .node .0)) (v .kind) (v .block))
+
+-- ---- the tray
+
+-- A test of a tray, and what is found after it.
+test-shown : (b : Bool) (l : Ledger) (r : Refusal) (n : ℕ) (f : Unit {0} → Tray) (v : Verdict) → stepPanel (f tt .answer) ≡ shown v (n ∷ [])
+    → stepPanel (given b (trayRefused l r) f .answer) ≡ shown (refuseIf (not b) r v) (n ∷ [])
+unfolding given refuseIf trayRefused stepPanel shown besideIt verdictNumber
+test-shown true l r n f v e = e
+test-shown false l r n f v e = refl
+
+-- 9, then 12, of a run of votes.
+abbrev roomThenPart : List ℕ → List ℕ → List ℕ → Verdict
+roomThenPart out votes places =
+    refuseIf (not (leb outboxWords (length out) && leb (wholeVotes votes) (length places))) refusal.NoRoom
+    (refuseIf (not (eqb (length votes % 4) 0)) refusal.BadLength Fine)
+
+tray-tested : (l : Ledger) (out votes places : List ℕ)
+    → stepPanel (tray l (length out) (length places) votes .answer)
+    ≡ shown (refuseIf (not (wellFormed l)) refusal.BadRecord (roomThenPart out votes places)) (length (serve l (votesIn votes) .records) ∷ [])
+unfolding tray trayServed stepPanel shown besideIt verdictNumber
+tray-tested l out votes places =
+    let n : ℕ = length (serve l (votesIn votes) .records) in
+    test-shown (wellFormed l) l refusal.BadRecord n _ (roomThenPart out votes places)
+    (test-shown (leb outboxWords (length out) && leb (wholeVotes votes) (length places)) l refusal.NoRoom n _ (refuseIf (not (eqb (length votes % 4) 0)) refusal.BadLength Fine)
+    (test-shown (eqb (length votes % 4) 0) l refusal.BadLength n _ Fine refl))
+
+tray-leaves-shown : (ws out votes places : List ℕ)
+    → stepPanel (trayLeaves ws out votes places .answer) ≡ shown (trayJudged ws out votes places) (length (serve (ledgerOf ws) (votesIn votes) .records) ∷ [])
+unfolding trayLeaves trayJudged soundFirst soundWords refuseIf stepPanel shown besideIt verdictNumber
+tray-leaves-shown ws out votes places =
+    let values : List ℕ = length (serve (ledgerOf ws) (votesIn votes) .records) ∷ [] in
+    let first : Bool → Panel = λ b. shown (refuseIf (not (b && wellFormed (ledgerOf ws))) refusal.BadRecord (roomThenPart out votes places)) values in
+    by-test (eqb (length ws) recordWords)
+    (λ t. ap (λ (x : lent.Leaves). stepPanel (x .answer)) (given-on _ _ _ t) ∙ tray-tested (ledgerOf ws) out votes places ∙ ap first (sym t))
+    (λ t. ap (λ (x : lent.Leaves). stepPanel (x .answer)) (given-off _ _ _ t) ∙ ap first (sym t))
+
+pub tray-shown : TrayShown
+tray-shown ws out votes places a ws' left answers h = ap stepPanel (h .answered) ∙ tray-leaves-shown ws out votes places
 
 -- ---- the writers
 

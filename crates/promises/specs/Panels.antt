@@ -3,9 +3,9 @@
 use mathlib.Core.Path.{_≡_}
 use mathlib.Core.Bool.{true, false, not, _&&_}
 use mathlib.Core.List.{List, [], _∷_}
-use Prim.Native.Nat.{ℕ, _≤_, _<_}
+use Prim.Native.Nat.{ℕ, _%_, _≤_, _<_}
 use lib.ListN.{length, replicate}
-use lib.Dec.{eqb, ltb}
+use lib.Dec.{eqb, leb, ltb}
 use Rattle.rulebook.specs.declared.Certificate.{Certificate}
 use Rattle.rulebook.specs.declared.CertificateKind.{CertificateKind}
 use Rattle.rulebook.specs.declared.CertificateKind.the-variants as certificate
@@ -34,6 +34,8 @@ use Rattle.record.specs.Layout.{ledgerOf}
 use Rattle.soundness.specs.Sound.{soundWords}
 use Rattle.soundness.specs.Starting.{startJudged, StartOf}
 use Rattle.node.specs.Stepping.{StepOf}
+use Rattle.trays.specs.Trays.{votesIn, wholeVotes, serve}
+use Rattle.trays.specs.Lent.{TrayOf}
 use Rattle.writers.specs.Writing.{certificateOn, proofOn}
 
 -- "Every refusal answers zeros beside its number".
@@ -64,6 +66,20 @@ abbrev pub StepShown : Type 0
 StepShown =
     (ws out : List ℕ) (i : Input) (a : StepAnswer) (ws' left : List ℕ) → StepOf ws out i a ws' left
     → stepPanel a ≡ shown (stepJudged ws out i) (length (feed (ledgerOf ws) i .records) ∷ [])
+
+-- "17 and 9 are tested once at the start; 9 also when the answer buffer has fewer places than the run has whole votes"; "a part of a vote at the
+-- end is 12, tested after 9".
+unfoldable pub trayJudged : List ℕ → List ℕ → List ℕ → List ℕ → Verdict
+trayJudged ws out votes places =
+    soundFirst ws
+    (refuseIf (not (leb outboxWords (length out) && leb (wholeVotes votes) (length places))) refusal.NoRoom
+    (refuseIf (not (eqb (length votes % 4) 0)) refusal.BadLength Fine))
+
+-- A tray answers the number of records of all its votes together.
+abbrev pub TrayShown : Type 0
+TrayShown =
+    (ws out votes places : List ℕ) (a : StepAnswer) (ws' left answers : List ℕ) → TrayOf ws out votes places a ws' left answers
+    → stepPanel a ≡ shown (trayJudged ws out votes places) (length (serve (ledgerOf ws) (votesIn votes) .records) ∷ [])
 
 -- A vote to which none of 17, 9, 4, 3, 2, 6, 5 is due.
 pub record VotePassed (ws out : List ℕ) (v : Vote) : Type 0 where

@@ -17,8 +17,9 @@ use Rattle.rulebook.specs.Writers.{Writes}
 use Rattle.rulebook.specs.Messages.{writeVote}
 use Rattle.soundness.specs.Starting.{StartOf}
 use Rattle.node.specs.Stepping.{StepOf}
+use Rattle.trays.specs.Lent.{TrayOf}
 use Rattle.writers.specs.Writing.{certificateOn, proofOn}
-use Rattle.answers.specs.Face.{Started, Stepped, Wrote, Checked}
+use Rattle.answers.specs.Face.{Started, Stepped, Trayed, Wrote, Checked}
 
 -- ---- the public operations
 
@@ -31,6 +32,12 @@ StartRefused =
 abbrev pub StepRefused : Type 0
 StepRefused =
     (ws out : List ℕ) (i : Input) (r : Refusal) (ws' left : List ℕ) → StepOf ws out i (step.Refused r) ws' left → (ws' ≡ ws) × (left ≡ out)
+
+-- A refused tray leaves the record, the outbox and the answer buffer as found.
+abbrev pub TrayRefused : Type 0
+TrayRefused =
+    (ws out votes places : List ℕ) (r : Refusal) (ws' left answers : List ℕ) → TrayOf ws out votes places (step.Refused r) ws' left answers
+    → (ws' ≡ ws) × (left ≡ out) × (answers ≡ places)
 
 -- A refused certificate leaves the buffer as found.
 abbrev pub CertificateRefused : Type 0
@@ -62,6 +69,12 @@ abbrev pub FaceStepRefused : Type 0
 FaceStepRefused =
     (ws out : List ℕ) (i : Input) (number made : ℕ) (ws' left : List ℕ) → Stepped ws out i number made ws' left → ¬ (number ≡ 0)
     → (made ≡ 0) × (ws' ≡ ws) × (left ≡ out)
+
+-- qr_tray: 0 records made.
+abbrev pub FaceTrayRefused : Type 0
+FaceTrayRefused =
+    (ws out votes places : List ℕ) (number made : ℕ) (ws' left answers : List ℕ) → Trayed ws out votes places number made ws' left answers → ¬ (number ≡ 0)
+    → (made ≡ 0) × (ws' ≡ ws) × (left ≡ out) × (answers ≡ places)
 
 -- qr_write_certificate: 0 bytes written.
 abbrev pub FaceCertificateRefused : Type 0

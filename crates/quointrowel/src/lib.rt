@@ -9,7 +9,7 @@ ghost use Rattle.rulebook.specs.WellFormed.{outboxWords};
 ghost use Rattle.record.specs.Layout.{recordWords};
 ghost use Rattle.writers.specs.Writing.{certificateOn, proofOn};
 ghost use Rattle.rulebook.specs.declared.Input.the-variants as input;
-ghost use Rattle.answers.specs.Face.{voteInput, blockInput, timeoutInput, Started, Stepped, Wrote, MessageRead, Checked};
+ghost use Rattle.answers.specs.Face.{voteInput, blockInput, timeoutInput, Started, Stepped, Trayed, Wrote, MessageRead, Checked};
 use answers::bytes_written;
 use answers::check_missing;
 use answers::check_number;
@@ -35,6 +35,7 @@ use rulebook::Input;
 use rulebook::Node;
 use rulebook::Slot;
 use soundness::start;
+use trays::tray;
 use writers::write_certificate;
 use writers::write_proof;
 
@@ -119,6 +120,22 @@ pub extern "C" fn qr_look(rec: &mut [u64], outbox: &mut [u64], made: &mut usize)
     ensures { λ r. ⌜ Stepped (now (rec .entry)) (now (outbox .entry)) input.Look r (now (made .exit)) (now (rec .exit)) (now (outbox .exit)) ⌝ }
 {
     let a = step(rec, outbox, Input::Look);
+    *made = records_made(a);
+    step_number(a)
+}
+
+// Gives the node a run of other nodes' votes, four words each; one number for each vote from the answer buffer's front.
+#[no_mangle]
+pub extern "C" fn qr_tray(
+    rec: &mut [u64],
+    outbox: &mut [u64],
+    made: &mut usize,
+    votes: &[u64],
+    answers: &mut [u64],
+) -> u64
+    ensures { λ r. ⌜ Trayed (now (rec .entry)) (now (outbox .entry)) (now (votes .entry)) (now (answers .entry)) r (now (made .exit)) (now (rec .exit)) (now (outbox .exit)) (now (answers .exit)) ⌝ }
+{
+    let a = tray(rec, outbox, votes, answers);
     *made = records_made(a);
     step_number(a)
 }

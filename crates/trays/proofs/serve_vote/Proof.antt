@@ -1,0 +1,39 @@
+-- The vote's refusal, or the vote taken.
+use mathlib.Core.Path.{_∙_, sym}
+use borrow.Author.Needs.{needs}
+use Rattle.trays.proofs.OneVote.{serving-counted, vote-refused, vote-taken}
+use Rattle.trays.proofs.serve_vote.Statement.{statement}
+use Rattle.trays.proofs.serve_vote.Tie as tie
+
+vote-verdict-requires : tie.Need-vote-verdict-requires
+vote-verdict-requires c κs = serving-counted (c .before .before .before .args .v) (c .before .before .before .pre)
+
+enum-known-r : tie.Need-enum-known-r
+enum-known-r c = search needs
+
+refusal-number-requires : tie.Need-refusal-number-requires
+refusal-number-requires c κs = search needs
+
+enum-told : tie.Need-enum-told
+enum-told c = search needs
+
+take-vote-requires : tie.Need-take-vote-requires
+take-vote-requires c κs = record { serving = c .before .before .before .before .before .before .before .before .pre; fine = sym (c .before .before .before .before .vote-verdict .ensures) ∙ c .before .before .enum-told .given .1 }
+
+same-length : tie.Need-same-length
+same-length c = search needs
+
+returns : tie.Need-returns
+returns c = vote-refused (c .before .before .before .before .before .before .before .before .args .v) (c .before .before .before .before .before .before .before .before .pre) _ _ (sym (c .before .before .before .before .vote-verdict .ensures) ∙ c .before .before .r .given .1) (c .refusal-number .ensures)
+
+same-length-2 : tie.Need-same-length-2
+same-length-2 c = search needs
+
+same-length-3 : tie.Need-same-length-3
+same-length-3 c = search needs
+
+returns-2 : tie.Need-returns-2
+returns-2 c = vote-taken (c .before .before .before .before .before .before .before .before .before .before .before .before .before .args .v) (c .before .before .before .before .before .before .before .before .before .before .before .before .before .pre) _ (sym (c .before .before .before .before .before .before .before .before .before .vote-verdict .ensures) ∙ c .before .before .before .before .before .before .before .enum-told .given .1) (c .before .before .before .before .take-vote .ensures)
+
+pub serve-vote-spec : {M : Type 1} → statement M
+serve-vote-spec = tie.close (tie.spec vote-verdict-requires enum-known-r refusal-number-requires enum-told take-vote-requires same-length returns same-length-2 same-length-3 returns-2)
