@@ -36,7 +36,7 @@ use Rattle.soundness.proofs.InStep.{spelled-sound, spelled-back}
 use Rattle.node.specs.Stepping.{spelled, asFed, Leaves, stepLeaves, StepOf}
 use Rattle.trays.specs.Trays.{votesIn, wholeVotes, serve, Tray, trayRefused, trayServed, tray}
 use Rattle.trays.specs.Lent.{asServed, trayLeaves, TrayOf}
-use Rattle.trays.specs.Lent as lent
+use Rattle.trays.specs.Lent as trays
 use Rattle.trays.proofs.Theorems.{serve-sound}
 use Rattle.safety.specs.Ballots.{sameRecord, among}
 use Rattle.safety.specs.Ring.{afterAll, madeIn}
@@ -147,9 +147,9 @@ module _ (ws lent votes places : List ℕ) (answer : StepAnswer) (ws' left answe
   tray-did-as t is e h d m =
       let q : trayLeaves ws lent votes places ≡ asServed t lent places =
       given-on _ _ _ (eq-eqb (length ws) recordWords (sound-long ws sound)) ∙ ap (λ (x : Tray). asServed x lent places) e in
-      let w : ws' ≡ wordsOf (t .served .ledger) = s .words ∙ ap (λ (x : lent.Leaves). x .words) q in
-      let a : answer ≡ t .answer = s .answered ∙ ap (λ (x : lent.Leaves). x .answer) q in
-      let o : left ≡ spelled (t .served .records) ++ drop (3 * length (t .served .records)) lent = s .outbox ∙ ap (λ (x : lent.Leaves). x .outbox) q in
+      let w : ws' ≡ wordsOf (t .served .ledger) = s .words ∙ ap (λ (x : trays.Leaves). x .words) q in
+      let a : answer ≡ t .answer = s .answered ∙ ap (λ (x : trays.Leaves). x .answer) q in
+      let o : left ≡ spelled (t .served .records) ++ drop (3 * length (t .served .records)) lent = s .outbox ∙ ap (λ (x : trays.Leaves). x .outbox) q in
       record {
         sound = ap soundWords w ∙ spelled-sound (t .served .ledger) h;
         ledger = ap ledgerOf w ∙ spelled-back (t .served .ledger) h ∙ d;

@@ -55,7 +55,7 @@ callsFor ws (i ∷ is) = callFor ws i ∷ callsFor (callFor ws i .words) is
 calls-meet : (ws : List ℕ) (is : List Input) → Calls ws (callsFor ws is)
 unfolding callsFor callFor
 calls-meet ws [] = noMore
-calls-meet ws (i ∷ is) = called (record { answered = refl; words = refl; outbox = refl }) (calls-meet (callFor ws i .words) is)
+calls-meet ws (i ∷ is) = called {c = callFor ws i} (record { answered = refl; words = refl; outbox = refl }) (calls-meet (callFor ws i .words) is)
 
 pub room : leb outboxWords (length (zeros outboxWords)) ≡ true
 room = let e = zeros-long outboxWords in le-leb outboxWords (length (zeros outboxWords)) (omega (arith, e))

@@ -90,7 +90,7 @@ calls-meet : (ws : List ℕ) (is : List Input) → HostCalls ws (callsFor ws is)
 unfolding callsFor callFor
 calls-meet ws [] = noMore
 calls-meet ws (i ∷ is) =
-    called (record { numbered = refl; counted = count-beside (stepLeaves ws (zeros outboxWords) (inputFor (askedFor i)) .answer); words = refl; outbox = refl })
+    called {c = callFor ws i} (record { numbered = refl; counted = count-beside (stepLeaves ws (zeros outboxWords) (inputFor (askedFor i)) .answer); words = refl; outbox = refl })
     (calls-meet (callFor ws i .words) is)
 
 inputs-fed : (ws : List ℕ) (is : List Input) → inputsFed (callsFor ws is) ≡ is

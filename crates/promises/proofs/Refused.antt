@@ -34,7 +34,7 @@ use Rattle.soundness.specs.Sound.{soundWords}
 use Rattle.soundness.specs.Starting.{startJudged, startAnswer, startLeft}
 use Rattle.node.specs.Stepping.{Leaves, spelled, asFound, asFed, stepLeaves}
 use Rattle.trays.specs.Trays.{votesIn, wholeVotes, Served, serve, Tray, trayRefused, trayServed, tray}
-use Rattle.trays.specs.Lent as lent
+use Rattle.trays.specs.Lent as trays
 use Rattle.trays.specs.Lent.{asServed, trayLeaves}
 use Rattle.writers.specs.Writing.{unsound, certificateOn, proofOn}
 use Rattle.answers.specs.Face.{Beside}
@@ -119,17 +119,17 @@ tray-refused ws out votes places r ws' left answers h =
     by-test (eqb (length ws) recordWords)
     (λ t.
     let q : trayLeaves ws out votes places ≡ asServed (tray (ledgerOf ws) (length out) (length places) votes) out places = given-on _ _ _ t in
-    let k = tray-kept (ledgerOf ws) (length out) (length places) votes r (ap (λ (x : lent.Leaves). x .answer) (sym q) ∙ sym (h .answered)) in
+    let k = tray-kept (ledgerOf ws) (length out) (length places) votes r (ap (λ (x : trays.Leaves). x .answer) (sym q) ∙ sym (h .answered)) in
     let f : trayLeaves ws out votes places ≡ asServed (trayRefused (ledgerOf ws) r) out places = q ∙ ap (λ (x : Tray). asServed x out places) k in (
-      h .words ∙ ap (λ (x : lent.Leaves). x .words) f ∙ words-ledger ws (eqb-true (length ws) recordWords t),
-      h .outbox ∙ ap (λ (x : lent.Leaves). x .outbox) f,
-      h .answers ∙ ap (λ (x : lent.Leaves). x .answers) f,
+      h .words ∙ ap (λ (x : trays.Leaves). x .words) f ∙ words-ledger ws (eqb-true (length ws) recordWords t),
+      h .outbox ∙ ap (λ (x : trays.Leaves). x .outbox) f,
+      h .answers ∙ ap (λ (x : trays.Leaves). x .answers) f,
     ))
     (λ t.
-    let f : trayLeaves ws out votes places ≡ lent.asFound refusal.BadRecord ws out places = given-off _ _ _ t in (
-      h .words ∙ ap (λ (x : lent.Leaves). x .words) f,
-      h .outbox ∙ ap (λ (x : lent.Leaves). x .outbox) f,
-      h .answers ∙ ap (λ (x : lent.Leaves). x .answers) f,
+    let f : trayLeaves ws out votes places ≡ trays.asFound refusal.BadRecord ws out places = given-off _ _ _ t in (
+      h .words ∙ ap (λ (x : trays.Leaves). x .words) f,
+      h .outbox ∙ ap (λ (x : trays.Leaves). x .outbox) f,
+      h .answers ∙ ap (λ (x : trays.Leaves). x .answers) f,
     ))
 
 -- ---- the writers

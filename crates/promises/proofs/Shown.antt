@@ -32,7 +32,7 @@ use Rattle.soundness.specs.Starting.{startJudged, startAnswer}
 use Rattle.soundness.proofs.Laws.{sound-long, sound-formed}
 use Rattle.node.specs.Stepping.{Leaves, stepLeaves}
 use Rattle.trays.specs.Trays.{votesIn, wholeVotes, serve, Tray, trayRefused, trayServed, tray}
-use Rattle.trays.specs.Lent as lent
+use Rattle.trays.specs.Lent as trays
 use Rattle.trays.specs.Lent.{trayLeaves}
 use Rattle.writers.specs.Writing.{unsound, certificateOn, proofOn}
 use Rattle.promises.specs.Panels.{besideIt, shown, soundFirst, stepJudged, VotePassed, trayJudged, StartShown, StepShown, TrayShown, PlaceShown, CertificateShown, ProofShown}
@@ -173,8 +173,8 @@ tray-leaves-shown ws out votes places =
     let values : List ℕ = length (serve (ledgerOf ws) (votesIn votes) .records) ∷ [] in
     let first : Bool → Panel = λ b. shown (refuseIf (not (b && wellFormed (ledgerOf ws))) refusal.BadRecord (roomThenPart out votes places)) values in
     by-test (eqb (length ws) recordWords)
-    (λ t. ap (λ (x : lent.Leaves). stepPanel (x .answer)) (given-on _ _ _ t) ∙ tray-tested (ledgerOf ws) out votes places ∙ ap first (sym t))
-    (λ t. ap (λ (x : lent.Leaves). stepPanel (x .answer)) (given-off _ _ _ t) ∙ ap first (sym t))
+    (λ t. ap (λ (x : trays.Leaves). stepPanel (x .answer)) (given-on _ _ _ t) ∙ tray-tested (ledgerOf ws) out votes places ∙ ap first (sym t))
+    (λ t. ap (λ (x : trays.Leaves). stepPanel (x .answer)) (given-off _ _ _ t) ∙ ap first (sym t))
 
 pub tray-shown : TrayShown
 tray-shown ws out votes places a ws' left answers h = ap stepPanel (h .answered) ∙ tray-leaves-shown ws out votes places
