@@ -1,5 +1,6 @@
 -- Histories of calls are the lives of the safety theorem.
 pub mod Lives
+pub mod Singly
 pub mod Demand
 pub mod Meeting
 pub mod Honest

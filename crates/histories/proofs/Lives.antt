@@ -62,7 +62,7 @@ among-both (x ∷ xs) ys r =
 -- ---- one call
 
 -- Records that were spelled are read back.
-read-spelled : (rs : List Record) (rest : List ℕ) → firstRecords (length rs) (spelled rs ++ rest) ≡ rs
+pub read-spelled : (rs : List Record) (rest : List ℕ) → firstRecords (length rs) (spelled rs ++ rest) ≡ rs
 unfolding firstRecords spelled
 read-spelled [] rest = refl
 read-spelled (r ∷ rs) rest = ap (λ (xs : List Record). r ∷ xs) (read-spelled rs rest)
@@ -77,6 +77,12 @@ told-fed l i Fine rest =
     ∙ read-spelled (fedWith o .records) rest
 told-fed l i (Refused r) rest = refl
 
+-- With room in the outbox a step on sound words answers, tells and leaves what feeding its input gives.
+pub record StepFed (ws : List ℕ) (i : Input) (answer : StepAnswer) (ws' left : List ℕ) : Type 0 where
+  pub answered : answer ≡ feed (ledgerOf ws) i .answer
+  pub told : toldIn answer left ≡ feed (ledgerOf ws) i .records
+  pub words : ws' ≡ wordsOf (feed (ledgerOf ws) i .ledger)
+
 -- What a call has done to sound words: they are sound again, and they and the told records are those of the inputs that it fed.
 pub record Did (ws : List ℕ) (is : List Input) (answer : StepAnswer) (ws' left : List ℕ) : Type 0 where
   pub sound : soundWords ws' ≡ true
@@ -84,38 +90,49 @@ pub record Did (ws : List ℕ) (is : List Input) (answer : StepAnswer) (ws' left
   pub told : (r : Record) → among (toldIn answer left) r ≡ madeIn (ledgerOf ws) is r
 
 module _ (ws lent : List ℕ) (i : Input) (answer : StepAnswer) (ws' left : List ℕ) (sound : soundWords ws ≡ true) (s : StepOf ws lent i answer ws' left) where
-  leaves : stepLeaves ws lent i ≡ asFed (step (ledgerOf ws) (length lent) i) lent
+  leaves : (f : Fed) → step (ledgerOf ws) (length lent) i ≡ f → stepLeaves ws lent i ≡ asFed f lent
   unfolding stepLeaves
-  leaves = given-on _ _ _ (eq-eqb (length ws) recordWords (sound-long ws sound))
+  leaves f e = given-on _ _ _ (eq-eqb (length ws) recordWords (sound-long ws sound)) ∙ ap (λ (x : Fed). asFed x lent) e
 
-  did : (f : Fed) (is : List Input) → step (ledgerOf ws) (length lent) i ≡ f → Sound (f .ledger) → f .ledger ≡ afterAll (ledgerOf ws) is
-      → ((r : Record) → among (toldIn (f .answer) (spelled (f .records) ++ drop (3 * length (f .records)) lent)) r ≡ madeIn (ledgerOf ws) is r)
-      → Did ws is answer ws' left
-  did f is e h d t =
-      let q : stepLeaves ws lent i ≡ asFed f lent = leaves ∙ ap (λ (x : Fed). asFed x lent) e in
-      let w : ws' ≡ wordsOf (f .ledger) = s .words ∙ ap (λ (x : Leaves). x .words) q in
+  pub step-is-fed : outboxWords ≤ length lent → StepFed ws i answer ws' left
+  unfolding feed
+  step-is-fed h =
+      let f : Fed = feed (ledgerOf ws) i in
+      let q = leaves f (step-fed (ledgerOf ws) i (length lent) (sound-formed ws sound) h) in
       let a : answer ≡ f .answer = s .answered ∙ ap (λ (x : Leaves). x .answer) q in
       let o : left ≡ spelled (f .records) ++ drop (3 * length (f .records)) lent = s .outbox ∙ ap (λ (x : Leaves). x .outbox) q in
       record {
-        sound = ap soundWords w ∙ spelled-sound (f .ledger) h;
-        ledger = ap ledgerOf w ∙ spelled-back (f .ledger) h ∙ d;
-        told = λ r. (λ j. among (toldIn (a j) (o j)) r) ∙ t r;
+        answered = a;
+        told = (λ j. toldIn (a j) (o j)) ∙ told-fed (ledgerOf ws) i (verdict (ledgerOf ws) i) _;
+        words = s .words ∙ ap (λ (x : Leaves). x .words) q;
       }
 
   -- With room in the outbox the input is fed.
   step-fed-all : outboxWords ≤ length lent → Did ws (i ∷ []) answer ws' left
-  unfolding feed afterAll madeIn
+  unfolding afterAll madeIn
   step-fed-all h =
-      let l = ledgerOf ws in
-      did (feed l i) (i ∷ []) (step-fed l i (length lent) (sound-formed ws sound) h) (feed-sound l (sound-ledger ws sound) i) refl
-      (λ r. ap (λ (rs : List Record). among rs r) (told-fed l i (verdict l i) _) ∙ sym (or-false (among (feed l i .records) r)))
+      let f : Fed = feed (ledgerOf ws) i in
+      let d = step-is-fed h in
+      let sure : Sound (f .ledger) = feed-sound (ledgerOf ws) (sound-ledger ws sound) i in
+      record {
+        sound = ap soundWords (d .words) ∙ spelled-sound (f .ledger) sure;
+        ledger = ap ledgerOf (d .words) ∙ spelled-back (f .ledger) sure;
+        told = λ r. ap (λ (rs : List Record). among rs r) (d .told) ∙ sym (or-false (among (f .records) r));
+      }
 
   -- Without room nothing is.
   step-fed-none : length lent < outboxWords → Did ws [] answer ws' left
   unfolding refusedWith toldIn afterAll madeIn
   step-fed-none h =
-      did (refusedWith (ledgerOf ws) refusal.NoRoom) [] (step-short (ledgerOf ws) i (length lent) (sound-formed ws sound) h)
-      (sound-ledger ws sound) refl (λ r. refl)
+      let f : Fed = refusedWith (ledgerOf ws) refusal.NoRoom in
+      let q = leaves f (step-short (ledgerOf ws) i (length lent) (sound-formed ws sound) h) in
+      let w : ws' ≡ wordsOf (ledgerOf ws) = s .words ∙ ap (λ (x : Leaves). x .words) q in
+      let a : answer ≡ f .answer = s .answered ∙ ap (λ (x : Leaves). x .answer) q in
+      record {
+        sound = ap soundWords w ∙ spelled-sound (ledgerOf ws) (sound-ledger ws sound);
+        ledger = ap ledgerOf w ∙ spelled-back (ledgerOf ws) (sound-ledger ws sound);
+        told = λ r. ap (λ (x : StepAnswer). among (toldIn x left) r) a;
+      }
 
   step-did : Did ws (fedBy (oneInput i) lent) answer ws' left
   unfolding fedBy

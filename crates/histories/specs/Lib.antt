@@ -1,3 +1,4 @@
--- Histories of calls, and demand 3 over them.
+-- Histories of calls, demand 3 over them, and a tray beside single calls.
 pub mod Calls
 pub mod Ring
+pub mod Singly

@@ -204,7 +204,7 @@ face-tray-refused ws out votes places number made ws' left answers h ne =
     let a = trayLeaves ws out votes places .answer in
     let x = step-refusal a (λ e. ne (h .numbered ∙ e)) in
     let k = tray-refused ws out votes places (x .0) ws' left answers (record { answered = sym (x .1); words = h .words; outbox = h .outbox; answers = h .answered }) in
-    (step-none a made (x .0) (x .1) (h .counted), k .0, k .1, k .2)
+    (step-none a made (x .0) (x .1) (h .counted), k .2, k .0, k .1)
 
 pub face-certificate-refused : FaceCertificateRefused
 face-certificate-refused ws buffer k s b number written after h ne =

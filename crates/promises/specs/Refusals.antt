@@ -74,7 +74,7 @@ FaceStepRefused =
 abbrev pub FaceTrayRefused : Type 0
 FaceTrayRefused =
     (ws out votes places : List ℕ) (number made : ℕ) (ws' left answers : List ℕ) → Trayed ws out votes places number made ws' left answers → ¬ (number ≡ 0)
-    → (made ≡ 0) × (ws' ≡ ws) × (left ≡ out) × (answers ≡ places)
+    → (made ≡ 0) × (answers ≡ places) × (ws' ≡ ws) × (left ≡ out)
 
 -- qr_write_certificate: 0 bytes written.
 abbrev pub FaceCertificateRefused : Type 0
