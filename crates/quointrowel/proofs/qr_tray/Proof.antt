@@ -5,7 +5,9 @@ use Rattle.quointrowel.proofs.qr_tray.Statement.{statement}
 use Rattle.quointrowel.proofs.qr_tray.Tie as tie
 
 returns : tie.Need-returns
-returns c = search trayed
+returns c =
+    trayed _ _ _ _ _ _ _ _ _ _ (c .before .before .before .before .before .before .before .before .tray .ensures) (c .step-number .ensures)
+    (c .before .records-made .ensures)
 
 pub qr-tray-spec : {M : Type 1} → statement M
 qr-tray-spec =
