@@ -26,6 +26,7 @@ pub struct Cover {
 const COMMANDS: &[&str] = &[
     "start",
     "vote",
+    "tray",
     "block",
     "timeout",
     "look",
@@ -118,6 +119,7 @@ impl Cover {
         match command {
             "start" if number == "0" => self.life = 0,
             "vote" | "block" | "timeout" | "look" => self.take_records(&answered),
+            "tray" if number == "0" => self.take_tray(&answered),
             "cert" | "proof" if number == "0" => self.take_written(command, answered[2]),
             "unpack" if number == "0" => self.note(format!("unpack 0, {} bytes", words[2].len() / 2)),
             "checkproof" if number != "?" => self.take_checked_proof(&words, number),
@@ -147,6 +149,31 @@ impl Cover {
         for record in answered.iter().skip(2) {
             let kind = record.split(',').next().unwrap_or("");
             *self.records.entry(kind.to_string()).or_insert(0) += 1;
+        }
+    }
+
+    /// What the votes of a tray were answered, and how many there were.
+    fn take_tray(&mut self, answered: &[&str]) {
+        let colon = answered.iter().position(|&word| word == ":").unwrap_or(answered.len());
+        self.take_records(&answered[..colon]);
+        let answers = answered.get(colon + 1..).unwrap_or(&[]);
+        let size = match answers.len() {
+            0 => "none",
+            1 => "1",
+            2..=99 => "2 to 99",
+            _ => "100 or more",
+        };
+        self.note(format!("tray of votes: {size}"));
+        let first_accepted = answers.iter().position(|&answer| answer == "0").unwrap_or(answers.len());
+        let last_accepted = answers.iter().rposition(|&answer| answer == "0").unwrap_or(0);
+        for (i, answer) in answers.iter().enumerate() {
+            self.note(format!("tray: a vote answered {answer}"));
+            if *answer != "0" && first_accepted < i && i < last_accepted {
+                self.note(format!("tray: {answer} between accepted votes"));
+            }
+        }
+        if colon > 2 && first_accepted != last_accepted {
+            self.note("tray with records and several accepted votes");
         }
     }
 

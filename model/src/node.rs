@@ -421,6 +421,25 @@ impl Node {
         Ok(self.run_rules())
     }
 
+    /// A run of votes, four words each, every one as if it came alone. With the
+    /// records of all there is one number a vote, 0 or its refusal's.
+    pub fn tray(&mut self, words: &[u64]) -> Result<(Vec<Record>, Vec<u64>), Refusal> {
+        if words.len() % 4 != 0 {
+            return Err(Refusal::PacketLength);
+        }
+        let (mut records, mut answers) = (Vec::new(), Vec::new());
+        for vote in words.chunks(4) {
+            match self.vote(vote[0], vote[1], vote[2], vote[3]) {
+                Ok(made) => {
+                    records.extend(made);
+                    answers.push(0);
+                }
+                Err(refusal) => answers.push(refusal.number()),
+            }
+        }
+        Ok((records, answers))
+    }
+
     pub fn block(
         &mut self,
         slot: u64,

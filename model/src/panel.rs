@@ -45,6 +45,7 @@ struct Malformed;
 enum Command {
     Start { own: u64, genesis: u64, stakes: Vec<u64> },
     Vote { kind: u64, node: u64, slot: u64, block: u64 },
+    Tray { words: Vec<u64> },
     Block { slot: u64, number: u64, parent_slot: u64, parent: u64 },
     Timeout { slot: u64 },
     Look,
@@ -92,6 +93,10 @@ impl Panel {
             }
             Command::Vote { kind, node, slot, block } => {
                 show_records(&self.node()?.vote(kind, node, slot, block)?)
+            }
+            Command::Tray { words } => {
+                let (records, answers) = self.node()?.tray(&words)?;
+                show_records(&records) + &show_answers(&answers)
             }
             Command::Block { slot, number, parent_slot, parent } => {
                 show_records(&self.node()?.block(slot, number, parent_slot, parent)?)
@@ -149,6 +154,7 @@ fn parse(words: &[&[u8]]) -> Result<Command, Malformed> {
             let [kind, node, slot, block] = numbers(rest)?;
             Ok(Command::Vote { kind, node, slot, block })
         }
+        b"tray" => all_numbers(rest).map(|words| Command::Tray { words }),
         b"block" => {
             let [slot, number, parent_slot, parent] = numbers(rest)?;
             Ok(Command::Block { slot, number, parent_slot, parent })
@@ -237,6 +243,15 @@ fn show_records(records: &[Record]) -> String {
         line += &format!(" {},{},{}", r.kind, r.slot, r.block);
     }
     line
+}
+
+/// Nothing where there was no vote.
+fn show_answers(answers: &[u64]) -> String {
+    if answers.is_empty() {
+        return String::new();
+    }
+    let answers: Vec<String> = answers.iter().map(u64::to_string).collect();
+    format!(" : {}", answers.join(" "))
 }
 
 pub fn show_hex(packet: &[u8]) -> String {

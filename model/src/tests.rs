@@ -357,6 +357,46 @@ fn writer_refusals_in_order() {
     assert_eq!(refused(write_proof(&n, 1, 1)), 18);
 }
 
+// ---- trays ----
+
+/// Two nodes, the second fed singly what the first gets in one tray.
+fn tray_and_singly(start: &str, votes: &[&str]) {
+    let tray = run(&format!("{start}\ntray {}\nvotes\nlook", votes.join(" ")));
+    let lines: Vec<String> = votes.iter().map(|vote| format!("vote {vote}")).collect();
+    let singly = run(&format!("{start}\n{}\nvotes\nlook", lines.join("\n")));
+    let (starts, single) = (start.lines().count(), &singly[start.lines().count()..]);
+    let answered: Vec<Vec<&str>> =
+        single[..votes.len()].iter().map(|line| line.split(' ').collect()).collect();
+    let records: Vec<&str> = answered.iter().flat_map(|answer| answer.iter().skip(2).copied()).collect();
+    let numbers: Vec<&str> = answered.iter().map(|answer| answer[0]).collect();
+    let mut wanted = vec!["0".to_string(), records.len().to_string()];
+    wanted.extend(records.iter().map(|record| record.to_string()));
+    assert_eq!(tray[starts], format!("{} : {}", wanted.join(" "), numbers.join(" ")));
+    assert_eq!(tray[starts + 1..], single[votes.len()..]);
+}
+
+#[test]
+fn a_tray_equals_its_votes_singly() {
+    let b4 = "start 0 1 1 1 1 1 1 1 1 1 1 1\nblock 1 7 0 1";
+    tray_and_singly(b4, &["1 1 1 7", "1 2 1 7", "1 3 1 7", "1 4 1 7", "1 5 1 7", "3 6 1 0", "3 7 1 0"]);
+    // Refused ones in the middle, the own name, a repeat, another in its place.
+    let mixed =
+        ["3 6 1 0", "3 6 1 0", "1 6 1 7", "1 0 1 7", "9 1 1 7", "3 7 99 0", "3 99 1 0", "3 7 1 5", "3 7 1 0"];
+    tray_and_singly(b4, &mixed);
+    tray_and_singly("start 0 1 1 1", &["9 9 9 9"]);
+}
+
+#[test]
+fn trays_that_take_nothing() {
+    let start = "start 0 1 1 1 1";
+    // An empty run is no look; a broken one takes none of its whole votes.
+    let script = format!("{start}\ntray\ntray 3 1 1 0 3\ntray 3\nvotes\nlook\ntray 3 1 1 0");
+    assert_eq!(run(&script), ["0", "0 0", "12", "12", "0 1 7,1,0", "0 0 : 0"]);
+    assert_eq!(run("tray\ntray 1\ntray 3 1 1 0\ntray x"), ["17", "17", "17", "?"]);
+    // All refused: no rule is run.
+    assert_eq!(run(&format!("{start}\ntray 3 0 1 0 9 9 9 9\nlook"))[1..], ["0 0 : 6 4", "0 1 7,1,0"]);
+}
+
 // ---- voting ----
 
 #[test]
@@ -834,6 +874,7 @@ fn scripts_are_of_fair_size_and_end_with_the_votes() {
 const POSSIBLE: &[(&str, &[u64])] = &[
     ("start", &[0, 1]),
     ("vote", &[0, 2, 3, 4, 5, 6, 7, 8, 17]),
+    ("tray", &[0, 12, 17]),
     ("block", &[0, 3, 5, 7, 8, 11, 17]),
     ("timeout", &[0, 3, 7, 10, 17]),
     ("look", &[0, 17]),
@@ -870,6 +911,11 @@ const BRANCHES: &[&str] = &[
     "cert written: kind 4 with fallback signers",
     "proof written: kind 1",
     "proof written: kind 2 then 5",
+    "tray of votes: none",
+    "tray of votes: 1",
+    "tray of votes: 2 to 99",
+    "tray of votes: 100 or more",
+    "tray with records and several accepted votes",
 ];
 
 /// These end a run, so they are seldom.
@@ -903,6 +949,10 @@ fn a_thousand_scripts_reach_everything() {
                 assert!(seen.notes(&what) >= 5, "few of: {what}");
             }
         }
+    }
+    for number in [2, 3, 4, 5, 6, 7, 8] {
+        let what = format!("tray: {number} between accepted votes");
+        assert!(seen.notes(&what) >= 20, "few of: {what}");
     }
     for bytes in 4..=13 {
         let what = format!("unpack 0, {bytes} bytes");

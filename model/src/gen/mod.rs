@@ -7,6 +7,7 @@ mod noise;
 mod packets;
 mod ring;
 mod scenes;
+mod trays;
 mod writer;
 
 use crate::random::Random;
@@ -26,7 +27,7 @@ pub struct Script {
 pub fn script(seed: u64) -> Script {
     // The seed is stirred once, so that seeds in a row share nothing.
     let mut random = Random::new(Random::new(seed).next());
-    match random.below(42) {
+    match random.below(44) {
         0 => tiny(random),
         1 => before_start(random),
         2 => restarts(random),
@@ -42,6 +43,7 @@ pub fn script(seed: u64) -> Script {
         25 | 26 => bridges(random),
         27 | 28 => leaps(random),
         29 | 30 => messages(random),
+        31 | 32 => trays(random),
         _ => history(random),
     }
 }
@@ -179,6 +181,9 @@ fn before_start(mut random: Random) -> Script {
     const NODE_COMMANDS: &[&str] = &[
         "vote 1 1 1 7",
         "vote 9 99 99 0",
+        "tray",
+        "tray 1 1",
+        "tray 1 1 1 7 3 1 1 0",
         "block 1 7 0 1",
         "block 0 0 0 0",
         "timeout 1",
@@ -267,6 +272,13 @@ fn faults(mut random: Random) -> Script {
         }
     }
     end(w)
+}
+
+fn trays(mut random: Random) -> Script {
+    let ring = if random.percent(70) { Ring::small(&mut random) } else { Ring::any(&mut random) };
+    let mut w = begin(random, ring, 10, 80);
+    trays::trays(&mut w);
+    finish_with_audit(w, 8)
 }
 
 /// With or without a node: votes as bytes ask for none.

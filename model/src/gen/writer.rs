@@ -19,6 +19,8 @@ pub struct Writer {
     /// Whether some answer was 17, which needs a panel without a node.
     unstarted: bool,
     style: Style,
+    /// Votes not yet said, for a tray.
+    tray: Vec<String>,
 }
 
 /// How the lines of one script are laid out, in percent.
@@ -27,18 +29,22 @@ struct Style {
     wide_spaces: u64,
     leading_zeros: u64,
     silent_lines: u64,
+    /// Votes go in trays of that many, singly at 0.
+    votes_a_tray: usize,
 }
 
 impl Style {
     fn any(random: &mut Random) -> Style {
+        let votes_a_tray = if random.percent(15) { random.pick(&[1, 2, 3, 5, 10, 30]) } else { 0 };
         if random.percent(70) {
-            return Style { crlf: 0, wide_spaces: 0, leading_zeros: 0, silent_lines: 0 };
+            return Style { crlf: 0, wide_spaces: 0, leading_zeros: 0, silent_lines: 0, votes_a_tray };
         }
         Style {
             crlf: random.pick(&[0, 0, 30, 100]),
             wide_spaces: random.pick(&[0, 10, 50]),
             leading_zeros: random.pick(&[0, 0, 5]),
             silent_lines: random.pick(&[0, 5]),
+            votes_a_tray,
         }
     }
 }
@@ -56,10 +62,12 @@ impl Writer {
             said: Vec::new(),
             unstarted: false,
             style,
+            tray: Vec::new(),
         }
     }
 
     pub fn say(&mut self, line: impl Into<String>) -> Vec<String> {
+        self.empty_tray();
         let line = line.into();
         self.said.push(line.clone());
         let laid_out = self.lay_out(&line);
@@ -148,7 +156,21 @@ impl Writer {
     }
 
     pub fn vote(&mut self, kind: u64, node: usize, slot: u64, block: u64) {
-        self.say(format!("vote {kind} {node} {slot} {block}"));
+        if self.style.votes_a_tray == 0 {
+            self.say(format!("vote {kind} {node} {slot} {block}"));
+            return;
+        }
+        self.tray.push(format!("{kind} {node} {slot} {block}"));
+        if self.tray.len() >= self.style.votes_a_tray {
+            self.empty_tray();
+        }
+    }
+
+    fn empty_tray(&mut self) {
+        if !self.tray.is_empty() {
+            let votes = std::mem::take(&mut self.tray);
+            self.say(format!("tray {}", votes.join(" ")));
+        }
     }
 
     pub fn into_script(mut self) -> super::Script {
