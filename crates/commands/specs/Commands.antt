@@ -31,6 +31,9 @@ timeoutText = 116 ∷ 105 ∷ 109 ∷ 101 ∷ 111 ∷ 117 ∷ 116 ∷ []
 abbrev pub lookText : List ℕ
 lookText = 108 ∷ 111 ∷ 111 ∷ 107 ∷ []
 
+abbrev pub trayText : List ℕ
+trayText = 116 ∷ 114 ∷ 97 ∷ 121 ∷ []
+
 abbrev pub certText : List ℕ
 certText = 99 ∷ 101 ∷ 114 ∷ 116 ∷ []
 
@@ -78,10 +81,10 @@ unfoldable pub questionOf : List ℕ → Command
 questionOf w =
     choose (sameText w certText) command.Cert (choose (sameText w proofText) command.Proof (choose (sameText w checkText) command.Check (choose (sameText w checkProofText) command.CheckProof (messageOf w))))
 
--- and "start", "vote", "block", "timeout" and "look" tell the node something.
+-- and "start", "vote", "block", "timeout", "look" and "tray" tell the node something.
 unfoldable pub inputOf : List ℕ → Command
 inputOf w =
-    choose (sameText w startText) command.Start (choose (sameText w voteText) command.Vote (choose (sameText w blockText) command.Block (choose (sameText w timeoutText) command.Timeout (choose (sameText w lookText) command.Look (questionOf w)))))
+    choose (sameText w startText) command.Start (choose (sameText w voteText) command.Vote (choose (sameText w blockText) command.Block (choose (sameText w timeoutText) command.Timeout (choose (sameText w lookText) command.Look (choose (sameText w trayText) command.Tray (questionOf w))))))
 
 -- From a place on, a line holds numbers and nothing else: so many, or so many at least.
 unfoldable pub exactly : List ℕ → ℕ → ℕ → Bool
@@ -112,6 +115,7 @@ argumentsFit command.Vote line at = exactly line at 4
 argumentsFit command.Block line at = exactly line at 4
 argumentsFit command.Timeout line at = exactly line at 1
 argumentsFit command.Look line at = exactly line at 0
+argumentsFit command.Tray line at = atLeast line at 0
 argumentsFit command.Cert line at = exactly line at 3
 argumentsFit command.Proof line at = exactly line at 2
 argumentsFit command.Check line at = packetAndStakes line at
@@ -136,6 +140,7 @@ tells command.Vote = true
 tells command.Block = true
 tells command.Timeout = true
 tells command.Look = true
+tells command.Tray = true
 tells command.Cert = false
 tells command.Proof = false
 tells command.Check = false

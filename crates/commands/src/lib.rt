@@ -12,6 +12,7 @@ pub enum Command {
     Block,
     Timeout,
     Look,
+    Tray,
     Cert,
     Proof,
     Check,
@@ -59,6 +60,9 @@ fn input_of(word: &[u8]) -> Command
     }
     if same(word, b"look") {
         return Command::Look;
+    }
+    if same(word, b"tray") {
+        return Command::Tray;
     }
     question_of(word)
 }
@@ -176,6 +180,7 @@ fn arguments_fit(c: Command, line: &[u8], at: usize) -> bool
         Command::Block => exactly(line, at, 4),
         Command::Timeout => exactly(line, at, 1),
         Command::Look => exactly(line, at, 0),
+        Command::Tray => at_least(line, at, 0),
         Command::Cert => exactly(line, at, 3),
         Command::Proof => exactly(line, at, 2),
         Command::Check => packet_and_stakes(line, at),

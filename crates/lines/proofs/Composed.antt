@@ -11,7 +11,7 @@ use Rattle.rulebook.specs.PaperNumbers.{Panel}
 use Rattle.rulebook.proofs.ToolLaws.{choose-on, choose-off, given-on, given-off}
 use Rattle.lines.specs.Text.{glyph, decimal, hexPair, hexPairs, hexText, recordText, recordsTo, recordsText}
 use Rattle.lines.specs.Put.{Put}
-use Rattle.lines.specs.Answers.{numberLine, answerLine, missingLine, fiveValues, checkLine}
+use Rattle.lines.specs.Answers.{numberLine, answerLine, spaced, votesTo, votesText, missingLine, fiveValues, checkLine}
 use Rattle.lines.specs.Figures.{moreFor, missingText}
 use Rattle.lines.proofs.Putting.{as-text, and-then, put-nothing}
 use Rattle.lines.proofs.Digits.{decimal-small, decimal-more}
@@ -79,6 +79,28 @@ no-pair l at bytes = put-nothing l at
 pub no-record : (l : List ℕ) (at : ℕ) (outbox : List ℕ) → Put l at (recordsTo outbox 0) l at
 unfolding recordsTo
 no-record l at outbox = put-nothing l at
+
+-- ---- the numbers of a tray's votes
+
+module _ {l : List ℕ} {at : ℕ} (answers : List ℕ) where
+  pub no-votes : length answers ≡ 0 → Put l at (votesText answers) l at
+  unfolding votesText
+  no-votes h = as-text (sym (choose-on (eqb (length answers) 0) _ _ (eq-eqb (length answers) 0 h))) (put-nothing l at)
+
+  pub first-vote : Put l at (votesTo answers 0) l at
+  unfolding votesTo
+  first-vote = put-nothing l at
+
+  pub next-vote : {l′ l″ : List ℕ} {p q : ℕ} (i b : ℕ) → b ≡ getD answers i 0 → Put l at (votesTo answers i) l′ p → Put l′ p (spaced b) l″ q
+      → Put l at (votesTo answers (i + 1)) l″ q
+  unfolding votesTo
+  next-vote i b e w v = as-text (rw (add-one, e)) (and-then w v)
+
+  pub last-vote : {l′ l″ : List ℕ} {p q : ℕ} (i : ℕ) → (length answers ≡ 0 → ⊥) → i ≡ length answers → Put l at (32 ∷ 58 ∷ []) l′ p → Put l′ p (votesTo answers i) l″ q
+      → Put l at (votesText answers) l″ q
+  unfolding votesText
+  last-vote i n e w v =
+      as-text (ap (λ (k : ℕ). (32 ∷ 58 ∷ []) ++ votesTo answers k) e ∙ sym (choose-off (eqb (length answers) 0) _ _ (ne-eqb (length answers) 0 n))) (and-then w v)
 
 -- ---- lines
 

@@ -1,8 +1,8 @@
 -- The line for each answer, from its number on the panel and the values beside it.
 use mathlib.Core.List.{List, [], _∷_, _++_}
-use Prim.Native.Nat.{ℕ}
+use Prim.Native.Nat.{ℕ, zero, suc}
 use lib.Dec.{eqb}
-use lib.ListN.{take, getD}
+use lib.ListN.{length, take, getD}
 use Rattle.rulebook.specs.Tools.{given, choose}
 use Rattle.rulebook.specs.PaperNumbers.{Panel}
 use Rattle.lines.specs.Text.{decimal, hexText, recordsText}
@@ -30,6 +30,19 @@ value p i = getD (p .values) i 0
 -- "0 N k,s,b k,s,b ..": a step's records, out of the outbox that it left.
 unfoldable pub stepLine : Panel → List ℕ → List ℕ
 stepLine p outbox = answerLine p (spaced (value p 0) ++ recordsText outbox (value p 0))
+
+-- The first n numbers of a tray's votes.
+unfoldable pub votesTo : List ℕ → ℕ → List ℕ
+votesTo answers zero = []
+votesTo answers (suc n) = votesTo answers n ++ spaced (getD answers n 0)
+
+-- " : a a a": one number a vote; nothing where there is no vote.
+unfoldable pub votesText : List ℕ → List ℕ
+votesText answers = choose (eqb (length answers) 0) [] ((32 ∷ 58 ∷ []) ++ votesTo answers (length answers))
+
+-- "0 N k,s,b .. : a a a": the records of a tray's votes together, and the votes' numbers.
+unfoldable pub trayLine : Panel → List ℕ → List ℕ → List ℕ
+trayLine p outbox answers = answerLine p (spaced (value p 0) ++ (recordsText outbox (value p 0) ++ votesText answers))
 
 -- "0 N HEX": a writer's bytes, out of the buffer that it left.
 unfoldable pub packetLine : Panel → List ℕ → List ℕ

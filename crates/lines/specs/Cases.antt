@@ -18,7 +18,7 @@ use Rattle.rulebook.specs.Tools.{choose, given}
 use Rattle.rulebook.specs.PaperNumbers.{startPanel, stepPanel, writePanel, readPanel, checkPanel, checkMissing, refusalNumber, refusalMissing, voteNumber, certificateNumber}
 use Rattle.rulebook.specs.Scripts.{equal, all}
 use Rattle.lines.specs.Text.{glyph, digitsOf, decimal, hexPair, hexPairs, hexText, recordText, recordsTo, recordsText}
-use Rattle.lines.specs.Answers.{numberLine, answerLine, spaced, startLine, stepLine, packetLine, messageLine, missingLine, fiveValues, checkLine}
+use Rattle.lines.specs.Answers.{numberLine, answerLine, spaced, startLine, stepLine, votesTo, votesText, trayLine, packetLine, messageLine, missingLine, fiveValues, checkLine}
 use Rattle.lines.specs.Figures.{voteText, shareText, missingText}
 
 -- The bytes of a text.
@@ -43,13 +43,16 @@ hex = all (reads (hexText []) "-" ∷ reads (hexText (0 ∷ [])) "00" ∷ reads 
 abbrev checked : CheckAnswer → List ℕ
 checked a = checkLine (checkPanel a) (checkMissing a)
 
--- The five answers, done and refused.
+-- The answers, done and refused; a tray without a vote, and one with a refused vote in its middle.
 abbrev lines : Bool
 lines =
     all (reads (startLine (startPanel start.Started)) "0\n" ∷ reads (startLine (startPanel (start.Refused refusal.BadRecord))) "17\n"
     ∷ reads (stepLine (stepPanel (step.Done 0)) []) "0 0\n"
     ∷ reads (stepLine (stepPanel (step.Done 2)) (3 ∷ 1 ∷ 0 ∷ 6 ∷ 16 ∷ 7001 ∷ 5 ∷ 5 ∷ 5 ∷ [])) "0 2 3,1,0 6,16,7001\n"
     ∷ reads (stepLine (stepPanel (step.Refused refusal.NoRoom)) (3 ∷ 1 ∷ 0 ∷ [])) "9\n"
+    ∷ reads (trayLine (stepPanel (step.Done 0)) [] []) "0 0\n"
+    ∷ reads (trayLine (stepPanel (step.Done 1)) (7 ∷ 1 ∷ 0 ∷ 5 ∷ []) (0 ∷ 16 ∷ 7 ∷ [])) "0 1 7,1,0 : 0 16 7\n"
+    ∷ reads (trayLine (stepPanel (step.Refused refusal.BadLength)) (7 ∷ 1 ∷ 0 ∷ []) (0 ∷ [])) "12\n"
     ∷ reads (packetLine (writePanel (write.Written 2)) (4 ∷ 240 ∷ 9 ∷ [])) "0 2 04F0\n"
     ∷ reads (packetLine (writePanel (write.Refused refusal.NotHeld)) (4 ∷ [])) "18\n"
     ∷ reads (messageLine (readPanel (read.Read (record { kind = vote.NotarFallback; node = record { 0 = 63 }; slot = record { 0 = 16 }; block = 7 })))) "0 2 63 16 7\n"
@@ -64,5 +67,5 @@ shown =
     ∷ reads (missingText 2 (bytesOf "notar-fallback")) ", 2 more for notar-fallback" ∷ reads (missingText 0 (bytesOf "notar")) "" ∷ [])
 
 cases : T (all (numbers ∷ hex ∷ lines ∷ shown ∷ []))
-unfolding choose given startPanel stepPanel writePanel readPanel checkPanel checkMissing refusalNumber refusalMissing voteNumber certificateNumber glyph digitsOf decimal hexPair hexPairs hexText recordText recordsTo recordsText numberLine answerLine spaced startLine stepLine packetLine messageLine missingLine fiveValues checkLine voteText shareText missingText
+unfolding choose given startPanel stepPanel writePanel readPanel checkPanel checkMissing refusalNumber refusalMissing voteNumber certificateNumber glyph digitsOf decimal hexPair hexPairs hexText recordText recordsTo recordsText numberLine answerLine spaced startLine stepLine votesTo votesText trayLine packetLine messageLine missingLine fiveValues checkLine voteText shareText missingText
 cases = tt

@@ -6,7 +6,7 @@ ghost use lib.ListN.{length, take};
 ghost use Rattle.lines.specs.Text.{decimal, hexPair, hexText, recordText, recordsText};
 ghost use Rattle.lines.specs.Text.{glyph as Text·glyph};
 ghost use Rattle.lines.specs.Put.{Put};
-ghost use Rattle.lines.specs.Answers.{numberLine, spaced, stepLine, packetLine, messageLine, missingLine, checkLine};
+ghost use Rattle.lines.specs.Answers.{numberLine, spaced, stepLine, votesText, trayLine, packetLine, messageLine, missingLine, checkLine};
 ghost use Rattle.lines.specs.Figures.{voteText, shareText, missingText};
 use rulebook::Node;
 use rulebook::Slot;
@@ -156,6 +156,34 @@ pub fn step_line(line: &mut [u8], n: u64, made: usize, outbox: &[u64]) -> usize
     let q = put_spaced(line, p, made as u64);
     let r = put_records(line, q, outbox, made);
     put_byte(line, r, b'\n')
+}
+
+// Puts the numbers of a tray's votes, nothing where there is no vote.
+fn put_votes(line: &mut [u8], at: usize, answers: &[u64]) -> usize
+    ensures { λ r. ⌜ Put (now (line .entry)) at (votesText (now (answers .entry))) (now (line .exit)) r ⌝ }
+{
+    if answers.len() == 0 {
+        return at;
+    }
+    let mut next = put_text(line, at, b" :");
+    for i in 0..answers.len() {
+        next = put_spaced(line, next, answers[i]);
+    }
+    next
+}
+
+// A tray's answer: its number, or 0 with the records made and the votes' numbers.
+pub fn tray_line(line: &mut [u8], n: u64, made: usize, outbox: &[u64], answers: &[u64]) -> usize
+    ensures { λ r. ⌜ Put (now (line .entry)) 0 (trayLine (record { number = n; values = made ∷ [] }) (now (outbox .entry)) (now (answers .entry))) (now (line .exit)) r ⌝ }
+{
+    if n != 0 {
+        return number_line(line, n);
+    }
+    let p = put_byte(line, 0, b'0');
+    let q = put_spaced(line, p, made as u64);
+    let r = put_records(line, q, outbox, made);
+    let s = put_votes(line, r, answers);
+    put_byte(line, s, b'\n')
 }
 
 // A writer's answer: its number, or 0 with the packet at the front of its buffer.

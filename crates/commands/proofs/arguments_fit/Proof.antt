@@ -38,41 +38,47 @@ exactly-requires-4 c κs = search needs
 enum-told-6 : tie.Need-enum-told-6
 enum-told-6 c = search needs
 
-exactly-requires-5 : tie.Need-exactly-requires-5
-exactly-requires-5 c κs = search needs
+at-least-requires-2 : tie.Need-at-least-requires-2
+at-least-requires-2 c κs = search needs
 
 enum-told-7 : tie.Need-enum-told-7
 enum-told-7 c = search needs
 
-exactly-requires-6 : tie.Need-exactly-requires-6
-exactly-requires-6 c κs = search needs
+exactly-requires-5 : tie.Need-exactly-requires-5
+exactly-requires-5 c κs = search needs
 
 enum-told-8 : tie.Need-enum-told-8
 enum-told-8 c = search needs
 
-packet-and-stakes-requires : tie.Need-packet-and-stakes-requires
-packet-and-stakes-requires c κs = search needs
+exactly-requires-6 : tie.Need-exactly-requires-6
+exactly-requires-6 c κs = search needs
 
 enum-told-9 : tie.Need-enum-told-9
 enum-told-9 c = search needs
 
-packet-and-stakes-requires-2 : tie.Need-packet-and-stakes-requires-2
-packet-and-stakes-requires-2 c κs = search needs
+packet-and-stakes-requires : tie.Need-packet-and-stakes-requires
+packet-and-stakes-requires c κs = search needs
 
 enum-told-10 : tie.Need-enum-told-10
 enum-told-10 c = search needs
 
-exactly-requires-7 : tie.Need-exactly-requires-7
-exactly-requires-7 c κs = search needs
+packet-and-stakes-requires-2 : tie.Need-packet-and-stakes-requires-2
+packet-and-stakes-requires-2 c κs = search needs
 
 enum-told-11 : tie.Need-enum-told-11
 enum-told-11 c = search needs
 
-count-and-message-requires : tie.Need-count-and-message-requires
-count-and-message-requires c κs = search needs
+exactly-requires-7 : tie.Need-exactly-requires-7
+exactly-requires-7 c κs = search needs
 
 enum-told-12 : tie.Need-enum-told-12
 enum-told-12 c = search needs
+
+count-and-message-requires : tie.Need-count-and-message-requires
+count-and-message-requires c κs = search needs
+
+enum-told-13 : tie.Need-enum-told-13
+enum-told-13 c = search needs
 
 exactly-requires-8 : tie.Need-exactly-requires-8
 exactly-requires-8 c κs = search needs
@@ -80,32 +86,32 @@ exactly-requires-8 c κs = search needs
 exactly-requires-9 : tie.Need-exactly-requires-9
 exactly-requires-9 c κs = search needs
 
-enum-told-13 : tie.Need-enum-told-13
-enum-told-13 c = search needs
+enum-told-14 : tie.Need-enum-told-14
+enum-told-14 c = search needs
 
 exactly-requires-10 : tie.Need-exactly-requires-10
 exactly-requires-10 c κs = search needs
 
-enum-told-14 : tie.Need-enum-told-14
-enum-told-14 c = search needs
+enum-told-15 : tie.Need-enum-told-15
+enum-told-15 c = search needs
 
 exactly-requires-11 : tie.Need-exactly-requires-11
 exactly-requires-11 c κs = search needs
 
-enum-told-15 : tie.Need-enum-told-15
-enum-told-15 c = search needs
+enum-told-16 : tie.Need-enum-told-16
+enum-told-16 c = search needs
 
 exactly-requires-12 : tie.Need-exactly-requires-12
 exactly-requires-12 c κs = search needs
 
-enum-told-16 : tie.Need-enum-told-16
-enum-told-16 c = search needs
+enum-told-17 : tie.Need-enum-told-17
+enum-told-17 c = search needs
 
 exactly-requires-13 : tie.Need-exactly-requires-13
 exactly-requires-13 c κs = search needs
 
-enum-told-17 : tie.Need-enum-told-17
-enum-told-17 c = search needs
+enum-told-18 : tie.Need-enum-told-18
+enum-told-18 c = search needs
 
 returns : tie.Need-returns
 unfolding argumentsFit
@@ -135,62 +141,67 @@ returns-5 c =
 returns-6 : tie.Need-returns-6
 unfolding argumentsFit
 returns-6 c =
-    simp (c .before .enum-told6 .given .1, c .exactly5 .ensures)
+    simp (c .before .enum-told6 .given .1, c .at-least2 .ensures)
 
 returns-7 : tie.Need-returns-7
 unfolding argumentsFit
 returns-7 c =
-    simp (c .before .enum-told7 .given .1, c .exactly6 .ensures)
+    simp (c .before .enum-told7 .given .1, c .exactly5 .ensures)
 
 returns-8 : tie.Need-returns-8
 unfolding argumentsFit
 returns-8 c =
-    simp (c .before .enum-told8 .given .1, c .packet-and-stakes .ensures)
+    simp (c .before .enum-told8 .given .1, c .exactly6 .ensures)
 
 returns-9 : tie.Need-returns-9
 unfolding argumentsFit
 returns-9 c =
-    simp (c .before .enum-told9 .given .1, c .packet-and-stakes2 .ensures)
+    simp (c .before .enum-told9 .given .1, c .packet-and-stakes .ensures)
 
 returns-10 : tie.Need-returns-10
 unfolding argumentsFit
 returns-10 c =
-    simp (c .before .enum-told10 .given .1, c .exactly7 .ensures)
+    simp (c .before .enum-told10 .given .1, c .packet-and-stakes2 .ensures)
 
 returns-11 : tie.Need-returns-11
 unfolding argumentsFit
 returns-11 c =
-    simp (c .before .enum-told11 .given .1, c .count-and-message .ensures)
+    simp (c .before .enum-told11 .given .1, c .exactly7 .ensures)
 
 returns-12 : tie.Need-returns-12
 unfolding argumentsFit
 returns-12 c =
-    simp (c .before .before .enum-told12 .given .1, c .before .exactly8 .ensures, c .exactly9 .ensures)
+    simp (c .before .enum-told12 .given .1, c .count-and-message .ensures)
 
 returns-13 : tie.Need-returns-13
 unfolding argumentsFit
 returns-13 c =
-    simp (c .before .enum-told13 .given .1, c .exactly10 .ensures)
+    simp (c .before .before .enum-told13 .given .1, c .before .exactly8 .ensures, c .exactly9 .ensures)
 
 returns-14 : tie.Need-returns-14
 unfolding argumentsFit
 returns-14 c =
-    simp (c .before .enum-told14 .given .1, c .exactly11 .ensures)
+    simp (c .before .enum-told14 .given .1, c .exactly10 .ensures)
 
 returns-15 : tie.Need-returns-15
 unfolding argumentsFit
 returns-15 c =
-    simp (c .before .enum-told15 .given .1, c .exactly12 .ensures)
+    simp (c .before .enum-told15 .given .1, c .exactly11 .ensures)
 
 returns-16 : tie.Need-returns-16
 unfolding argumentsFit
 returns-16 c =
-    simp (c .before .enum-told16 .given .1, c .exactly13 .ensures)
+    simp (c .before .enum-told16 .given .1, c .exactly12 .ensures)
 
 returns-17 : tie.Need-returns-17
 unfolding argumentsFit
 returns-17 c =
-    simp (c .enum-told17 .given .1)
+    simp (c .before .enum-told17 .given .1, c .exactly13 .ensures)
+
+returns-18 : tie.Need-returns-18
+unfolding argumentsFit
+returns-18 c =
+    simp (c .enum-told18 .given .1)
 
 pub arguments-fit-spec : {M : Type 1} → statement M
 arguments-fit-spec =
@@ -207,29 +218,31 @@ arguments-fit-spec =
     enum-told-5
     exactly-requires-4
     enum-told-6
-    exactly-requires-5
+    at-least-requires-2
     enum-told-7
-    exactly-requires-6
+    exactly-requires-5
     enum-told-8
-    packet-and-stakes-requires
+    exactly-requires-6
     enum-told-9
-    packet-and-stakes-requires-2
+    packet-and-stakes-requires
     enum-told-10
-    exactly-requires-7
+    packet-and-stakes-requires-2
     enum-told-11
-    count-and-message-requires
+    exactly-requires-7
     enum-told-12
+    count-and-message-requires
+    enum-told-13
     exactly-requires-8
     exactly-requires-9
-    enum-told-13
-    exactly-requires-10
     enum-told-14
-    exactly-requires-11
+    exactly-requires-10
     enum-told-15
-    exactly-requires-12
+    exactly-requires-11
     enum-told-16
-    exactly-requires-13
+    exactly-requires-12
     enum-told-17
+    exactly-requires-13
+    enum-told-18
     returns
     returns-2
     returns-3
@@ -246,4 +259,5 @@ arguments-fit-spec =
     returns-14
     returns-15
     returns-16
-    returns-17)
+    returns-17
+    returns-18)
