@@ -7,6 +7,7 @@ use crate::answers::malformed;
 use crate::answers::number;
 use crate::answers::packet;
 use crate::answers::records;
+use crate::answers::served;
 use crate::answers::vote_read;
 use crate::help::help;
 use crate::help::why;
@@ -20,6 +21,7 @@ use quointrowel::qr_look;
 use quointrowel::qr_read_vote;
 use quointrowel::qr_start;
 use quointrowel::qr_timeout;
+use quointrowel::qr_tray;
 use quointrowel::qr_vote;
 use quointrowel::qr_write_certificate;
 use quointrowel::qr_write_proof;
@@ -104,6 +106,41 @@ fn look(page: &mut [u8], rec: &mut [u64], outbox: &mut [u64]) -> bool {
     let mut made = 0;
     let n = qr_look(rec, outbox, &mut made);
     records(page, n, made, outbox)
+}
+
+// tray WORD..; a line has no room for more than 2046 words.
+fn tray(page: &mut [u8], line: &[u8], at: usize, rec: &mut [u64], outbox: &mut [u64]) -> bool {
+    let mut words = [0u64; 2048];
+    let n = read_numbers(line, at, &mut words);
+    tray_with(page, &words, n.count, rec, outbox)
+}
+
+// The same, with the words read, as many of them as there is room for.
+fn tray_with(
+    page: &mut [u8],
+    words: &[u64],
+    many: usize,
+    rec: &mut [u64],
+    outbox: &mut [u64],
+) -> bool {
+    if many < words.len() {
+        tray_votes(page, &words[0..many], rec, outbox)
+    } else {
+        tray_votes(page, words, rec, outbox)
+    }
+}
+
+// A run of votes, four words each, with a place for the answer of each.
+fn tray_votes(page: &mut [u8], votes: &[u64], rec: &mut [u64], outbox: &mut [u64]) -> bool {
+    let mut answers = [0u64; 512];
+    let mut made = 0;
+    let n = qr_tray(rec, outbox, &mut made, votes, &mut answers);
+    let many = votes.len() / 4;
+    if many < answers.len() {
+        served(page, n, made, outbox, &answers[0..many])
+    } else {
+        served(page, n, made, outbox, &answers)
+    }
 }
 
 // cert KIND SLOT BLOCK
@@ -265,6 +302,7 @@ pub fn obey(page: &mut [u8], line: &[u8], rec: &mut [u64], outbox: &mut [u64]) -
         Command::Block => answered(block(page, line, at, rec, outbox)),
         Command::Timeout => answered(timeout(page, line, at, rec, outbox)),
         Command::Look => answered(look(page, rec, outbox)),
+        Command::Tray => answered(tray(page, line, at, rec, outbox)),
         _ => ask(page, c, line, at, rec),
     }
 }

@@ -11,6 +11,7 @@ use lines::number_line;
 use lines::packet_line;
 use lines::put_text;
 use lines::step_line;
+use lines::tray_line;
 
 // What a line of the script leads to: the next one, the script's end, or that no further line is answered.
 pub enum Turn {
@@ -55,6 +56,12 @@ pub fn records(page: &mut [u8], n: u64, made: usize, outbox: &[u64]) -> bool
     ensures { λ _. ⌜ now (page .exit) ≡ sets (now (page .entry)) 0 (stepLine (record { number = n; values = made ∷ [] }) (now (outbox .entry))) ⌝ }
 {
     let used = step_line(page, n, made, outbox);
+    send(page, used)
+}
+
+// A tray's answer: its number, or 0 with the records made and one number a vote.
+pub fn served(page: &mut [u8], n: u64, made: usize, outbox: &[u64], answers: &[u64]) -> bool {
+    let used = tray_line(page, n, made, outbox, answers);
     send(page, used)
 }
 

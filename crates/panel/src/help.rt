@@ -12,11 +12,16 @@ fn inputs(page: &mut [u8], at: usize) -> usize {
     let r = tell_line(
         page,
         q,
+        b"tray KIND NODE SLOT BLOCK ..         0 N kind,slot,block .. : ANSWER ..",
+    );
+    let s = tell_line(
+        page,
+        r,
         b"block SLOT NUMBER PARENTSLOT PARENT  0 N kind,slot,block ..",
     );
     tell_line(
         page,
-        r,
+        s,
         b"timeout SLOT | look                  0 N kind,slot,block ..",
     )
 }

@@ -15,8 +15,8 @@ const LINE_ROOM: usize = 4098;
 
 const LONGEST: usize = 4096;
 
-// Every answer has room in a page: at most 128 records of 63 bytes, or 64 bytes in hex.
-const PAGE_ROOM: usize = 8192;
+// Every answer has room in a page: at most 128 records of 63 bytes with the numbers of 512 votes, three bytes each, or 64 bytes in hex.
+const PAGE_ROOM: usize = 10240;
 
 const RECORD_WORDS: usize = 7773;
 

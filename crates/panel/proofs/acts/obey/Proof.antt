@@ -61,6 +61,15 @@ look-requires c κs = search needs
 answered-requires-5 : tie.Need-answered-requires-5
 answered-requires-5 c κs = search needs
 
+enum-told-6 : tie.Need-enum-told-6
+enum-told-6 c = search needs
+
+tray-requires : tie.Need-tray-requires
+tray-requires c κs = search needs
+
+answered-requires-6 : tie.Need-answered-requires-6
+answered-requires-6 c κs = search needs
+
 ask-requires : tie.Need-ask-requires
 ask-requires c κs = search needs
 
@@ -137,8 +146,22 @@ same-length-15 c = search needs
 same-length-16 : tie.Need-same-length-16
 same-length-16 c = search needs
 
+same-length-17 : tie.Need-same-length-17
+same-length-17 c = search needs
+
 returns-7 : tie.Need-returns-7
-returns-7 c = search needs
+unfolding tells
+returns-7 c =
+    telling (c .before .before .before .before .before .before .before .before .before .before .before .before .before .before .before .before .before .before .before .before .before .args .line .now) (c .before .before .before .before .before .before .before .before .before .before .before .before .before .command-of .result) command.Tray (c .before .before .before .before .before .before .before .before .before .before .before .before .before .command-of .ensures) (c .before .before .before .before .before .before .before .before .before .before .before .enum-told6 .given .1) refl _ _ _ _
+
+same-length-18 : tie.Need-same-length-18
+same-length-18 c = search needs
+
+same-length-19 : tie.Need-same-length-19
+same-length-19 c = search needs
+
+returns-8 : tie.Need-returns-8
+returns-8 c = search needs
 
 pub obey-spec : {M : Type 1} → statement M
 obey-spec =
@@ -162,6 +185,9 @@ obey-spec =
     enum-told-5
     look-requires
     answered-requires-5
+    enum-told-6
+    tray-requires
+    answered-requires-6
     ask-requires
     same-length
     same-length-2
@@ -184,4 +210,8 @@ obey-spec =
     returns-6
     same-length-15
     same-length-16
-    returns-7)
+    same-length-17
+    returns-7
+    same-length-18
+    same-length-19
+    returns-8)
