@@ -3,7 +3,7 @@
 ghost use mathlib.Core.Path.{_≡_};
 ghost use mathlib.Core.List.{[], _∷_};
 ghost use lib.Seq.{sets};
-ghost use Rattle.lines.specs.Answers.{numberLine, stepLine, packetLine, messageLine, checkLine};
+ghost use Rattle.lines.specs.Answers.{numberLine, stepLine, trayLine, packetLine, messageLine, checkLine};
 use door::send;
 use lines::check_line;
 use lines::message_line;
@@ -60,7 +60,9 @@ pub fn records(page: &mut [u8], n: u64, made: usize, outbox: &[u64]) -> bool
 }
 
 // A tray's answer: its number, or 0 with the records made and one number a vote.
-pub fn served(page: &mut [u8], n: u64, made: usize, outbox: &[u64], answers: &[u64]) -> bool {
+pub fn served(page: &mut [u8], n: u64, made: usize, outbox: &[u64], answers: &[u64]) -> bool
+    ensures { λ _. ⌜ now (page .exit) ≡ sets (now (page .entry)) 0 (trayLine (record { number = n; values = made ∷ [] }) (now (outbox .entry)) (now (answers .entry))) ⌝ }
+{
     let used = tray_line(page, n, made, outbox, answers);
     send(page, used)
 }

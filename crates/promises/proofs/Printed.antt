@@ -4,9 +4,10 @@ use mathlib.Core.List.{List}
 use Prim.Native.Nat.{ℕ}
 use lib.ListN.{take}
 use Rattle.rulebook.proofs.RuleLaws.{over-front}
-use Rattle.lines.specs.Answers.{numberLine, startLine, stepLine, packetLine, messageLine, checkLine}
+use Rattle.lines.specs.Answers.{numberLine, startLine, stepLine, trayLine, packetLine, messageLine, checkLine}
 use Rattle.lines.proofs.Putting.{stands-whole}
-use Rattle.promises.specs.Printed.{Sends, StartPrinted, StepPrinted, PacketPrinted, MessagePrinted, CheckPrinted}
+use Rattle.trays.specs.Trays.{wholeVotes}
+use Rattle.promises.specs.Printed.{Sends, StartPrinted, StepPrinted, TrayPrinted, PacketPrinted, MessagePrinted, CheckPrinted}
 
 -- A text in other words is sent as it stands.
 sends : (made sent : List ℕ) → made ≡ sent → Sends made sent
@@ -20,6 +21,10 @@ start-printed ws stakes own genesis number left s = sends _ _ (ap numberLine (s 
 pub step-printed : StepPrinted
 step-printed ws out i number made ws' left s =
     sends _ _ (λ j. stepLine (record { number = s .numbered j; values = s .counted j }) left)
+
+pub tray-printed : TrayPrinted
+tray-printed ws out votes places number made ws' left answers s =
+    sends _ _ (λ j. trayLine (record { number = s .numbered j; values = s .counted j }) left (take (wholeVotes votes) (s .answered j)))
 
 pub packet-printed : PacketPrinted
 packet-printed wrote buffer number count after s =

@@ -10,10 +10,12 @@ use Rattle.rulebook.specs.declared.ReadAnswer.{ReadAnswer}
 use Rattle.rulebook.specs.PaperNumbers.{startPanel, stepPanel, writePanel, readPanel, checkPanel, checkMissing}
 use Rattle.rulebook.specs.Writers as written
 use Rattle.lines.specs.Put.{Put}
-use Rattle.lines.specs.Answers.{numberLine, startLine, stepLine, packetLine, messageLine, checkLine}
+use Rattle.lines.specs.Answers.{numberLine, startLine, stepLine, trayLine, packetLine, messageLine, checkLine}
 use Rattle.soundness.specs.Starting.{startJudged, startAnswer}
 use Rattle.node.specs.Stepping.{stepLeaves}
-use Rattle.answers.specs.Face.{Started, Stepped, Wrote, MessageRead, Checked}
+use Rattle.trays.specs.Trays.{wholeVotes}
+use Rattle.trays.specs.Lent.{trayLeaves}
+use Rattle.answers.specs.Face.{Started, Stepped, Trayed, Wrote, MessageRead, Checked}
 
 -- A page in which one text was put, and the other is what is sent of it.
 abbrev pub Sends : List ℕ → List ℕ → Type 0
@@ -30,6 +32,13 @@ abbrev pub StepPrinted : Type 0
 StepPrinted =
     (ws out : List ℕ) (i : Input) (number made : ℕ) (ws' left : List ℕ) → Stepped ws out i number made ws' left
     → Sends (stepLine (record { number = number; values = made ∷ [] }) left) (stepLine (stepPanel (stepLeaves ws out i .answer)) left)
+
+-- tray: the votes' numbers stand at the front of the answer buffer that it left, as many as there are whole votes.
+abbrev pub TrayPrinted : Type 0
+TrayPrinted =
+    (ws out votes places : List ℕ) (number made : ℕ) (ws' left answers : List ℕ) → Trayed ws out votes places number made ws' left answers
+    → Sends (trayLine (record { number = number; values = made ∷ [] }) left (take (wholeVotes votes) answers))
+    (trayLine (stepPanel (trayLeaves ws out votes places .answer)) left (take (wholeVotes votes) (trayLeaves ws out votes places .answers)))
 
 -- cert, proof and pack: the bytes stand in the buffer that the writer left.
 abbrev pub PacketPrinted : Type 0
