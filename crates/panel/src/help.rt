@@ -141,7 +141,7 @@ fn middle_refusal(page: &mut [u8], at: usize, n: u64) -> usize {
         9 => tell_line(
             page,
             at,
-            b"9: The outbox is below 128 records; or the buffer below 32 bytes for a certificate, 64 for a proof, 16 for a vote message.",
+            b"9: The outbox is below 128 records; or the buffer below 32 bytes for a certificate, 64 for a proof, 16 for a vote message; or a tray has fewer places for answers than votes.",
         ),
         10 => tell_line(
             page,
@@ -153,7 +153,11 @@ fn middle_refusal(page: &mut [u8], at: usize, n: u64) -> usize {
             at,
             b"11: The parent slot is not below the slot, or is slot 0 with another number than genesis.",
         ),
-        12 => tell_line(page, at, b"12: The packet ends early, or bytes remain."),
+        12 => tell_line(
+            page,
+            at,
+            b"12: The packet ends early, or bytes remain; or a part of a vote ends a tray.",
+        ),
         _ => early_refusal(page, at, n),
     }
 }
