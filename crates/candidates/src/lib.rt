@@ -14,38 +14,40 @@ use own_votes::window_open;
 use pool::counted_before;
 use pool::held;
 use pool::weigh;
+use record::count;
 use record::load_cell;
 use record::own_cell;
+use record::total;
 use rulebook::CertificateKind;
 use rulebook::Node;
 use rulebook::Slot;
 use rulebook::Threshold;
 use rulebook::Weight;
 use rulebook::Who;
-use stakes::StakeTable;
 
 // D's weights: notar(b) reaches 40, or notar(b) reaches 20 and skip + notar(b) reaches 60.
-pub fn fallback_weights(rec: &[u64], t: StakeTable, s: Slot, b: u64) -> bool
-    requires { ⌜ Weighing (now rec) t (s .0) ⌝ }
+pub fn fallback_weights(rec: &[u64], s: Slot, b: u64) -> bool
+    requires { ⌜ Weighing (now rec) (s .0) ⌝ }
     ensures { λ r. ⌜ r ≡ fallbackWeights (ledgerOf (now (rec .entry))) (s .0) b ⌝ }
 {
-    let notar = weigh(rec, t, s, Who::Notar(b));
-    let to_forty = Threshold::FORTY.missing(notar, t.total);
+    let total = total(rec);
+    let notar = weigh(rec, s, Who::Notar(b));
+    let to_forty = Threshold::FORTY.missing(notar, total);
     if to_forty.0 == 0 {
         return true;
     }
-    let to_twenty = Threshold::TWENTY.missing(notar, t.total);
+    let to_twenty = Threshold::TWENTY.missing(notar, total);
     if to_twenty.0 != 0 {
         return false;
     }
-    let skip = weigh(rec, t, s, Who::Skip);
-    let to_sixty = Threshold::SIXTY.missing(Weight(skip.0 + notar.0), t.total);
+    let skip = weigh(rec, s, Who::Skip);
+    let to_sixty = Threshold::SIXTY.missing(Weight(skip.0 + notar.0), total);
     to_sixty.0 == 0
 }
 
 // Whether D applies to b: the own vote is not notar b, something would be cast, and the weights.
-fn falls_back(rec: &[u64], t: StakeTable, s: Slot, b: u64) -> bool
-    requires { ⌜ Judging (now rec) t (s .0) ⌝ }
+fn falls_back(rec: &[u64], s: Slot, b: u64) -> bool
+    requires { ⌜ Judging (now rec) (s .0) ⌝ }
     ensures { λ r. ⌜ r ≡ fallsBack (ledgerOf (now (rec .entry))) (s .0) b ⌝ }
 {
     let c = own_cell(rec, s);
@@ -56,7 +58,7 @@ fn falls_back(rec: &[u64], t: StakeTable, s: Slot, b: u64) -> bool
     if !casts {
         return false;
     }
-    fallback_weights(rec, t, s, b)
+    fallback_weights(rec, s, b)
 }
 
 // The lower of b, where it passes, and m; 0 stands for none.
@@ -85,51 +87,52 @@ fn is_new(rec: &[u64], s: Slot, n: Node, b: u64) -> bool
 
 // D's block: the lowest that D applies to, 0 where there is none. Only a block with a notar vote can be it, and each is
 // weighed once.
-pub fn fallback_block(rec: &[u64], t: StakeTable, s: Slot) -> u64
-    requires { ⌜ Judging (now rec) t (s .0) ⌝ }
+pub fn fallback_block(rec: &[u64], s: Slot) -> u64
+    requires { ⌜ Judging (now rec) (s .0) ⌝ }
     ensures { λ r. ⌜ r ≡ fallbackBlock (ledgerOf (now (rec .entry))) (s .0) ⌝ }
 {
-    let count = t.count;
+    let nodes = count(rec);
     let mut best: u64 = 0;
-    for n in 0..count {
+    for n in 0..nodes {
         let c = load_cell(rec, s, Node(n));
         let b = c.notar;
         if is_new(rec, s, Node(n), b) {
-            best = lower(falls_back(rec, t, s, b), b, best);
+            best = lower(falls_back(rec, s, b), b, best);
         }
     }
     best
 }
 
 // F's test: kind 1 held for b, or kinds 2 for b and 5.
-pub fn is_final(rec: &[u64], t: StakeTable, s: Slot, b: u64) -> bool
-    requires { ⌜ Weighing (now rec) t (s .0) ⌝ }
+pub fn is_final(rec: &[u64], s: Slot, b: u64) -> bool
+    requires { ⌜ Weighing (now rec) (s .0) ⌝ }
     ensures { λ r. ⌜ r ≡ isFinal (ledgerOf (now (rec .entry))) (s .0) b ⌝ }
 {
-    let notar = weigh(rec, t, s, Who::Notar(b));
-    let to_eighty = Threshold::EIGHTY.missing(notar, t.total);
+    let total = total(rec);
+    let notar = weigh(rec, s, Who::Notar(b));
+    let to_eighty = Threshold::EIGHTY.missing(notar, total);
     if to_eighty.0 == 0 {
         return true;
     }
-    let to_sixty = Threshold::SIXTY.missing(notar, t.total);
+    let to_sixty = Threshold::SIXTY.missing(notar, total);
     if to_sixty.0 != 0 {
         return false;
     }
-    held(rec, t, CertificateKind::Final, s, 0)
+    held(rec, CertificateKind::Final, s, 0)
 }
 
 // F's block: the lowest that is final in slot s, 0 where there is none; likewise.
-pub fn final_candidate(rec: &[u64], t: StakeTable, s: Slot) -> u64
-    requires { ⌜ Weighing (now rec) t (s .0) ⌝ }
+pub fn final_candidate(rec: &[u64], s: Slot) -> u64
+    requires { ⌜ Weighing (now rec) (s .0) ⌝ }
     ensures { λ r. ⌜ r ≡ lowest (isFinal (ledgerOf (now (rec .entry))) (s .0)) (names (ledgerOf (now (rec .entry))) (s .0)) ⌝ }
 {
-    let count = t.count;
+    let nodes = count(rec);
     let mut best: u64 = 0;
-    for n in 0..count {
+    for n in 0..nodes {
         let c = load_cell(rec, s, Node(n));
         let b = c.notar;
         if is_new(rec, s, Node(n), b) {
-            best = lower(is_final(rec, t, s, b), b, best);
+            best = lower(is_final(rec, s, b), b, best);
         }
     }
     best
@@ -146,36 +149,37 @@ fn larger(v: Weight, w: Weight) -> Weight
 }
 
 // The largest notar(b) of slot s, 0 where there is none; likewise.
-pub fn largest_notar(rec: &[u64], t: StakeTable, s: Slot) -> Weight
-    requires { ⌜ Weighing (now rec) t (s .0) ⌝ }
+pub fn largest_notar(rec: &[u64], s: Slot) -> Weight
+    requires { ⌜ Weighing (now rec) (s .0) ⌝ }
     ensures { λ r. ⌜ r .0 ≡ largest (λ b. weigh (ledgerOf (now (rec .entry))) (s .0) (who.Notar b)) (names (ledgerOf (now (rec .entry))) (s .0)) ⌝ }
 {
-    let count = t.count;
+    let nodes = count(rec);
     let mut most = Weight(0);
-    for n in 0..count {
+    for n in 0..nodes {
         let c = load_cell(rec, s, Node(n));
         let b = c.notar;
         if is_new(rec, s, Node(n), b) {
-            most = larger(weigh(rec, t, s, Who::Notar(b)), most);
+            most = larger(weigh(rec, s, Who::Notar(b)), most);
         }
     }
     most
 }
 
 // E's weights: skip + all notar - largest notar(b) reaches 40. The largest is looked for only where the sum reaches 40.
-pub fn skip_weights(rec: &[u64], t: StakeTable, s: Slot) -> bool
-    requires { ⌜ Weighing (now rec) t (s .0) ⌝ }
+pub fn skip_weights(rec: &[u64], s: Slot) -> bool
+    requires { ⌜ Weighing (now rec) (s .0) ⌝ }
     ensures { λ r. ⌜ r ≡ skipWeights (ledgerOf (now (rec .entry))) (s .0) ⌝ }
 {
-    let skips = weigh(rec, t, s, Who::Skip);
-    let notars = weigh(rec, t, s, Who::AnyNotar);
+    let total = total(rec);
+    let skips = weigh(rec, s, Who::Skip);
+    let notars = weigh(rec, s, Who::AnyNotar);
     let sum = skips.0 + notars.0;
-    let at_most = Threshold::FORTY.missing(Weight(sum), t.total);
+    let at_most = Threshold::FORTY.missing(Weight(sum), total);
     if at_most.0 != 0 {
         return false;
     }
-    let most = largest_notar(rec, t, s);
+    let most = largest_notar(rec, s);
     let rest = sum - most.0;
-    let short = Threshold::FORTY.missing(Weight(rest), t.total);
+    let short = Threshold::FORTY.missing(Weight(rest), total);
     short.0 == 0
 }

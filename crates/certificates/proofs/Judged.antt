@@ -1,11 +1,10 @@
--- Laws of one certificate: the stakes of a table, and what is told of a certificate against the rule book. Assumes nothing.
+-- Laws of one certificate: what was weighed of it, and what is told of it against the rule book. Assumes nothing.
 use mathlib.Core.Path.{_≡_, refl, sym, ap, ap₂, _∙_}
 use mathlib.Core.Bool.{Bool, true, false, not, _||_}
 use mathlib.Core.List.{List}
-use Prim.Native.Nat.{ℕ, _-_, _≤_, _<_}
+use Prim.Native.Nat.{ℕ, _≤_}
 use native.Mathlib.Omega.{arith}
 use lib.ListN.{length}
-use lib.Seq.{getD-take, length-take-le}
 use Rattle.rulebook.specs.declared.Certificate.{Certificate}
 use Rattle.rulebook.specs.declared.CertificateKind.{CertificateKind}
 use Rattle.rulebook.specs.declared.CertificateKind.the-variants as certificate
@@ -13,22 +12,20 @@ use Rattle.rulebook.specs.declared.Refusal.{Refusal}
 use Rattle.rulebook.specs.declared.Refusal.the-variants as refusal
 use Rattle.rulebook.specs.declared.Verdict.{Verdict}
 use Rattle.rulebook.specs.declared.Verdict.the-variants as verdict
-use Rattle.rulebook.specs.Tools.{part}
 use Rattle.rulebook.specs.declared.Weight.{Weight}
-use Rattle.rulebook.specs.Weights.{slotOk, stakeIn, weight, totalTo, reaches, missing}
+use Rattle.rulebook.specs.Weights.{slotOk, totalTo, reaches, missing}
 use Rattle.rulebook.specs.PaperNumbers.{certificateKind}
 use Rattle.rulebook.specs.Pool.{fifthsOf}
 use Rattle.rulebook.specs.Inputs.{refuseIf}
 use Rattle.rulebook.specs.Packets.{bit, countOf}
 use Rattle.rulebook.specs.Checker.{isOtherKind, blockMisfits, badSigners, signed, signedWeight, lacking, judgeWeight, acceptedOf, judged, judgeKind, judge}
-use Rattle.rulebook.proofs.ToolLaws.{sum-same}
 use Rattle.rulebook.proofs.WeightLaws.{none-missing, some-missing}
 use Rattle.stakes.specs.declared.StakeTable.{StakeTable}
 use Rattle.stakes.specs.declared.Weighed.{Weighed}
-use Rattle.stakes.specs.Table.{weighed}
+use Rattle.stakes.specs.Table.{Fit, weighed}
 use Rattle.certificates.specs.declared.Checked.{Checked}
 use Rattle.certificates.specs.declared.Checked.the-variants as checked
-use Rattle.certificates.specs.Told.{Sound, Heard, stakesOf, told, faultOf, unless, weighedIn}
+use Rattle.certificates.specs.Told.{Heard, told, faultOf, unless, weighedIn}
 
 -- No kind needs more than five fifths.
 pub fifths-le : (k : CertificateKind) → fifthsOf k ≤ 5
@@ -39,43 +36,6 @@ fifths-le certificate.NotarFallback = omega arith
 fifths-le certificate.Skip = omega arith
 fifths-le certificate.Final = omega arith
 fifths-le certificate.Other = omega arith
-
--- ---- the stakes of a table
-
-pub stakes-length : (t : StakeTable) → Sound t → length (stakesOf t) ≡ t .count
-unfolding stakesOf
-stakes-length t s = length-take-le (t .count) (t .stakes) (s .places)
-
-stake-same : (t : StakeTable) (n : ℕ) → n < t .count → stakeIn (stakesOf t) n ≡ stakeIn (t .stakes) n
-unfolding stakesOf
-stake-same t n h = getD-take (t .count) (t .stakes) n 0 h
-
-stakes-weight : (t : StakeTable) → Sound t → (p : ℕ → Bool) → weight (t .stakes) (t .count) p ≡ weight (stakesOf t) (length (stakesOf t)) p
-unfolding weight
-stakes-weight t s p =
-    rw (stakes-length t s)
-    (sum-same (t .count) (λ n. part (p n) (stakeIn (t .stakes) n)) (λ n. part (p n) (stakeIn (stakesOf t) n)) (λ i l. ap (part (p i)) (sym (stake-same t i l))))
-
-pub stakes-total : (t : StakeTable) → Sound t → t .total .0 ≡ totalTo (stakesOf t) (length (stakesOf t))
-unfolding totalTo
-stakes-total t s =
-    sym (s .fit .sum)
-    ∙ rw (stakes-length t s)
-    (sum-same (t .count) (λ n. stakeIn (t .stakes) n) (λ n. stakeIn (stakesOf t) n) (λ i l. sym (stake-same t i l)))
-
--- What is weighed on the table is what the stakes weigh.
-pub stakes-weighed : (t : StakeTable) → Sound t → (c : Certificate) (w : Weighed)
-    → w ≡ weighed (t .stakes) (t .count) (λ n. bit (c .maska) n || bit (c .maskb) n)
-    → w ≡ record { signers = countOf (signed c) (length (stakesOf t)); weight = record { 0 = signedWeight (stakesOf t) c } }
-unfolding weighed signed signedWeight
-stakes-weighed t s c w e =
-    let who : ℕ → Bool = λ n. bit (c .maska) n || bit (c .maskb) n in
-    e
-    ∙ ap₂ (λ (x y : ℕ). record { signers = countOf who x; weight = record { 0 = y } }) (sym (stakes-length t s)) (stakes-weight t s who)
-
--- The signers are as bad against the table's count.
-signers-same : (t : StakeTable) → Sound t → (k : CertificateKind) (c : Certificate) → badSigners (length (stakesOf t)) k c ≡ badSigners (t .count) k c
-signers-same t s k c = ap (λ (n : ℕ). badSigners n k c) (stakes-length t s)
 
 -- ---- what is told, against the rule book
 
@@ -91,15 +51,21 @@ pub heavy-enough : (ws : List ℕ) (k : CertificateKind) (c : Certificate) (next
 unfolding weighedIn judgeWeight refuseIf judged told
 heavy-enough ws k c next e = rw e
 
--- What was weighed on the table lacks what the stakes lack.
-pub lacks-same : (t : StakeTable) → Sound t → (k : CertificateKind) (c : Certificate) (w : Weighed)
-    → w ≡ weighed (t .stakes) (t .count) (λ n. bit (c .maska) n || bit (c .maskb) n) → (n : ℕ) → n ≡ fifthsOf k → (m : ℕ)
-    → m ≡ missing n (t .total .0) (w .weight .0) → m ≡ lacking (stakesOf t) k c
+-- The signers' count and weight, as they are weighed.
+weighed-signed : (ws : List ℕ) (c : Certificate) (w : Weighed) → w ≡ weighed ws (length ws) (λ n. bit (c .maska) n || bit (c .maskb) n)
+    → w ≡ record { signers = countOf (signed c) (length ws); weight = record { 0 = signedWeight ws c } }
+unfolding weighed signed signedWeight
+weighed-signed ws c w e = e
+
+-- What was weighed lacks what the certificate lacks.
+pub lacks-same : (ws : List ℕ) (t : StakeTable) → Fit ws t → (k : CertificateKind) (c : Certificate) (w : Weighed)
+    → w ≡ weighed ws (length ws) (λ n. bit (c .maska) n || bit (c .maskb) n) → (n : ℕ) → n ≡ fifthsOf k → (m : ℕ)
+    → m ≡ missing n (t .total .0) (w .weight .0) → m ≡ lacking ws k c
 unfolding lacking
-lacks-same t s k c w q n e m h =
-    let v : w .weight .0 ≡ signedWeight (stakesOf t) c = ap (λ (x : Weighed). x .weight .0) (stakes-weighed t s c w q) in
+lacks-same ws t f k c w q n e m h =
+    let v : w .weight .0 ≡ signedWeight ws c = ap (λ (x : Weighed). x .weight .0) (weighed-signed ws c w q) in
     h ∙ ap (λ (x : ℕ). missing x (t .total .0) (w .weight .0)) e
-    ∙ ap₂ (λ (x y : ℕ). missing (fifthsOf k) x y) (stakes-total t s) v
+    ∙ ap₂ (λ (x y : ℕ). missing (fifthsOf k) x y) (f .total) v
 
 -- Something lacking is a weight below the threshold, and nothing lacking is not.
 pub lacks-some : (ws : List ℕ) (k : CertificateKind) (c : Certificate) (m : ℕ) → m ≡ lacking ws k c → (m ≡ 0 → ⊥)
@@ -113,16 +79,16 @@ unfolding lacking
 lacks-none ws k c m e z = none-missing (fifthsOf k) (totalTo ws (length ws)) (signedWeight ws c) m e z
 
 -- What is told of a certificate that was weighed.
-pub weighed-told : (t : StakeTable) → (k : CertificateKind) (c : Certificate) → Heard t k c → (w : Weighed)
-    → w ≡ weighed (t .stakes) (t .count) (λ n. bit (c .maska) n || bit (c .maskb) n) → (next : ℕ)
-    → reaches (fifthsOf k) (totalTo (stakesOf t) (length (stakesOf t))) (signedWeight (stakesOf t) c) ≡ true
-    → checked.Good (record { kind = k; slot = record { 0 = c .slot }; block = c .block; signers = w .signers; weight = w .weight }) next ≡ weighedIn (stakesOf t) k c next
+pub weighed-told : (ws : List ℕ) (t : StakeTable) (k : CertificateKind) (c : Certificate) → Heard ws t k c → (w : Weighed)
+    → w ≡ weighed ws (length ws) (λ n. bit (c .maska) n || bit (c .maskb) n) → (next : ℕ)
+    → reaches (fifthsOf k) (totalTo ws (length ws)) (signedWeight ws c) ≡ true
+    → checked.Good (record { kind = k; slot = record { 0 = c .slot }; block = c .block; signers = w .signers; weight = w .weight }) next ≡ weighedIn ws k c next
 unfolding acceptedOf
-weighed-told t k c h w q next r =
+weighed-told ws t k c h w q next r =
     ap₂ (λ (x : CertificateKind) (y : Weighed).
     checked.Good (record { kind = x; slot = record { 0 = c .slot }; block = c .block; signers = y .signers; weight = y .weight }) next)
-    (h .kind) (stakes-weighed t (h .sound) c w q)
-    ∙ sym (heavy-enough (stakesOf t) k c next r)
+    (h .kind) (weighed-signed ws c w q)
+    ∙ sym (heavy-enough ws k c next r)
 
 -- The tests of a certificate in their order, and the weighing last.
 fault-then : (ws : List ℕ) (c : Certificate) (next : ℕ) (a b d f : Bool) (last : Verdict)
@@ -146,14 +112,13 @@ unless-refused v x r e = rw e
 pub fault-same : (a b d f x y z w : Bool) → a ≡ x → b ≡ y → d ≡ z → f ≡ w → (v : Verdict) → v ≡ faultOf a (not b) d f → v ≡ faultOf x (not y) z w
 fault-same a b d f x y z w p q r s v e = e ∙ rw (p, q, r, s)
 
-pub judge-is : (t : StakeTable) → Sound t → (k : CertificateKind) (c : Certificate) (next : ℕ) → k ≡ certificateKind (c .kind) → (v : Verdict)
-    → v ≡ faultOf (isOtherKind k) (not (slotOk (c .slot))) (blockMisfits k (c .block)) (badSigners (t .count) k c)
-    → told (stakesOf t) (judged (judge (stakesOf t) c) c next) ≡ unless v (weighedIn (stakesOf t) k c next)
+pub judge-is : (ws : List ℕ) (t : StakeTable) → Fit ws t → (k : CertificateKind) (c : Certificate) (next : ℕ) → k ≡ certificateKind (c .kind)
+    → (v : Verdict) → v ≡ faultOf (isOtherKind k) (not (slotOk (c .slot))) (blockMisfits k (c .block)) (badSigners (t .count) k c)
+    → told ws (judged (judge ws c) c next) ≡ unless v (weighedIn ws k c next)
 unfolding judge judgeKind weighedIn
-judge-is t s k c next e v h =
-    let ws = stakesOf t in
+judge-is ws t f k c next e v h =
     let last = judgeWeight ws k c in
     ap (λ (x : CertificateKind). told ws (judged (judgeKind ws x c) c next)) (sym e)
     ∙ fault-then ws c next (isOtherKind k) (not (slotOk (c .slot))) (blockMisfits k (c .block)) (badSigners (length ws) k c) last
     ∙ ap (λ (x : Verdict). unless x (told ws (judged last c next)))
-    (ap (faultOf (isOtherKind k) (not (slotOk (c .slot))) (blockMisfits k (c .block))) (signers-same t s k c) ∙ sym h)
+    (ap (λ (n : ℕ). faultOf (isOtherKind k) (not (slotOk (c .slot))) (blockMisfits k (c .block)) (badSigners n k c)) (sym (f .count)) ∙ sym h)

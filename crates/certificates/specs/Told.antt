@@ -1,9 +1,8 @@
--- What is told of one certificate on a stake table.
+-- What is told of one certificate on lent stakes.
 use mathlib.Core.Path.{_≡_}
 use mathlib.Core.Bool.{Bool}
 use mathlib.Core.List.{List}
-use Prim.Native.Nat.{ℕ, _≤_}
-use lib.ListN.{length, take}
+use Prim.Native.Nat.{ℕ}
 use Rattle.rulebook.specs.declared.Certificate.{Certificate}
 use Rattle.rulebook.specs.declared.CertificateKind.{CertificateKind}
 use Rattle.rulebook.specs.declared.Refusal.the-variants as refusal
@@ -17,18 +16,9 @@ use Rattle.stakes.specs.Table.{Fit}
 use Rattle.certificates.specs.declared.Checked.{Checked}
 use Rattle.certificates.specs.declared.Checked.the-variants as checked
 
--- The stakes that a table was made from.
-unfoldable pub stakesOf : StakeTable → List ℕ
-stakesOf t = take (t .count) (t .stakes)
-
--- What the checker asks of its table.
-pub record Sound (t : StakeTable) : Type 0 where
-  pub fit : Fit t
-  pub places : t .count ≤ length (t .stakes)
-
--- The same where a certificate's kind is known.
-pub record Heard (t : StakeTable) (k : CertificateKind) (c : Certificate) : Type 0 where
-  pub sound : Sound t
+-- The table beside lent stakes is theirs, and a certificate's kind is known.
+pub record Heard (stakes : List ℕ) (t : StakeTable) (k : CertificateKind) (c : Certificate) : Type 0 where
+  pub fit : Fit stakes t
   pub kind : k ≡ certificateKind (c .kind)
 
 -- What is told of one certificate.

@@ -1,9 +1,10 @@
-// One certificate of a packet, read and judged on a stake table.
+// One certificate of a packet, read and judged on lent stakes and their table.
 ghost use mathlib.Core.Path.{_≡_};
 ghost use Prim.Native.Nat.{_≤_};
 ghost use Rattle.rulebook.specs.Weights.{slotOk, mostNodes};
 ghost use Rattle.rulebook.specs.Checker.{withoutB, badSigners, judged, judge as Checker·judge, oneAt};
-ghost use Rattle.certificates.specs.Told.{Sound, Heard, stakesOf, told, weighedIn, faultOf};
+ghost use Rattle.stakes.specs.Table.{Fit};
+ghost use Rattle.certificates.specs.Told.{Heard, told, weighedIn, faultOf};
 use kinds::block_misfits;
 use kinds::is_other;
 use kinds::kind_of;
@@ -57,12 +58,18 @@ fn bad_signers(count: usize, k: CertificateKind, c: Certificate) -> bool
 }
 
 // 15 with what is missing, or what is told of the certificate: the signers are weighed once.
-fn weigh_in(t: StakeTable, k: CertificateKind, c: Certificate, next: usize) -> Checked
-    requires { ⌜ Heard t k c ⌝ }
-    ensures { λ r. ⌜ r ≡ weighedIn (stakesOf t) k c next ⌝ }
+fn weigh_in(
+    stakes: &[u64],
+    t: StakeTable,
+    k: CertificateKind,
+    c: Certificate,
+    next: usize,
+) -> Checked
+    requires { ⌜ Heard (now stakes) t k c ⌝ }
+    ensures { λ r. ⌜ r ≡ weighedIn (now (stakes .entry)) k c next ⌝ }
 {
     let total = t.total;
-    let w = stakes::weigh(t, c.maska, c.maskb);
+    let w = stakes::weigh(stakes, c.maska, c.maskb);
     let weight = w.weight;
     let needed = threshold_of(k);
     let missing = needed.missing(weight, total);
@@ -102,9 +109,9 @@ fn first_fault(kind: bool, slot: bool, block: bool, masks: bool) -> Verdict
 }
 
 // 4, 3, 5, 14, 15, in this order, once the five numbers are read.
-fn judge(t: StakeTable, c: Certificate, next: usize) -> Checked
-    requires { ⌜ Sound t ⌝ }
-    ensures { λ r. ⌜ r ≡ told (stakesOf t) (judged (Checker·judge (stakesOf t) c) c next) ⌝ }
+fn judge(stakes: &[u64], t: StakeTable, c: Certificate, next: usize) -> Checked
+    requires { ⌜ Fit (now stakes) t ⌝ }
+    ensures { λ r. ⌜ r ≡ told (now (stakes .entry)) (judged (Checker·judge (now (stakes .entry)) c) c next) ⌝ }
 {
     let k = kind_of(c.kind);
     let kind = is_other(k);
@@ -114,19 +121,19 @@ fn judge(t: StakeTable, c: Certificate, next: usize) -> Checked
     let fault = first_fault(kind, slot, block, masks);
     match fault {
         Verdict::Refused(r) => Checked::Bad(r),
-        Verdict::Fine => weigh_in(t, k, c, next),
+        Verdict::Fine => weigh_in(stakes, t, k, c, next),
     }
 }
 
 // The certificate at a place of the packet, read and judged.
-pub fn one_at(t: StakeTable, packet: &[u8], at: usize) -> Checked
-    requires { ⌜ Sound t ⌝ }
-    ensures { λ r. ⌜ r ≡ told (stakesOf t) (oneAt (stakesOf t) (now (packet .entry)) at) ⌝ }
+pub fn one_at(stakes: &[u64], t: StakeTable, packet: &[u8], at: usize) -> Checked
+    requires { ⌜ Fit (now stakes) t ⌝ }
+    ensures { λ r. ⌜ r ≡ told (now (stakes .entry)) (oneAt (now (stakes .entry)) (now (packet .entry)) at) ⌝ }
 {
     let found = five_numbers::read_certificate(packet, at);
     match found {
         Found::Early => Checked::Bad(Refusal::BadLength),
         Found::Malformed => Checked::Bad(Refusal::BadNumber),
-        Found::Whole(c, next) => judge(t, c, next),
+        Found::Whole(c, next) => judge(stakes, t, c, next),
     }
 }

@@ -1,11 +1,10 @@
--- Laws of a packet: the table made from the lent stakes, and the answer from what is told of its certificates. Assumes nothing.
-use mathlib.Core.Path.{_≡_, refl, sym, ap, ap₂, _∙_, subst}
+-- Laws of a packet: whether a table is made from the lent stakes, and the answer from what is told of its certificates. Assumes nothing.
+use mathlib.Core.Path.{_≡_, refl, sym, ap, _∙_}
 use mathlib.Core.Bool.{Bool, true, false}
 use mathlib.Core.List.{List}
-use Prim.Native.Nat.{ℕ, _-_}
+use Prim.Native.Nat.{ℕ}
 use native.Mathlib.Omega.{arith}
-use lib.ListN.{length, replicate, length-append}
-use lib.Seq.{take-append-seam}
+use lib.ListN.{length}
 use lib.Dec.{eqb}
 use borrow.Author.Tests.{ne-eqb, eqb-true}
 use Rattle.rulebook.specs.declared.Certificate.{Certificate}
@@ -14,15 +13,15 @@ use Rattle.rulebook.specs.declared.CertificateKind.the-variants as certificate
 use Rattle.rulebook.specs.declared.CheckAnswer.the-variants as check
 use Rattle.rulebook.specs.declared.Refusal.the-variants as refusal
 use Rattle.rulebook.specs.Tools.{choose}
-use Rattle.rulebook.specs.Weights.{mostNodes, stakesFit}
+use Rattle.rulebook.specs.Weights.{stakesFit}
 use Rattle.rulebook.specs.PaperNumbers.{certificateKind}
 use Rattle.rulebook.specs.Checker.{One, good, bad, acceptedOf, oneAt, ended, singleOf, secondOf, firstIn, proofOf, checkCertificate, checkProof}
 use Rattle.rulebook.proofs.ToolLaws.{given-on}
 use Rattle.stakes.specs.declared.Made.{Made}
-use Rattle.stakes.specs.Table.{tableOf, madeOf}
-use Rattle.stakes.proofs.Laws.{table-fit, made-fits, made-table}
+use Rattle.stakes.specs.Table.{madeOf}
+use Rattle.stakes.proofs.Laws.{made-fits}
 use Rattle.certificates.specs.declared.Checked.{Checked}
-use Rattle.certificates.specs.Told.{Sound, stakesOf, told}
+use Rattle.certificates.specs.Told.{told}
 use Rattle.checker.specs.InPacket.{finished, alone, isFinalKind, followed, continued, proven}
 
 -- Kind 5 is the number 5.
@@ -56,22 +55,7 @@ kind-final n = one (eqb n 1) refl
     one true q = apart 1 q (λ z. omega arith)
     one false q = two (eqb n 2) refl
 
--- A table that was made has the lent stakes, and is sound.
-pub made-sound : (ws : List ℕ) (m : Made) → m ≡ madeOf ws → m .fits ≡ true → Sound (m .table)
-unfolding tableOf
-made-sound ws m q e =
-    let k : madeOf ws .fits ≡ true = ap (λ (x : Made). x .fits) (sym q) ∙ e in
-    let f : stakesFit ws (length ws) ≡ true = sym (made-fits ws) ∙ k in
-    let l : m .table ≡ tableOf ws = ap (λ (x : Made). x .table) q ∙ made-table ws k in
-    subst Sound (sym l) (record { fit = table-fit ws f; places = simp length-append (omega arith) })
-
-pub made-stakes : (ws : List ℕ) (m : Made) → m ≡ madeOf ws → m .fits ≡ true → stakesOf (m .table) ≡ ws
-unfolding stakesOf tableOf
-made-stakes ws m q e =
-    let k : madeOf ws .fits ≡ true = ap (λ (x : Made). x .fits) (sym q) ∙ e in
-    let l : m .table ≡ tableOf ws = ap (λ (x : Made). x .table) q ∙ made-table ws k in
-    ap stakesOf l ∙ take-append-seam ws (replicate (mostNodes - length ws) 0)
-
+-- A table is made exactly where the stakes fit.
 pub made-test : (ws : List ℕ) (m : Made) → m ≡ madeOf ws → stakesFit ws (length ws) ≡ m .fits
 made-test ws m q = sym (made-fits ws) ∙ ap (λ (x : Made). x .fits) (sym q)
 
@@ -104,21 +88,17 @@ proven-is ws packet (bad r) = refl
 
 -- ---- the whole answer, from what is told of the first certificate
 
-module _ (ws packet : List ℕ) (m : Made) (q : m ≡ madeOf ws) (f : m .fits ≡ true) (o : Checked)
-    (e : o ≡ told (stakesOf (m .table)) (oneAt (stakesOf (m .table)) packet 0)) where
-  first-told : told ws (oneAt ws packet 0) ≡ o
-  first-told = sym (e ∙ ap (λ (x : List ℕ). told x (oneAt x packet 0)) (made-stakes ws m q f))
-
+module _ (ws packet : List ℕ) (m : Made) (q : m ≡ madeOf ws) (f : m .fits ≡ true) (o : Checked) (e : o ≡ told ws (oneAt ws packet 0)) where
   pub single-answer : checkCertificate ws packet ≡ alone (length packet) o
   unfolding checkCertificate
   single-answer =
       given-on (stakesFit ws (length ws)) (check.Refused refusal.BadSizes) (λ _. singleOf ws packet (oneAt ws packet 0)) (made-test ws m q ∙ f)
       ∙ alone-is ws packet (oneAt ws packet 0)
-      ∙ ap (alone (length packet)) first-told
+      ∙ ap (alone (length packet)) (sym e)
 
-  pub proof-answer : checkProof ws packet ≡ proven (stakesOf (m .table)) packet o
+  pub proof-answer : checkProof ws packet ≡ proven ws packet o
   unfolding checkProof
   proof-answer =
       given-on (stakesFit ws (length ws)) (check.Refused refusal.BadSizes) (λ _. proofOf ws packet (oneAt ws packet 0)) (made-test ws m q ∙ f)
       ∙ proven-is ws packet (oneAt ws packet 0)
-      ∙ ap₂ (λ (x : List ℕ) (y : Checked). proven x packet y) (sym (made-stakes ws m q f)) first-told
+      ∙ ap (proven ws packet) (sym e)

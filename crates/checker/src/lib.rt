@@ -1,7 +1,7 @@
 // The checker of certificates and finality proofs, on lent stakes and a lent packet.
 ghost use mathlib.Core.Path.{_≡_};
 ghost use Rattle.rulebook.specs.Checker.{checkCertificate, checkProof};
-ghost use Rattle.certificates.specs.Told.{Sound, stakesOf};
+ghost use Rattle.stakes.specs.Table.{Fit};
 ghost use Rattle.checker.specs.InPacket.{finished, isFinalKind, followed, continued};
 use certificates::Checked;
 use certificates::one_at;
@@ -55,14 +55,20 @@ fn second(a: Accepted, other: Checked, length: usize) -> CheckAnswer
 }
 
 // What follows the first certificate of a proof, told as a: 16 unless its kind is 1 or 2.
-fn after_first(t: StakeTable, packet: &[u8], a: Accepted, next: usize) -> CheckAnswer
-    requires { ⌜ Sound t ⌝ }
-    ensures { λ r. ⌜ r ≡ continued (stakesOf t) (now (packet .entry)) (a .kind) a next ⌝ }
+fn after_first(
+    stakes: &[u64],
+    t: StakeTable,
+    packet: &[u8],
+    a: Accepted,
+    next: usize,
+) -> CheckAnswer
+    requires { ⌜ Fit (now stakes) t ⌝ }
+    ensures { λ r. ⌜ r ≡ continued (now (stakes .entry)) (now (packet .entry)) (a .kind) a next ⌝ }
 {
     let k = a.kind;
     match k {
         CertificateKind::FastFinal => finish(a, next, packet.len()),
-        CertificateKind::Notar => second(a, one_at(t, packet, next), packet.len()),
+        CertificateKind::Notar => second(a, one_at(stakes, t, packet, next), packet.len()),
         CertificateKind::NotarFallback => CheckAnswer::Refused(Refusal::NotAProof),
         CertificateKind::Skip => CheckAnswer::Refused(Refusal::NotAProof),
         CertificateKind::Final => CheckAnswer::Refused(Refusal::NotAProof),
@@ -79,7 +85,7 @@ pub fn check_certificate(stakes: &[u64], packet: &[u8]) -> CheckAnswer
         return CheckAnswer::Refused(Refusal::BadSizes);
     }
     let t = made.table;
-    let one = one_at(t, packet, 0);
+    let one = one_at(stakes, t, packet, 0);
     match one {
         Checked::Bad(r) => CheckAnswer::Refused(r),
         Checked::Good(a, next) => finish(a, next, packet.len()),
@@ -95,9 +101,9 @@ pub fn check_proof(stakes: &[u64], packet: &[u8]) -> CheckAnswer
         return CheckAnswer::Refused(Refusal::BadSizes);
     }
     let t = made.table;
-    let first = one_at(t, packet, 0);
+    let first = one_at(stakes, t, packet, 0);
     match first {
         Checked::Bad(r) => CheckAnswer::Refused(r),
-        Checked::Good(a, next) => after_first(t, packet, a, next),
+        Checked::Good(a, next) => after_first(stakes, t, packet, a, next),
     }
 }

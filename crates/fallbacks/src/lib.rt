@@ -17,7 +17,6 @@ use own_votes::window_open;
 use record::own_cell;
 use rulebook::Slot;
 use rulebook::VoteKind;
-use stakes::StakeTable;
 use voter::cast_skips;
 use voter::cast_vote;
 use voter::no_initial;
@@ -43,14 +42,14 @@ fn cast_fallback(rec: &mut [u64], outbox: &mut [u64], at: usize, s: Slot, b: u64
 }
 
 // D. Own initial vote present, and some block falls back: casts for the lowest.
-pub fn rule_d(rec: &mut [u64], outbox: &mut [u64], at: usize, t: StakeTable, s: Slot) -> usize
-    requires { ⌜ UnderWayAt t (now rec) (now outbox) at (s .0) ⌝ }
+pub fn rule_d(rec: &mut [u64], outbox: &mut [u64], at: usize, s: Slot) -> usize
+    requires { ⌜ UnderWayAt (now rec) (now outbox) at (s .0) ⌝ }
     ensures { λ r. ⌜ Onward (now (rec .entry)) (now (outbox .entry)) at (now (rec .exit)) (now (outbox .exit)) r (ruleD (stateIn (now (rec .entry)) (now (outbox .entry)) at) (s .0)) ⌝ }
 {
     if no_initial(own_cell(rec, s)) {
         return at;
     }
-    let b = fallback_block(rec, t, s);
+    let b = fallback_block(rec, s);
     if b == 0 {
         return at;
     }
@@ -78,8 +77,8 @@ fn cast_skip_fallback(rec: &mut [u64], outbox: &mut [u64], at: usize, s: Slot) -
 }
 
 // Rule E's first part: an own notar vote, and something that E would cast.
-fn may_skip(rec: &[u64], t: StakeTable, s: Slot) -> bool
-    requires { ⌜ Judging (now rec) t (s .0) ⌝ }
+fn may_skip(rec: &[u64], s: Slot) -> bool
+    requires { ⌜ Judging (now rec) (s .0) ⌝ }
     ensures { λ r. ⌜ r ≡ (not (none (ownCell (ledgerOf (now (rec .entry))) (s .0) .notar)) && (windowOpen (ledgerOf (now (rec .entry))) (s .0) || maySkipFallback (ownCell (ledgerOf (now (rec .entry))) (s .0)))) ⌝ }
 {
     let c = own_cell(rec, s);
@@ -87,12 +86,12 @@ fn may_skip(rec: &[u64], t: StakeTable, s: Slot) -> bool
 }
 
 // E. Own initial vote present and not skip, and the skip weights reach: casts.
-pub fn rule_e(rec: &mut [u64], outbox: &mut [u64], at: usize, t: StakeTable, s: Slot) -> usize
-    requires { ⌜ UnderWayAt t (now rec) (now outbox) at (s .0) ⌝ }
+pub fn rule_e(rec: &mut [u64], outbox: &mut [u64], at: usize, s: Slot) -> usize
+    requires { ⌜ UnderWayAt (now rec) (now outbox) at (s .0) ⌝ }
     ensures { λ r. ⌜ Onward (now (rec .entry)) (now (outbox .entry)) at (now (rec .exit)) (now (outbox .exit)) r (ruleE (stateIn (now (rec .entry)) (now (outbox .entry)) at) (s .0)) ⌝ }
 {
-    if may_skip(rec, t, s) {
-        if skip_weights(rec, t, s) {
+    if may_skip(rec, s) {
+        if skip_weights(rec, s) {
             return cast_skip_fallback(rec, outbox, at, s);
         }
     }

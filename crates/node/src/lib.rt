@@ -12,7 +12,6 @@ use rulebook::StepAnswer;
 use rulebook::Verdict;
 use run::settle;
 use soundness::sound;
-use soundness::table;
 use verdicts::judge_input;
 
 // The least number of words of an outbox: 128 records of three words.
@@ -23,9 +22,8 @@ fn act(rec: &mut [u64], outbox: &mut [u64], i: Input) -> usize
     requires { ⌜ Taking (now rec) (now outbox) i ⌝ }
     ensures { λ r. ⌜ Onward (now (rec .entry)) (now (outbox .entry)) 0 (now (rec .exit)) (now (outbox .exit)) r (run (intake (ledgerOf (now (rec .entry))) i)) ⌝ }
 {
-    let t = table(rec);
     let made = take_in(rec, outbox, i);
-    settle(rec, outbox, made, t)
+    settle(rec, outbox, made)
 }
 
 // One input: refused with 17, 9 or as its kind has it, with all memory as found; or taken.

@@ -24,7 +24,6 @@ use rulebook::Block;
 use rulebook::CertificateKind;
 use rulebook::Slot;
 use rulebook::VoteKind;
-use stakes::StakeTable;
 use voter::cast_vote;
 use voter::no_initial;
 use voter::tell;
@@ -45,12 +44,12 @@ fn may_arm(rec: &[u64], s: Slot) -> bool
 }
 
 // A. First slot, some parent ready, not yet armed: arms the window and tells of it.
-pub fn rule_a(rec: &mut [u64], outbox: &mut [u64], at: usize, t: StakeTable, s: Slot) -> usize
-    requires { ⌜ UnderWayAt t (now rec) (now outbox) at (s .0) ⌝ }
+pub fn rule_a(rec: &mut [u64], outbox: &mut [u64], at: usize, s: Slot) -> usize
+    requires { ⌜ UnderWayAt (now rec) (now outbox) at (s .0) ⌝ }
     ensures { λ r. ⌜ Onward (now (rec .entry)) (now (outbox .entry)) at (now (rec .exit)) (now (outbox .exit)) r (ruleA (stateIn (now (rec .entry)) (now (outbox .entry)) at) (s .0)) ⌝ }
 {
     if may_arm(rec, s) {
-        if some_ready(rec, t, s) {
+        if some_ready(rec, s) {
             arm(rec, s);
             return tell(outbox, at, 7, s, 0);
         }
@@ -59,27 +58,27 @@ pub fn rule_a(rec: &mut [u64], outbox: &mut [u64], at: usize, t: StakeTable, s: 
 }
 
 // Whether the kept block's parent lets rule B cast.
-fn parent_fits(rec: &[u64], t: StakeTable, s: Slot, b: Block) -> bool
-    requires { ⌜ Judging (now rec) t (s .0) ⌝ }
+fn parent_fits(rec: &[u64], s: Slot, b: Block) -> bool
+    requires { ⌜ Judging (now rec) (s .0) ⌝ }
     ensures { λ r. ⌜ r ≡ parentFits (ledgerOf (now (rec .entry))) (s .0) (isFirst (s .0)) b ⌝ }
 {
     let p = b.parentslot;
     if is_first(s) {
-        return ready(rec, t, s, p, b.parent);
+        return ready(rec, s, p, b.parent);
     }
     let before = own_cell(rec, Slot(s.0 - 1));
     (p.0 == s.0 - 1) & (before.notar == b.parent)
 }
 
 // B. No own initial vote and a kept block whose parent fits: casts notar for it.
-pub fn rule_b(rec: &mut [u64], outbox: &mut [u64], at: usize, t: StakeTable, s: Slot) -> usize
-    requires { ⌜ UnderWayAt t (now rec) (now outbox) at (s .0) ⌝ }
+pub fn rule_b(rec: &mut [u64], outbox: &mut [u64], at: usize, s: Slot) -> usize
+    requires { ⌜ UnderWayAt (now rec) (now outbox) at (s .0) ⌝ }
     ensures { λ r. ⌜ Onward (now (rec .entry)) (now (outbox .entry)) at (now (rec .exit)) (now (outbox .exit)) r (ruleB (stateIn (now (rec .entry)) (now (outbox .entry)) at) (s .0)) ⌝ }
 {
     let c = own_cell(rec, s);
     let b = kept_block(rec, s);
     if no_initial(c) & (b.number != 0) {
-        if parent_fits(rec, t, s, b) {
+        if parent_fits(rec, s, b) {
             return cast_vote(rec, outbox, at, s, VoteKind::Notar, b.number);
         }
     }
@@ -87,13 +86,13 @@ pub fn rule_b(rec: &mut [u64], outbox: &mut [u64], at: usize, t: StakeTable, s: 
 }
 
 // C. Own initial vote notar b, kind 2 held for b, no own fallback, no own final: casts final.
-pub fn rule_c(rec: &mut [u64], outbox: &mut [u64], at: usize, t: StakeTable, s: Slot) -> usize
-    requires { ⌜ UnderWayAt t (now rec) (now outbox) at (s .0) ⌝ }
+pub fn rule_c(rec: &mut [u64], outbox: &mut [u64], at: usize, s: Slot) -> usize
+    requires { ⌜ UnderWayAt (now rec) (now outbox) at (s .0) ⌝ }
     ensures { λ r. ⌜ Onward (now (rec .entry)) (now (outbox .entry)) at (now (rec .exit)) (now (outbox .exit)) r (ruleC (stateIn (now (rec .entry)) (now (outbox .entry)) at) (s .0)) ⌝ }
 {
     let c = own_cell(rec, s);
     if may_final(c) {
-        if held(rec, t, CertificateKind::Notar, s, c.notar) {
+        if held(rec, CertificateKind::Notar, s, c.notar) {
             return cast_vote(rec, outbox, at, s, VoteKind::Final, 0);
         }
     }
@@ -101,14 +100,14 @@ pub fn rule_c(rec: &mut [u64], outbox: &mut [u64], at: usize, t: StakeTable, s: 
 }
 
 // F. A final block that was not yet told of in the slot: marks and tells it.
-pub fn rule_f(rec: &mut [u64], outbox: &mut [u64], at: usize, t: StakeTable, s: Slot) -> usize
-    requires { ⌜ UnderWayAt t (now rec) (now outbox) at (s .0) ⌝ }
+pub fn rule_f(rec: &mut [u64], outbox: &mut [u64], at: usize, s: Slot) -> usize
+    requires { ⌜ UnderWayAt (now rec) (now outbox) at (s .0) ⌝ }
     ensures { λ r. ⌜ Onward (now (rec .entry)) (now (outbox .entry)) at (now (rec .exit)) (now (outbox .exit)) r (ruleF (stateIn (now (rec .entry)) (now (outbox .entry)) at) (s .0)) ⌝ }
 {
     if final_block(rec, s) != 0 {
         return at;
     }
-    let b = final_candidate(rec, t, s);
+    let b = final_candidate(rec, s);
     if b == 0 {
         return at;
     }

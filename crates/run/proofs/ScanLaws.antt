@@ -4,12 +4,11 @@ use mathlib.Core.List.{List}
 use Prim.Native.Nat.{ℕ, zero, suc, _+_, _≤_, _<_}
 use native.Mathlib.Omega.{arith}
 use lib.ListN.{length}
-use Rattle.rulebook.specs.Weights.{lastSlot}
+use Rattle.rulebook.specs.Weights.{lastSlot, totalTo}
 use Rattle.rulebook.specs.Rules.{State}
 use Rattle.rulebook.specs.Run.{made, ruleAt, scan, run}
-use Rattle.stakes.specs.declared.StakeTable.{StakeTable}
 use Rattle.record.specs.Layout.{ledgerOf}
-use Rattle.pool.specs.Weighing.{Tabled}
+use Rattle.record.specs.Tabled.{Tabled}
 use Rattle.settling.specs.Spare.{spare}
 use Rattle.settling.specs.Steps.{Passed, Running}
 use Rattle.settling.proofs.Spending.{rule-comes, scan-comes}
@@ -32,23 +31,23 @@ rule-beyond (suc (suc (suc (suc zero)))) o s a b c d e f = absurd (e refl)
 rule-beyond (suc (suc (suc (suc (suc zero))))) o s a b c d e f = absurd (f refl)
 rule-beyond (suc (suc (suc (suc (suc (suc r)))))) o s a b c d e f = refl
 
--- The table stays the node's.
-pub under-way : {t : StakeTable} {ws out ws' left : List ℕ} {at now : ℕ} {q : State} → Tabled (ledgerOf ws) t
-    → Onward ws out at ws' left now q → UnderWay t ws' left now
+-- The stakes stay a table.
+pub under-way : {ws out ws' left : List ℕ} {at now : ℕ} {q : State} → Tabled (ledgerOf ws) → Onward ws out at ws' left now q → UnderWay ws' left now
 under-way h a =
+    let e = a .same in
     record {
       live = a .live;
       table =
           record {
-            fit = h .fit;
+            few = omega (arith, h .few, e .count);
             own = a .live .own;
-            count = h .count ∙ sym (a .same .count);
-            total = h .total ∙ sym (a .same .total);
-            stakes = h .stakes ∙ sym (a .same .stakes);
+            sum = (λ i. totalTo (e .stakes i) (e .count i)) ∙ h .sum ∙ sym (e .total);
+            some = omega (arith, h .some, e .total);
+            light = omega (arith, h .light, e .total);
           };
     }
 
-pub under-way-at : {t : StakeTable} {ws out : List ℕ} {at s : ℕ} → UnderWay t ws out at → 1 ≤ s → s ≤ lastSlot → UnderWayAt t ws out at s
+pub under-way-at : {ws out : List ℕ} {at s : ℕ} → UnderWay ws out at → 1 ≤ s → s ≤ lastSlot → UnderWayAt ws out at s
 under-way-at v a b = record { live = record { live = v .live; low = a; high = b }; table = v .table }
 
 -- As many records as the outbox holds.

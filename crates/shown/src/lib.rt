@@ -28,7 +28,6 @@ use rulebook::Slot;
 use rulebook::Weight;
 use rulebook::Who;
 use soundness::sound;
-use soundness::table;
 
 const NOTHING: Cell = Cell {
     notar: 0,
@@ -172,7 +171,7 @@ pub fn weight_of(rec: &[u64], s: Slot, who: Who) -> Weight
     if !sound(rec) {
         return Weight(0);
     }
-    pool::weigh(rec, table(rec), s, who)
+    pool::weigh(rec, s, who)
 }
 
 // Whether a slot holds a certificate.
@@ -185,7 +184,7 @@ pub fn held_in(rec: &[u64], s: Slot, kind: CertificateKind, b: u64) -> bool
     if !sound(rec) {
         return false;
     }
-    pool::held(rec, table(rec), kind, s, b)
+    pool::held(rec, kind, s, b)
 }
 
 // What is missing in a slot to a certificate.
@@ -198,7 +197,7 @@ pub fn missing_in(rec: &[u64], s: Slot, kind: CertificateKind, b: u64) -> Weight
     if !sound(rec) {
         return Weight(0);
     }
-    pool::missing_to(rec, table(rec), kind, s, b)
+    pool::missing_to(rec, kind, s, b)
 }
 
 // The next certificate that a block could reach.

@@ -1,28 +1,28 @@
 -- What the 17 test's loops and the stakes of a record come to. Assumes nothing.
 use mathlib.Core.Path.{_≡_, refl, sym, ap, _∙_}
-use mathlib.Core.Bool.{Bool, true, false, not, _&&_, _||_}
-use mathlib.Core.List.{List, _++_}
-use mathlib.Core.Logic.{⊎-elim}
-use Prim.Native.Nat.{ℕ, suc, _+_, _-_, _<_, _≤_}
+use mathlib.Core.Bool.{Bool, true, false, _&&_}
+use mathlib.Core.List.{List}
+use Prim.Native.Nat.{ℕ, suc, _+_, _<_, _≤_}
 use native.Mathlib.Omega.{arith}
-use lib.ListN.{length, getD, take, replicate, length-append, length-replicate}
-use lib.Seq.{getD-take, ext-getD, length-take-le}
-use lib.Dec.{eqb, leb, ltb}
-use borrow.Author.Tests.{eq-eqb, ne-eqb, lt-leb, le-leb, ltb-true, ltb-false, eqb-true}
+use lib.ListN.{length, take}
+use lib.Seq.{getD-take, length-take-le}
+use lib.Dec.{eqb, leb}
+use borrow.Author.Tests.{eq-eqb, ne-eqb, lt-leb, eqb-true}
 use Rattle.rulebook.specs.Tools.{allTo, sumTo}
 use Rattle.rulebook.specs.Weights.{mostNodes, mostStake, lastSlot, stakeIn, totalTo, stakesFit}
 use Rattle.rulebook.specs.Ledger.{Ledger}
 use Rattle.rulebook.specs.WellFormed.{Shaped, rowFits, rowBlank, headFits, wellFormed}
-use Rattle.rulebook.proofs.ToolLaws.{given-on, given-off, and-both, both-and, by-test, all-more, all-each, all-same, sum-same}
+use Rattle.rulebook.proofs.ToolLaws.{given-on, given-off, and-both, by-test, all-more, all-same, sum-same, sum-term}
 use Rattle.stakes.specs.declared.StakeTable.{StakeTable}
 use Rattle.stakes.specs.declared.Made.{Made}
-use Rattle.stakes.specs.Table.{tableOf, madeOf, Fit}
-use Rattle.stakes.proofs.Laws.{made-fits, made-table, made-fit, place-in, place-out, table-total}
+use Rattle.stakes.specs.Table.{tableOf, madeOf}
+use Rattle.stakes.proofs.Laws.{made-fits, made-table}
 use Rattle.settling.specs.Facts.{HeadFacts, Sound}
 use Rattle.settling.proofs.FactLaws.{formed}
 use Rattle.record.specs.Layout.{recordWords, ledgerOf, Counted}
+use Rattle.record.specs.Tabled.{Tabled}
 use Rattle.record.proofs.Reading.{ledger-shaped}
-use Rattle.soundness.specs.Sound.{soundWords, tableIn, TableOf}
+use Rattle.soundness.specs.Sound.{soundWords}
 
 -- ---- a loop that joins tests
 
@@ -60,14 +60,6 @@ module _ (xs : List ℕ) (m : ℕ) (h : m ≤ length xs) where
 pub table-sum : (ws : List ℕ) → tableOf ws .total .0 ≡ totalTo ws (length ws)
 unfolding tableOf
 table-sum ws = refl
-
-table-count : (ws : List ℕ) → tableOf ws .count ≡ length ws
-unfolding tableOf
-table-count ws = refl
-
-table-long : (ws : List ℕ) → length ws ≤ mostNodes → length (tableOf ws .stakes) ≡ mostNodes
-unfolding tableOf
-table-long ws h = length-append ws (replicate (mostNodes - length ws) 0) ∙ omega (arith, length-replicate {A = ℕ} (mostNodes - length ws) 0)
 
 -- The stakes and the total of a record, by the table that its stakes make.
 pub stakes-judged : (l : Ledger) (made : Made) (sum kept : ℕ) → Shaped l → l .count ≤ mostNodes → made ≡ madeOf (take (l .count) (l .stakes))
@@ -139,39 +131,16 @@ sound-head ws e = formed (ledgerOf ws) (sound-formed ws e) .head
 pub sound-counted : (ws : List ℕ) → soundWords ws ≡ true → Counted ws
 sound-counted ws e = record { long = sound-long ws e; few = sound-head ws e .few }
 
--- ---- the table of a ledger
-
-head-fits : (l : Ledger) → HeadFacts l → stakesFit (l .stakes) (l .count) ≡ true
-unfolding stakesFit
-head-fits l d =
-    both-and (leb 1 (l .count) && leb (l .count) mostNodes) (allTo (l .count) (λ n. leb 1 (stakeIn (l .stakes) n)) && leb (totalTo (l .stakes) (l .count)) mostStake)
-    (both-and (leb 1 (l .count)) (leb (l .count) mostNodes) (le-leb 1 (l .count) (d .some)) (le-leb (l .count) mostNodes (d .few)))
-    (both-and (allTo (l .count) (λ n. leb 1 (stakeIn (l .stakes) n))) (leb (totalTo (l .stakes) (l .count)) mostStake)
-    (all-each (l .count) (λ n. leb 1 (stakeIn (l .stakes) n)) (λ n h. le-leb 1 (stakeIn (l .stakes) n) (d .staked n h)))
-    (le-leb (totalTo (l .stakes) (l .count)) mostStake (omega (arith, d .sum, d .small))))
-
--- What the used stakes of a ledger with a head in range make is its table.
-pub table-made : (l : Ledger) (made : Made) → Shaped l → HeadFacts l → made ≡ madeOf (take (l .count) (l .stakes)) → TableOf l (made .table)
-table-made l made w d e =
-    let h : l .count ≤ length (l .stakes) = omega (arith, w .stakes, d .few) in
-    let n : length (take (l .count) (l .stakes)) ≡ l .count = front-long (l .stakes) (l .count) h in
-    let u : madeOf (take (l .count) (l .stakes)) .fits ≡ true = made-fits (take (l .count) (l .stakes)) ∙ front-fits (l .stakes) (l .count) h ∙ head-fits l d in
-    let t : made .table ≡ tableOf (take (l .count) (l .stakes)) = ap (λ (x : Made). x .table) e ∙ made-table (take (l .count) (l .stakes)) u in
-    let long : length (tableOf (take (l .count) (l .stakes)) .stakes) ≡ mostNodes = table-long (take (l .count) (l .stakes)) (omega (arith, d .few)) in
-    let places : tableOf (take (l .count) (l .stakes)) .stakes ≡ l .stakes =
-    ext-getD 0 (tableOf (take (l .count) (l .stakes)) .stakes) (l .stakes) (long ∙ sym (w .stakes))
-    (λ i k.
-    by-test (ltb i (l .count))
-    (λ q.
-    let b : i < l .count = ltb-true i (l .count) q in
-    place-in (take (l .count) (l .stakes)) i (omega arith) ∙ front-stake (l .stakes) (l .count) h i b)
-    (λ q.
-    let b : l .count ≤ i = ltb-false i (l .count) q in
-    place-out (take (l .count) (l .stakes)) i (omega arith) ∙ sym (d .unused i (omega arith) b))) in
-    let same : tableOf (take (l .count) (l .stakes)) ≡ tableIn l =
-    (λ i. record {
-      stakes = places i;
-      count = (table-count (take (l .count) (l .stakes)) ∙ n) i;
-      total = record { 0 = (table-sum (take (l .count) (l .stakes)) ∙ front-total (l .stakes) (l .count) h ∙ d .sum) i };
-    }) in
-    record { same = t ∙ same; fit = made-fit (take (l .count) (l .stakes)) made e (ap (λ (x : Made). x .fits) e ∙ u) }
+-- A sound record's stakes are a table.
+pub sound-tabled : (ws : List ℕ) → soundWords ws ≡ true → Tabled (ledgerOf ws)
+unfolding totalTo
+sound-tabled ws e =
+    let l = ledgerOf ws in
+    let d = sound-head ws e in
+    record {
+      few = d .few;
+      own = omega (arith, d .mine, d .few);
+      sum = d .sum;
+      some = omega (arith, d .staked 0 (d .some), sum-term (l .count) 0 (stakeIn (l .stakes)) (d .some), d .sum);
+      light = d .small;
+    }

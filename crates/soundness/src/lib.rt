@@ -1,6 +1,6 @@
-// The 17 test, the stake table of a sound record, and start.
+// The 17 test, and start.
 ghost use mathlib.Core.Path.{_≡_};
-ghost use mathlib.Core.Bool.{true, _&&_, _||_};
+ghost use mathlib.Core.Bool.{_&&_, _||_};
 ghost use Prim.Native.Nat.{suc};
 ghost use lib.ListN.{length, getD};
 ghost use lib.Dec.{eqb, ltb};
@@ -10,7 +10,7 @@ ghost use Rattle.rulebook.specs.Ledger.{none, fresh};
 ghost use Rattle.rulebook.specs.Inputs.{badParent};
 ghost use Rattle.rulebook.specs.WellFormed.{flag, inOrder, cellFits, cellBlank, cellsFit, keptFits, rowFits, rowBlank, headFits};
 ghost use Rattle.record.specs.Layout.{recordWords, InSlot, ledgerOf};
-ghost use Rattle.soundness.specs.Sound.{soundWords, TableOf};
+ghost use Rattle.soundness.specs.Sound.{soundWords};
 ghost use Rattle.soundness.specs.Starting.{SetUp, StartOf};
 use record::LAST_SLOT;
 use record::NODES;
@@ -37,7 +37,6 @@ use rulebook::Refusal;
 use rulebook::Slot;
 use rulebook::StartAnswer;
 use rulebook::Weight;
-use stakes::StakeTable;
 use stakes::make_table;
 
 // Two fallback places: the later is filled only after the earlier, and not with the same block.
@@ -218,15 +217,6 @@ pub fn sound(rec: &[u64]) -> bool
         return false;
     }
     rows_fit(rec)
-}
-
-// The stake table of a sound record, read once a call.
-pub fn table(rec: &[u64]) -> StakeTable
-    requires { ⌜ soundWords (now rec) ≡ true ⌝ }
-    ensures { λ r. ⌜ TableOf (ledgerOf (now (rec .entry))) r ⌝ }
-{
-    let made = make_table(stakes_of(rec));
-    made.table
 }
 
 // A fresh node's words, whatever stood there.

@@ -1,15 +1,15 @@
 -- From set bit to set bit: what stepping over a word adds is what walking its places adds, over any width. Assumes nothing.
 use mathlib.Core.Path.{_≡_, refl, sym, ap, ap₂, _∙_}
-use mathlib.Core.List.{List}
+use mathlib.Core.List.{List, [], _∷_}
 use mathlib.Core.Bool.{Bool, _||_}
 use mathlib.Core.Logic.{_⊎_, inl, inr}
 use Prim.Native.Nat.{ℕ, zero, suc, _+_, _-_, _*_, _/_, _%_, _^_, _<_, _≤_, suc-le-suc, zero-le}
 use native.Mathlib.Omega.{arith}
-use native.Mathlib.Nat.{mod-lt, pow-suc, div-one, lt-of-lt-of-le}
+use native.Mathlib.Nat.{mod-lt, pow-suc, div-one}
 use native.Mathlib.Decide.{le-ind}
 use lib.Count.{trailingZeros, under}
 use lib.Bits.{bitAnd, bitOr, and-step, and-self, and-le-r}
-use lib.Pow.{shr-shr, pow-mono}
+use lib.Pow.{shr-shr}
 use lib.ListN.{length}
 use lib.Dec.{lit<, eqb}
 use Rattle.rulebook.specs.Tools.{part, sumTo}
@@ -17,8 +17,7 @@ use Rattle.rulebook.specs.Weights.{mostStake, stakeIn, weight, totalTo}
 use Rattle.rulebook.specs.Packets.{bit, countOf}
 use Rattle.rulebook.proofs.ToolLaws.{part-le, part-on, part-off, sum-same, sum-le, sum-const}
 use Rattle.rulebook.proofs.MaskLaws.{zero-bit, past-bit, mask-lt, mask-bit, or-count, or-weight}
-use Rattle.stakes.specs.declared.StakeTable.{StakeTable}
-use Rattle.stakes.specs.Table.{Fit, weighed}
+use Rattle.stakes.specs.Table.{Lent, weighed}
 use Rattle.stakes.specs.Masks.{firstNodes, WordIn}
 use Rattle.stakes.proofs.Laws.{among-first}
 
@@ -165,34 +164,40 @@ sum-past : (f : ℕ → ℕ) (c n : ℕ) → c ≤ n → ((i : ℕ) → c ≤ i 
 unfolding sumTo
 sum-past f c n l h = le-ind (λ (k : ℕ). sumTo k f ≡ sumTo c f) refl (λ k q e. omega (arith, h k q)) n l
 
--- The nodes of a table that either of two masks names.
-module _ (t : StakeTable) (f : Fit t) (a b : ℕ) where
+-- There is no stake past the end.
+past-end : (ss : List ℕ) (n : ℕ) → length ss ≤ n → stakeIn ss n ≡ 0
+past-end [] n h = refl
+past-end (x ∷ ss) zero h = absurd (omega arith)
+past-end (x ∷ ss) (suc n) h = past-end ss n (omega arith)
+
+-- The nodes of lent stakes that either of two masks names.
+module _ (ss : List ℕ) (k : Lent ss) (a b : ℕ) where
   abbrev word : ℕ
-  word = bitAnd (bitOr a b) (firstNodes (t .count))
+  word = bitAnd (bitOr a b) (firstNodes (length ss))
 
-  word-lt : word < 2 ^ t .count
-  word-lt = rw (among-first (bitOr a b) (t .count) (f .few)) (mask-lt (bit (bitOr a b)) (t .count))
+  word-lt : word < 2 ^ length ss
+  word-lt = rw (among-first (bitOr a b) (length ss) (k .few)) (mask-lt (bit (bitOr a b)) (length ss))
 
-  word-bit : (i : ℕ) → i < t .count → bit word i ≡ bit (bitOr a b) i
-  word-bit i l = rw (among-first (bitOr a b) (t .count) (f .few)) (mask-bit (bit (bitOr a b)) (t .count) i l)
+  word-bit : (i : ℕ) → i < length ss → bit word i ≡ bit (bitOr a b) i
+  word-bit i l = rw (among-first (bitOr a b) (length ss) (k .few)) (mask-bit (bit (bitOr a b)) (length ss) i l)
 
   -- They can be weighed,
-  pub table-word : length (t .stakes) ≡ 64 → WordIn (t .stakes) word
+  pub table-word : WordIn ss word
   unfolding totalTo
-  table-word l =
+  table-word =
       record {
-        named = rw l (lt-of-lt-of-le word-lt (pow-mono (f .few)));
-        light = omega (arith, sum-past (stakeIn (t .stakes)) (t .count) 64 (f .few) (f .rest), f .sum, f .light);
+        named = word-lt;
+        light = omega (arith, sum-past (stakeIn ss) (length ss) 64 (k .few) (past-end ss), k .light);
       }
 
-  named-word : (g : ℕ → ℕ) → sumTo 64 (λ n. part (bit word n) (g n)) ≡ sumTo (t .count) (λ n. part (bit (bitOr a b) n) (g n))
+  named-word : (g : ℕ → ℕ) → sumTo 64 (λ n. part (bit word n) (g n)) ≡ sumTo (length ss) (λ n. part (bit (bitOr a b) n) (g n))
   named-word g =
-      sum-past (λ n. part (bit word n) (g n)) (t .count) 64 (f .few) (λ i l. part-off (bit word i) (g i) (past-bit word (t .count) i word-lt l))
-      ∙ sum-same (t .count) (λ n. part (bit word n) (g n)) (λ n. part (bit (bitOr a b) n) (g n)) (λ i l. ap (λ (q : Bool). part q (g i)) (word-bit i l))
+      sum-past (λ n. part (bit word n) (g n)) (length ss) 64 (k .few) (λ i l. part-off (bit word i) (g i) (past-bit word (length ss) i word-lt l))
+      ∙ sum-same (length ss) (λ n. part (bit word n) (g n)) (λ n. part (bit (bitOr a b) n) (g n)) (λ i l. ap (λ (q : Bool). part q (g i)) (word-bit i l))
 
-  -- and weigh over the word's places what the two masks weigh over the table.
-  pub table-signed : weighed (t .stakes) 64 (bit word) ≡ weighed (t .stakes) (t .count) (λ n. bit a n || bit b n)
+  -- and weigh over the word's places what the two masks weigh over the stakes.
+  pub table-signed : weighed ss 64 (bit word) ≡ weighed ss (length ss) (λ n. bit a n || bit b n)
   unfolding weighed countOf weight
   table-signed =
       ap₂ (λ (x y : ℕ). record { signers = x; weight = record { 0 = y } })
-      (named-word (λ _. 1) ∙ or-count (t .count) a b) (named-word (stakeIn (t .stakes)) ∙ or-weight (t .stakes) (t .count) a b)
+      (named-word (λ _. 1) ∙ or-count (length ss) a b) (named-word (stakeIn ss) ∙ or-weight ss (length ss) a b)

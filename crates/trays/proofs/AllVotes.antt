@@ -14,40 +14,36 @@ use Rattle.rulebook.specs.Rules.{Record, State}
 use Rattle.rulebook.specs.Inputs.{Fed, feed}
 use Rattle.rulebook.specs.Messages.{voteOf}
 use Rattle.rulebook.specs.Writers.{over}
-use Rattle.stakes.specs.declared.StakeTable.{StakeTable}
 use Rattle.record.specs.Layout.{ledgerOf}
 use Rattle.record.specs.Spelling.{wordsOf}
 use Rattle.record.proofs.Spelled.{words-ledger}
-use Rattle.soundness.specs.Sound.{soundWords, TableOf}
+use Rattle.soundness.specs.Sound.{soundWords}
 use Rattle.soundness.proofs.Laws.{sound-long, sound-ledger, sound-head}
 use Rattle.soundness.proofs.InStep.{spelled-sound, spelled-as}
 use Rattle.settling.proofs.SpareLaws.{spare-most}
 use Rattle.settling.proofs.Soundness.{feed-sound}
 use Rattle.voter.specs.Outbox.{recordsIn, Past}
 use Rattle.voter.proofs.OutboxLaws.{made-in}
-use Rattle.run.proofs.ScanLaws.{under-way}
 use Rattle.node.specs.Stepping.{spelled}
 use Rattle.node.proofs.SpelledLaws.{outbox-spelled}
-use Rattle.node.proofs.TakeLaws.{table-tabled}
 use Rattle.trays.specs.declared.Taken.{Taken}
 use Rattle.trays.specs.Trays.{votesIn, wholeVotes, Served, ahead, serve}
 use Rattle.trays.specs.Lent.{Serving, VoteServed, Ready, AllServed}
 use Rattle.trays.proofs.Words.{votes-end, votes-more, ahead-ahead, serve-more}
 
 -- The first i votes are served: what they leave stands in front of what the others will leave.
-pub record Going (t : StakeTable) (ws out votes places ws' out' places' : List ℕ) (made i : ℕ) : Type 0 where
+pub record Going (ws out votes places ws' out' places' : List ℕ) (made i : ℕ) : Type 0 where
   pub few : i ≤ wholeVotes votes
-  pub serving : Serving t ws' out' made
+  pub serving : Serving ws' out' made
   pub boxes : length out' ≡ length out
   pub kept : length places' ≡ length places
   pub rest : Past made out out'
   pub past : drop i places' ≡ drop i places
   pub forward : serve (ledgerOf ws) (votesIn votes) ≡ ahead (take i places') (reverse (recordsIn out' made)) (serve (ledgerOf ws') (votesIn (drop (4 * i) votes)))
 
-pub going-start : {ws out votes places : List ℕ} {t : StakeTable} → Ready ws out votes places → TableOf (ledgerOf ws) t
-    → Going t ws out votes places ws out places 0 0
+pub going-start : {ws out votes places : List ℕ} → Ready ws out votes places → Going ws out votes places ws out places 0 0
 unfolding recordsIn
-going-start {ws = ws} {t = t} h b =
+going-start {ws = ws} h =
     let d = sound-head ws (h .sound) in
     record {
       few = omega arith;
@@ -61,7 +57,6 @@ going-start {ws = ws} {t = t} h b =
                   own = omega (arith, d .mine, d .few);
                   budget = omega (arith, spare-most (ledgerOf ws));
                 };
-            table = table-tabled ws t (h .sound) b;
           };
       boxes = refl;
       kept = refl;
@@ -70,7 +65,7 @@ going-start {ws = ws} {t = t} h b =
       forward = refl;
     }
 
-module _ {t : StakeTable} {ws out votes places ws' out' places' : List ℕ} {made i : ℕ} (h : Going t ws out votes places ws' out' places' made i) where
+module _ {ws out votes places ws' out' places' : List ℕ} {made i : ℕ} (h : Going ws out votes places ws' out' places' made i) where
   -- There is a vote at this place.
   pub going-vote : i < wholeVotes votes → 4 * i + 3 < length votes
   going-vote b = omega arith
@@ -98,13 +93,13 @@ module _ {t : StakeTable} {ws out votes places ws' out' places' : List ℕ} {mad
         ∙ ap (λ (k : ℕ). take k (set places' i (r .number))) (sym (add-one i))
 
     -- One vote more.
-    pub going-more : length out'' ≡ length out' → Going t ws out votes places ws'' out'' (set places' i (r .number)) (r .made) (i + 1)
+    pub going-more : length out'' ≡ length out' → Going ws out votes places ws'' out'' (set places' i (r .number)) (r .made) (i + 1)
     going-more same =
         let later : List Vote = votesIn (drop (4 * (i + 1)) votes) in
         let f : Fed = feed (ledgerOf ws') (input.Vote v) in
         record {
           few = omega arith;
-          serving = record { sound = still-sound; live = s .onward .live; table = under-way (h .serving .table) (s .onward) .table };
+          serving = record { sound = still-sound; live = s .onward .live };
           boxes = same ∙ h .boxes;
           kept = length-set places' i (r .number) ∙ h .kept;
           rest = λ k q. s .onward .moved .rest k q ∙ h .rest k (omega (arith, s .onward .moved .more));

@@ -14,9 +14,8 @@ use Rattle.rulebook.specs.Votes.{storeVote}
 use Rattle.rulebook.specs.Rules.{Record, State, stateOf}
 use Rattle.rulebook.specs.Run.{run}
 use Rattle.rulebook.specs.Inputs.{Fed, voteVerdict, verdict, intake, fedWith, refusedWith}
-use Rattle.stakes.specs.declared.StakeTable.{StakeTable}
 use Rattle.record.specs.Layout.{Counted, Placed, ledgerOf}
-use Rattle.soundness.proofs.Laws.{sound-head, sound-counted}
+use Rattle.soundness.proofs.Laws.{sound-head, sound-counted, sound-tabled}
 use Rattle.settling.specs.Spare.{spare}
 use Rattle.settling.specs.Steps.{SameNode, Paid, VoteFine}
 use Rattle.settling.proofs.Verdicts.{vote-fine}
@@ -34,7 +33,7 @@ use Rattle.trays.proofs.Behind.{behind, run-behind}
 abbrev pub withVote : Ledger → Vote → Ledger
 withVote l v = storeVote l (v .slot .0) (v .node .0) (v .kind) (v .block)
 
-module _ {t : StakeTable} {ws out : List ℕ} {made : ℕ} {v : Vote} (k : Taking t ws out made v) where
+module _ {ws out : List ℕ} {made : ℕ} {v : Vote} (k : Taking ws out made v) where
   fits : VoteFine (ledgerOf ws) v
   fits = vote-fine (ledgerOf ws) v (k .fine)
 
@@ -81,8 +80,8 @@ module _ {t : StakeTable} {ws out : List ℕ} {made : ℕ} {v : Vote} (k : Takin
         }
 
     -- The rules can run.
-    pub vote-way : UnderWay t ws' out made
-    vote-way = under-way (k .serving .table) vote-stored
+    pub vote-way : UnderWay ws' out made
+    vote-way = under-way (sound-tabled ws (k .serving .sound)) vote-stored
 
     -- And then they have run.
     pub vote-run : {ws'' left : List ℕ} {r : ℕ} → Onward ws' out made ws'' left r (run (stateIn ws' out made))
@@ -94,7 +93,7 @@ fed-on-top : (q : State) (rs : List Record) → behind rs q ≡ onTop (fedWith q
 unfolding fedWith
 fed-on-top q rs = ap (λ (x : List Record). stateOf (q .ledger) (x ++ rs)) (sym (reverse-reverse (q .records)))
 
-module _ {t : StakeTable} {ws out : List ℕ} {made : ℕ} (v : Vote) (h : Serving t ws out made) where
+module _ {ws out : List ℕ} {made : ℕ} (v : Vote) (h : Serving ws out made) where
   pub serving-counted : Counted ws
   serving-counted = sound-counted ws (h .sound)
 

@@ -18,11 +18,9 @@ use Rattle.rulebook.specs.Rules.{Record, State, stateOf}
 use Rattle.rulebook.specs.Inputs.{Fed, voteVerdict, feed}
 use Rattle.rulebook.specs.WellFormed.{outboxWords}
 use Rattle.rulebook.specs.Writers.{over}
-use Rattle.stakes.specs.declared.StakeTable.{StakeTable}
 use Rattle.record.specs.Layout.{recordWords, ledgerOf}
 use Rattle.record.specs.Spelling.{wordsOf}
 use Rattle.soundness.specs.Sound.{soundWords}
-use Rattle.pool.specs.Weighing.{Tabled}
 use Rattle.voter.specs.Outbox.{recordsIn}
 use Rattle.voter.specs.Voting.{Live, Onward}
 use Rattle.node.specs.Stepping.{spelled}
@@ -65,15 +63,14 @@ pub record TrayOf (ws out votes places : List ℕ) (r : StepAnswer) (ws' out' pl
 
 -- ---- the parts
 
--- A tray is under way: the record is sound, the outbox has room for all that can still be told, the table is the record's.
-pub record Serving (t : StakeTable) (ws out : List ℕ) (made : ℕ) : Type 0 where
+-- A tray is under way: the record is sound, and the outbox has room for all that can still be told.
+pub record Serving (ws out : List ℕ) (made : ℕ) : Type 0 where
   pub sound : soundWords ws ≡ true
   pub live : Live ws out made
-  pub table : Tabled (ledgerOf ws) t
 
 -- Likewise, and nothing refuses the vote.
-pub record Taking (t : StakeTable) (ws out : List ℕ) (made : ℕ) (v : Vote) : Type 0 where
-  pub serving : Serving t ws out made
+pub record Taking (ws out : List ℕ) (made : ℕ) (v : Vote) : Type 0 where
+  pub serving : Serving ws out made
   pub fine : voteVerdict (ledgerOf ws) v ≡ Fine
 
 -- A fed node, its records on top of those of the votes before, newest first.

@@ -1,4 +1,4 @@
-// A tray: a run of votes taken in one call, each as if it came alone; 17 and 9 are tested and the table is made once.
+// A tray: a run of votes taken in one call, each as if it came alone; 17 and 9 are tested once.
 ghost use mathlib.Core.Path.{_≡_};
 ghost use Prim.Native.Nat.{_+_, _*_, _<_};
 ghost use lib.ListN.{length, getD};
@@ -19,8 +19,6 @@ use rulebook::Verdict;
 use rulebook::Vote;
 use run::settle;
 use soundness::sound;
-use soundness::table;
-use stakes::StakeTable;
 use verdicts::vote_verdict;
 
 // The least number of words of an outbox: 128 records of three words.
@@ -47,20 +45,20 @@ fn vote_at(votes: &[u64], i: usize) -> Vote
 }
 
 // Takes a vote that nothing refuses; its records stand behind the first `made`.
-fn take_vote(rec: &mut [u64], outbox: &mut [u64], made: usize, t: StakeTable, v: Vote) -> usize
-    requires { ⌜ Taking t (now rec) (now outbox) made v ⌝ }
+fn take_vote(rec: &mut [u64], outbox: &mut [u64], made: usize, v: Vote) -> usize
+    requires { ⌜ Taking (now rec) (now outbox) made v ⌝ }
     ensures { λ r. ⌜ Onward (now (rec .entry)) (now (outbox .entry)) made (now (rec .exit)) (now (outbox .exit)) r (run (stateOf (storeVote (ledgerOf (now (rec .entry))) (v .slot .0) (v .node .0) (v .kind) (v .block)) (recordsIn (now (outbox .entry)) made))) ⌝ }
 {
     let kind = v.kind;
     let slot = v.slot;
     let node = v.node;
     store_vote(rec, slot, node, kind, v.block);
-    settle(rec, outbox, made, t)
+    settle(rec, outbox, made)
 }
 
 // One vote: refused with record and outbox as found, or taken.
-fn serve_vote(rec: &mut [u64], outbox: &mut [u64], made: usize, t: StakeTable, v: Vote) -> Taken
-    requires { ⌜ Serving t (now rec) (now outbox) made ⌝ }
+fn serve_vote(rec: &mut [u64], outbox: &mut [u64], made: usize, v: Vote) -> Taken
+    requires { ⌜ Serving (now rec) (now outbox) made ⌝ }
     ensures { λ r. ⌜ VoteServed (now (rec .entry)) (now (outbox .entry)) made v (now (rec .exit)) (now (outbox .exit)) r ⌝ }
 {
     match vote_verdict(rec, v) {
@@ -69,7 +67,7 @@ fn serve_vote(rec: &mut [u64], outbox: &mut [u64], made: usize, t: StakeTable, v
             number: refusal_number(r),
         },
         Verdict::Fine => Taken {
-            made: take_vote(rec, outbox, made, t, v),
+            made: take_vote(rec, outbox, made, v),
             number: 0,
         },
     }
@@ -80,11 +78,10 @@ fn serve_votes(rec: &mut [u64], outbox: &mut [u64], votes: &[u64], answers: &mut
     requires { ⌜ Ready (now rec) (now outbox) (now votes) (now answers) ⌝ }
     ensures { λ r. ⌜ AllServed (now (rec .entry)) (now (outbox .entry)) (now (votes .entry)) (now (answers .entry)) (now (rec .exit)) (now (outbox .exit)) (now (answers .exit)) r ⌝ }
 {
-    let t = table(rec);
     let n = votes.len() / 4;
     let mut made = 0;
     for i in 0..n {
-        let taken = serve_vote(rec, outbox, made, t, vote_at(votes, i));
+        let taken = serve_vote(rec, outbox, made, vote_at(votes, i));
         made = taken.made;
         answers[i] = taken.number;
     }

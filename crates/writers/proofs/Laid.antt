@@ -21,12 +21,11 @@ use Rattle.rulebook.specs.Packets.{certificateBytes}
 use Rattle.rulebook.specs.Writers.{Wrote, certificateFor, wroteOn, certificateVerdict, writeCertificate, proofVerdict, proofBytes, writeProof, over, Writes}
 use Rattle.rulebook.proofs.ToolLaws.{given-on, given-off, by-test}
 use Rattle.rulebook.proofs.NumberLaws.{certificate-few}
-use Rattle.stakes.specs.declared.StakeTable.{StakeTable}
 use Rattle.numbers.specs.Written.{Room, Written}
 use Rattle.numbers.proofs.Stores.{after}
 use Rattle.record.specs.Layout.{ledgerOf}
-use Rattle.soundness.specs.Sound.{soundWords, TableOf}
-use Rattle.soundness.proofs.Laws.{sound-long, sound-head}
+use Rattle.soundness.specs.Sound.{soundWords}
+use Rattle.soundness.proofs.Laws.{sound-long, sound-head, sound-tabled}
 use Rattle.pool.specs.Weighing.{Weighing}
 use Rattle.signers.specs.Masks.{Naming}
 use Rattle.writers.specs.Writing.{unsound, certificateOn, proofOn}
@@ -36,21 +35,8 @@ use Rattle.writers.specs.Writing.{unsound, certificateOn, proofOn}
 pub naming : (ws : List ℕ) (s : ℕ) → soundWords ws ≡ true → s < suc lastSlot → Naming ws s
 naming ws s e h = record { long = sound-long ws e; slot = h; few = sound-head ws e .few }
 
-pub weighing : (ws : List ℕ) (t : StakeTable) (s : ℕ) → soundWords ws ≡ true → TableOf (ledgerOf ws) t → s < suc lastSlot → Weighing ws t s
-weighing ws t s e w h =
-    let d = sound-head ws e in
-    record {
-      long = sound-long ws e;
-      slot = h;
-      table =
-          record {
-            fit = w .fit;
-            own = omega (arith, d .mine, d .few);
-            count = ap (λ (x : StakeTable). x .count) (w .same);
-            total = ap (λ (x : StakeTable). x .total .0) (w .same);
-            stakes = ap (λ (x : StakeTable). x .stakes) (w .same);
-          };
-    }
+pub weighing : (ws : List ℕ) (s : ℕ) → soundWords ws ≡ true → s < suc lastSlot → Weighing ws s
+weighing ws s e h = record { long = sound-long ws e; slot = h; table = sound-tabled ws e }
 
 -- ---- lengths
 

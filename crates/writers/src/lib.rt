@@ -19,7 +19,6 @@ use rulebook::Verdict;
 use rulebook::WriteAnswer;
 use signers::certificate_for;
 use soundness::sound;
-use soundness::table;
 
 // 9, 4, 3, 5, 18, in this order, for a certificate.
 fn judge_certificate(rec: &[u64], room: usize, kind: CertificateKind, s: Slot, b: u64) -> Verdict
@@ -38,8 +37,7 @@ fn judge_certificate(rec: &[u64], room: usize, kind: CertificateKind, s: Slot, b
     if block_misfits(kind, b) {
         return Verdict::Refused(Refusal::BadBlock);
     }
-    let t = table(rec);
-    if !held(rec, t, kind, s, b) {
+    if !held(rec, kind, s, b) {
         return Verdict::Refused(Refusal::NotHeld);
     }
     Verdict::Fine
@@ -59,8 +57,7 @@ fn judge_proof(rec: &[u64], room: usize, s: Slot, b: u64) -> Verdict
     if b == 0 {
         return Verdict::Refused(Refusal::BadBlock);
     }
-    let t = table(rec);
-    if !is_final(rec, t, s, b) {
+    if !is_final(rec, s, b) {
         return Verdict::Refused(Refusal::NotHeld);
     }
     Verdict::Fine
@@ -71,8 +68,7 @@ fn lay_proof(rec: &[u64], buffer: &mut [u8], s: Slot, b: u64) -> usize
     requires { ⌜ Laying (now rec) (now buffer) (s .0) ⌝ }
     ensures { λ r. ⌜ Written (now (buffer .entry)) 0 (proofBytes (ledgerOf (now (rec .entry))) (s .0) b) (now (buffer .exit)) r ⌝ }
 {
-    let t = table(rec);
-    if held(rec, t, CertificateKind::FastFinal, s, b) {
+    if held(rec, CertificateKind::FastFinal, s, b) {
         let fast = certificate_for(rec, CertificateKind::FastFinal, s, b);
         return five_numbers::write_certificate(buffer, 0, fast);
     }

@@ -1,7 +1,6 @@
 -- The tests in their order; a fault decides, else the weight.
 use Rattle.certificates.proofs.Judged.{fault-same, judge-is, unless-fine, unless-refused}
 use mathlib.Core.Path.{sym, _∙_}
-use mathlib.Core.Path.{_∙_, sym}
 use Prim.Native.Nat.{_-_}
 use borrow.Author.Needs.{needs}
 use Rattle.certificates.proofs.judge.Statement.{statement}
@@ -45,11 +44,11 @@ weigh-in-requires c κs = search needs
 
 returns : tie.Need-returns
 returns c =
-    sym (judge-is _ (c .before .before .before .before .before .before .before .before .before .pre) _ _ _ (c .before .before .before .before .before .before .before .before .kind-of .ensures) _ (fault-same _ _ _ _ _ _ _ _ (c .before .before .before .before .before .before .before .is-other .ensures) (c .before .before .before .before .before .before .slot-ok .ensures) (c .before .before .before .before .before .block-misfits .ensures) (c .before .before .before .before .bad-signers .ensures) _ (c .before .before .before .first-fault .ensures)) ∙ unless-refused _ _ _ (c .before .fault .given .1))
+    sym (judge-is _ _ (c .before .before .before .before .before .before .before .before .before .before .pre) _ _ _ (c .before .before .before .before .before .before .before .before .kind-of .ensures) _ (fault-same _ _ _ _ _ _ _ _ (c .before .before .before .before .before .before .before .is-other .ensures) (c .before .before .before .before .before .before .slot-ok .ensures) (c .before .before .before .before .before .block-misfits .ensures) (c .before .before .before .before .bad-signers .ensures) _ (c .before .before .before .first-fault .ensures)) ∙ unless-refused _ _ _ (c .before .fault .given .1))
 
 returns-2 : tie.Need-returns-2
 returns-2 c =
-    c .weigh-in .ensures ∙ sym (judge-is _ (c .before .before .before .before .before .before .before .before .before .pre) _ _ _ (c .before .before .before .before .before .before .before .before .kind-of .ensures) _ (fault-same _ _ _ _ _ _ _ _ (c .before .before .before .before .before .before .before .is-other .ensures) (c .before .before .before .before .before .before .slot-ok .ensures) (c .before .before .before .before .before .block-misfits .ensures) (c .before .before .before .before .bad-signers .ensures) _ (c .before .before .before .first-fault .ensures)) ∙ unless-fine _ _ (c .before .enum-told .given .1))
+    c .weigh-in .ensures ∙ sym (judge-is _ _ (c .before .before .before .before .before .before .before .before .before .before .pre) _ _ _ (c .before .before .before .before .before .before .before .before .kind-of .ensures) _ (fault-same _ _ _ _ _ _ _ _ (c .before .before .before .before .before .before .before .is-other .ensures) (c .before .before .before .before .before .before .slot-ok .ensures) (c .before .before .before .before .before .block-misfits .ensures) (c .before .before .before .before .bad-signers .ensures) _ (c .before .before .before .first-fault .ensures)) ∙ unless-fine _ _ (c .before .enum-told .given .1))
 
 pub judge-spec : {M : Type 1} → statement M
 judge-spec =

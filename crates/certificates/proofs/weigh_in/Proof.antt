@@ -1,4 +1,4 @@
--- What was weighed on the table is what the stakes weigh, and no kind needs more than five fifths.
+-- What was weighed is what the signers weigh, and no kind needs more than five fifths.
 use Rattle.certificates.proofs.Judged.{fifths-le, lacks-same, lacks-some, lacks-none, weighed-told, too-light}
 use Rattle.stakes.proofs.Laws.{weighable}
 use Prim.Native.Nat.{ℕ, _≤_}
@@ -15,17 +15,17 @@ threshold-of-requires c κs = search needs
 
 missing-requires : tie.Need-missing-requires
 missing-requires c κs =
-    weighable _ (c .before .before .before .before .pre .sound .fit) _ (subst (λ (x : ℕ). x ≤ 5) (sym (c .threshold-of .ensures)) (fifths-le _))
+    weighable _ _ (c .before .before .before .before .before .pre .fit) _ (subst (λ (x : ℕ). x ≤ 5) (sym (c .threshold-of .ensures)) (fifths-le _))
 
 returns : tie.Need-returns
 returns c =
-    let l = lacks-same _ (c .before .before .before .before .before .before .before .pre .sound) _ _ _ (c .before .before .before .before .before .weigh .ensures) _ (c .before .before .before .threshold-of .ensures) _ (c .before .before .missing .ensures) in
+    let l = lacks-same _ _ (c .before .before .before .before .before .before .before .before .pre .fit) _ _ _ (c .before .before .before .before .before .weigh .ensures) _ (c .before .before .before .threshold-of .ensures) _ (c .before .before .missing .ensures) in
     too-light _ _ _ _ (lacks-some _ _ _ _ l (c .if1 .taken)) _ l
 
 returns-2 : tie.Need-returns-2
 returns-2 c =
-    let l = lacks-same _ (c .before .before .before .before .before .before .before .pre .sound) _ _ _ (c .before .before .before .before .before .weigh .ensures) _ (c .before .before .before .threshold-of .ensures) _ (c .before .before .missing .ensures) in
-    weighed-told _ _ _ (c .before .before .before .before .before .before .before .pre) _ (c .before .before .before .before .before .weigh .ensures) _ (lacks-none _ _ _ _ l (c .if1 .left))
+    let l = lacks-same _ _ (c .before .before .before .before .before .before .before .before .pre .fit) _ _ _ (c .before .before .before .before .before .weigh .ensures) _ (c .before .before .before .threshold-of .ensures) _ (c .before .before .missing .ensures) in
+    weighed-told _ _ _ _ (c .before .before .before .before .before .before .before .before .pre) _ (c .before .before .before .before .before .weigh .ensures) _ (lacks-none _ _ _ _ l (c .if1 .left))
 
 pub weigh-in-spec : {M : Type 1} → statement M
 weigh-in-spec =

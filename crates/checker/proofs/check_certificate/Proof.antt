@@ -1,5 +1,6 @@
 -- The table is made once; then by what is told of the certificate.
-use Rattle.checker.proofs.Laws.{made-sound, made-test, single-answer}
+use Rattle.stakes.proofs.Laws.{made-fit}
+use Rattle.checker.proofs.Laws.{made-test, single-answer}
 use Rattle.checker.specs.InPacket.{alone}
 use Rattle.rulebook.specs.Checker.{checkCertificate}
 use Rattle.rulebook.specs.Tools.{given}
@@ -24,7 +25,7 @@ returns c =
 
 one-at-requires : tie.Need-one-at-requires
 one-at-requires c κs =
-    made-sound _ _ (c .before .before .before .make-table .ensures) (not-false _ (c .before .if1 .left))
+    made-fit _ _ (c .before .before .before .make-table .ensures) (not-false _ (c .before .if1 .left))
 
 enum-known-one : tie.Need-enum-known-one
 enum-known-one c = search needs

@@ -1,5 +1,6 @@
 -- The table is made once; then by what is told of the first certificate.
-use Rattle.checker.proofs.Laws.{made-sound, made-test, proof-answer}
+use Rattle.stakes.proofs.Laws.{made-fit}
+use Rattle.checker.proofs.Laws.{made-test, proof-answer}
 use Rattle.checker.specs.InPacket.{proven}
 use Rattle.rulebook.specs.Checker.{checkProof}
 use Rattle.rulebook.specs.Tools.{given}
@@ -24,7 +25,7 @@ returns c =
 
 one-at-requires : tie.Need-one-at-requires
 one-at-requires c κs =
-    made-sound _ _ (c .before .before .before .make-table .ensures) (not-false _ (c .before .if1 .left))
+    made-fit _ _ (c .before .before .before .make-table .ensures) (not-false _ (c .before .if1 .left))
 
 enum-known-first : tie.Need-enum-known-first
 enum-known-first c = search needs
@@ -34,7 +35,7 @@ enum-known-first-2 c = search needs
 
 after-first-requires : tie.Need-after-first-requires
 after-first-requires c κs =
-    made-sound _ _ (c .before .before .before .before .before .before .before .make-table .ensures) (not-false _ (c .before .before .before .before .before .if1 .left))
+    made-fit _ _ (c .before .before .before .before .before .before .before .make-table .ensures) (not-false _ (c .before .before .before .before .before .if1 .left))
 
 returns-2 : tie.Need-returns-2
 unfolding proven

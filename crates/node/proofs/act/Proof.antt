@@ -1,23 +1,21 @@
--- The table read once, the input taken, the rules run.
+-- The input taken, the rules run.
 use borrow.Author.Needs.{needs}
 use Rattle.rulebook.specs.Run.{run}
 use Rattle.rulebook.specs.Rules.{State}
 use Rattle.run.proofs.ScanLaws.{under-way}
 use Rattle.voter.proofs.LiveLaws.{onward-then}
-use Rattle.node.proofs.TakeLaws.{taking-in, table-tabled}
+use Rattle.soundness.proofs.Laws.{sound-tabled}
+use Rattle.node.proofs.TakeLaws.{taking-in}
 use Rattle.node.proofs.act.Statement.{statement}
 use Rattle.node.proofs.act.Tie as tie
 
-table-requires : tie.Need-table-requires
-table-requires c κs = search needs
-
 take-in-requires : tie.Need-take-in-requires
 take-in-requires c κs =
-    taking-in (c .before .before .before .before .before .before .pre)
+    taking-in (c .before .before .before .before .pre)
 
 settle-requires : tie.Need-settle-requires
 settle-requires c κs =
-    let a = c .before .before .before .before .before .before .before .before .before .before .before .before .before .args in under-way (table-tabled (a .rec .now) (c .before .before .before .before .before .before .before .before .before .table .result) (c .before .before .before .before .before .before .before .before .before .before .before .before .before .pre .sound) (c .before .before .before .before .before .before .before .before .before .table .ensures)) (c .before .before .before .before .before .before .take-in .ensures)
+    let a = c .before .before .before .before .before .before .before .before .before .before .before in under-way (sound-tabled (a .args .rec .now) (a .pre .sound)) (c .before .before .before .before .before .before .take-in .ensures)
 
 same-length : tie.Need-same-length
 same-length c = search needs
@@ -32,4 +30,4 @@ returns c =
 pub act-spec : {M : Type 1} → statement M
 act-spec =
     tie.close
-    (tie.spec table-requires take-in-requires settle-requires same-length same-length-2 returns)
+    (tie.spec take-in-requires settle-requires same-length same-length-2 returns)

@@ -1,4 +1,4 @@
--- The record is sound, so its table weighs its votes.
+-- The record is sound, so its votes can be weighed.
 use mathlib.Core.Path.{_∙_, sym}
 use mathlib.Core.Bool.{false}
 use Prim.Native.Nat.{_-_}
@@ -30,18 +30,14 @@ unfolding heldShown
 returns-2 c =
     second-off (slotOk (c .before .before .before .before .before .args .s .0)) (soundWords (c .before .before .before .before .before .args .rec .now)) false (λ _. held (ledgerOf (c .before .before .before .before .before .args .rec .now)) (c .before .before .before .before .before .args .kind) (c .before .before .before .before .before .args .s .0) (c .before .before .before .before .before .args .b)) (sym (c .before .sound .ensures) ∙ not-true _ (c .if2 .taken))
 
-table-requires : tie.Need-table-requires
-table-requires c κs =
-    sym (c .before .sound .ensures) ∙ not-false _ (c .if2 .left)
-
 held-requires : tie.Need-held-requires
 held-requires c κs =
-    weighing _ _ _ (sym (c .before .before .sound .ensures) ∙ not-false _ (c .before .if2 .left)) (c .table .ensures) (slot-small _ (sym (c .before .before .before .before .slot-ok .ensures) ∙ not-false _ (c .before .before .before .if1 .left)))
+    weighing _ _ (sym (c .before .sound .ensures) ∙ not-false _ (c .if2 .left)) (slot-small _ (sym (c .before .before .before .slot-ok .ensures) ∙ not-false _ (c .before .before .if1 .left)))
 
 returns-3 : tie.Need-returns-3
 unfolding heldShown
 returns-3 c =
-    c .held .ensures ∙ both-on (slotOk (c .before .before .before .before .before .before .before .args .s .0)) (soundWords (c .before .before .before .before .before .before .before .args .rec .now)) false (λ _. held (ledgerOf (c .before .before .before .before .before .before .before .args .rec .now)) (c .before .before .before .before .before .before .before .args .kind) (c .before .before .before .before .before .before .before .args .s .0) (c .before .before .before .before .before .before .before .args .b)) (sym (c .before .before .before .before .before .slot-ok .ensures) ∙ not-false _ (c .before .before .before .before .if1 .left)) (sym (c .before .before .before .sound .ensures) ∙ not-false _ (c .before .before .if2 .left))
+    c .held .ensures ∙ both-on (slotOk (c .before .before .before .before .before .before .args .s .0)) (soundWords (c .before .before .before .before .before .before .args .rec .now)) false (λ _. held (ledgerOf (c .before .before .before .before .before .before .args .rec .now)) (c .before .before .before .before .before .before .args .kind) (c .before .before .before .before .before .before .args .s .0) (c .before .before .before .before .before .before .args .b)) (sym (c .before .before .before .before .slot-ok .ensures) ∙ not-false _ (c .before .before .before .if1 .left)) (sym (c .before .before .sound .ensures) ∙ not-false _ (c .before .if2 .left))
 
 pub held-in-spec : {M : Type 1} → statement M
 held-in-spec =
@@ -51,6 +47,5 @@ held-in-spec =
     returns
     sound-requires
     returns-2
-    table-requires
     held-requires
     returns-3)

@@ -1,4 +1,4 @@
--- The record is sound, so its table weighs its votes.
+-- The record is sound, so its votes can be weighed.
 use mathlib.Core.Path.{_∙_, sym}
 use Prim.Native.Nat.{_-_}
 use borrow.Author.Tests.{not-true, not-false}
@@ -29,18 +29,14 @@ unfolding weightShown
 returns-2 c =
     second-off (slotOk (c .before .before .before .before .before .args .s .0)) (soundWords (c .before .before .before .before .before .args .rec .now)) 0 (λ _. weigh (ledgerOf (c .before .before .before .before .before .args .rec .now)) (c .before .before .before .before .before .args .s .0) (c .before .before .before .before .before .args .who)) (sym (c .before .sound .ensures) ∙ not-true _ (c .if2 .taken))
 
-table-requires : tie.Need-table-requires
-table-requires c κs =
-    sym (c .before .sound .ensures) ∙ not-false _ (c .if2 .left)
-
 weigh-requires : tie.Need-weigh-requires
 weigh-requires c κs =
-    weighing _ _ _ (sym (c .before .before .sound .ensures) ∙ not-false _ (c .before .if2 .left)) (c .table .ensures) (slot-small _ (sym (c .before .before .before .before .slot-ok .ensures) ∙ not-false _ (c .before .before .before .if1 .left)))
+    weighing _ _ (sym (c .before .sound .ensures) ∙ not-false _ (c .if2 .left)) (slot-small _ (sym (c .before .before .before .slot-ok .ensures) ∙ not-false _ (c .before .before .if1 .left)))
 
 returns-3 : tie.Need-returns-3
 unfolding weightShown
 returns-3 c =
-    c .weigh .ensures ∙ both-on (slotOk (c .before .before .before .before .before .before .before .args .s .0)) (soundWords (c .before .before .before .before .before .before .before .args .rec .now)) 0 (λ _. weigh (ledgerOf (c .before .before .before .before .before .before .before .args .rec .now)) (c .before .before .before .before .before .before .before .args .s .0) (c .before .before .before .before .before .before .before .args .who)) (sym (c .before .before .before .before .before .slot-ok .ensures) ∙ not-false _ (c .before .before .before .before .if1 .left)) (sym (c .before .before .before .sound .ensures) ∙ not-false _ (c .before .before .if2 .left))
+    c .weigh .ensures ∙ both-on (slotOk (c .before .before .before .before .before .before .args .s .0)) (soundWords (c .before .before .before .before .before .before .args .rec .now)) 0 (λ _. weigh (ledgerOf (c .before .before .before .before .before .before .args .rec .now)) (c .before .before .before .before .before .before .args .s .0) (c .before .before .before .before .before .before .args .who)) (sym (c .before .before .before .before .slot-ok .ensures) ∙ not-false _ (c .before .before .before .if1 .left)) (sym (c .before .before .sound .ensures) ∙ not-false _ (c .before .if2 .left))
 
 pub weight-of-spec : {M : Type 1} → statement M
 weight-of-spec =
@@ -50,6 +46,5 @@ weight-of-spec =
     returns
     sound-requires
     returns-2
-    table-requires
     weigh-requires
     returns-3)

@@ -38,25 +38,22 @@ returns-4 c =
     let a = c .before .before .before .before .before .before .before .before in
     certificate-block (ledgerOf (a .args .rec .now)) (a .args .room) (a .args .kind) (a .args .s .0) (a .args .b) (omega arith) (sym (c .before .before .before .before .before .is-other .ensures) ∙ c .before .before .before .before .if2 .left) (sym (c .before .before .before .slot-ok .ensures) ∙ not-false _ (c .before .before .if3 .left)) (sym (c .before .block-misfits .ensures) ∙ c .if4 .taken)
 
-table-requires : tie.Need-table-requires
-table-requires c κs = search needs
-
 held-requires : tie.Need-held-requires
 held-requires c κs =
-    let a = c .before .before .before .before .before .before .before .before .before in
-    weighing (a .args .rec .now) (c .table .result) (a .args .s .0) (a .pre) (c .table .ensures)
-    (slot-row (a .args .s .0) (sym (c .before .before .before .before .slot-ok .ensures) ∙ not-false _ (c .before .before .before .if3 .left)))
+    let a = c .before .before .before .before .before .before .before .before in
+    weighing (a .args .rec .now) (a .args .s .0) (a .pre)
+    (slot-row (a .args .s .0) (sym (c .before .before .before .slot-ok .ensures) ∙ not-false _ (c .before .before .if3 .left)))
 
 returns-5 : tie.Need-returns-5
 returns-5 c =
-    let a = c .before .before .before .before .before .before .before .before .before .before .before in
-    certificate-held (ledgerOf (a .args .rec .now)) (a .args .room) (a .args .kind) (a .args .s .0) (a .args .b) (omega arith) (sym (c .before .before .before .before .before .before .before .before .is-other .ensures) ∙ c .before .before .before .before .before .before .before .if2 .left) (sym (c .before .before .before .before .before .before .slot-ok .ensures) ∙ not-false _ (c .before .before .before .before .before .if3 .left)) (sym (c .before .before .before .before .block-misfits .ensures) ∙ c .before .before .before .if4 .left)
+    let a = c .before .before .before .before .before .before .before .before .before .before in
+    certificate-held (ledgerOf (a .args .rec .now)) (a .args .room) (a .args .kind) (a .args .s .0) (a .args .b) (omega arith) (sym (c .before .before .before .before .before .before .before .is-other .ensures) ∙ c .before .before .before .before .before .before .if2 .left) (sym (c .before .before .before .before .before .slot-ok .ensures) ∙ not-false _ (c .before .before .before .before .if3 .left)) (sym (c .before .before .before .block-misfits .ensures) ∙ c .before .before .if4 .left)
     (sym (c .before .held .ensures) ∙ not-true _ (c .if5 .taken))
 
 returns-6 : tie.Need-returns-6
 returns-6 c =
-    let a = c .before .before .before .before .before .before .before .before .before .before .before in
-    certificate-passed (ledgerOf (a .args .rec .now)) (a .args .room) (a .args .kind) (a .args .s .0) (a .args .b) (omega arith) (sym (c .before .before .before .before .before .before .before .before .is-other .ensures) ∙ c .before .before .before .before .before .before .before .if2 .left) (sym (c .before .before .before .before .before .before .slot-ok .ensures) ∙ not-false _ (c .before .before .before .before .before .if3 .left)) (sym (c .before .before .before .before .block-misfits .ensures) ∙ c .before .before .before .if4 .left)
+    let a = c .before .before .before .before .before .before .before .before .before .before in
+    certificate-passed (ledgerOf (a .args .rec .now)) (a .args .room) (a .args .kind) (a .args .s .0) (a .args .b) (omega arith) (sym (c .before .before .before .before .before .before .before .is-other .ensures) ∙ c .before .before .before .before .before .before .if2 .left) (sym (c .before .before .before .before .before .slot-ok .ensures) ∙ not-false _ (c .before .before .before .before .if3 .left)) (sym (c .before .before .before .block-misfits .ensures) ∙ c .before .before .if4 .left)
     (sym (c .before .held .ensures) ∙ not-false _ (c .if5 .left))
 
 pub judge-certificate-spec : {M : Type 1} → statement M
@@ -70,7 +67,6 @@ judge-certificate-spec =
     returns-3
     block-misfits-requires
     returns-4
-    table-requires
     held-requires
     returns-5
     returns-6)

@@ -27,24 +27,21 @@ returns-3 c =
     let a = c .before .before .before .before .before in
     proof-block (ledgerOf (a .args .rec .now)) (a .args .room) (a .args .s .0) (a .args .b) (omega arith) (sym (c .before .before .slot-ok .ensures) ∙ not-false _ (c .before .if2 .left)) (c .if3 .taken)
 
-table-requires : tie.Need-table-requires
-table-requires c κs = search needs
-
 is-final-requires : tie.Need-is-final-requires
 is-final-requires c κs =
-    let a = c .before .before .before .before .before .before in
-    weighing (a .args .rec .now) (c .table .result) (a .args .s .0) (a .pre) (c .table .ensures)
-    (slot-row (a .args .s .0) (sym (c .before .before .before .slot-ok .ensures) ∙ not-false _ (c .before .before .if2 .left)))
+    let a = c .before .before .before .before .before in
+    weighing (a .args .rec .now) (a .args .s .0) (a .pre)
+    (slot-row (a .args .s .0) (sym (c .before .before .slot-ok .ensures) ∙ not-false _ (c .before .if2 .left)))
 
 returns-4 : tie.Need-returns-4
 returns-4 c =
-    let a = c .before .before .before .before .before .before .before .before in
-    proof-final (ledgerOf (a .args .rec .now)) (a .args .room) (a .args .s .0) (a .args .b) (omega arith) (sym (c .before .before .before .before .before .slot-ok .ensures) ∙ not-false _ (c .before .before .before .before .if2 .left)) (c .before .before .before .if3 .left) (sym (c .before .is-final .ensures) ∙ not-true _ (c .if4 .taken))
+    let a = c .before .before .before .before .before .before .before in
+    proof-final (ledgerOf (a .args .rec .now)) (a .args .room) (a .args .s .0) (a .args .b) (omega arith) (sym (c .before .before .before .before .slot-ok .ensures) ∙ not-false _ (c .before .before .before .if2 .left)) (c .before .before .if3 .left) (sym (c .before .is-final .ensures) ∙ not-true _ (c .if4 .taken))
 
 returns-5 : tie.Need-returns-5
 returns-5 c =
-    let a = c .before .before .before .before .before .before .before .before in
-    proof-passed (ledgerOf (a .args .rec .now)) (a .args .room) (a .args .s .0) (a .args .b) (omega arith) (sym (c .before .before .before .before .before .slot-ok .ensures) ∙ not-false _ (c .before .before .before .before .if2 .left)) (c .before .before .before .if3 .left) (sym (c .before .is-final .ensures) ∙ not-false _ (c .if4 .left))
+    let a = c .before .before .before .before .before .before .before in
+    proof-passed (ledgerOf (a .args .rec .now)) (a .args .room) (a .args .s .0) (a .args .b) (omega arith) (sym (c .before .before .before .before .slot-ok .ensures) ∙ not-false _ (c .before .before .before .if2 .left)) (c .before .before .if3 .left) (sym (c .before .is-final .ensures) ∙ not-false _ (c .if4 .left))
 
 pub judge-proof-spec : {M : Type 1} → statement M
 judge-proof-spec =
@@ -54,7 +51,6 @@ judge-proof-spec =
     slot-ok-requires
     returns-2
     returns-3
-    table-requires
     is-final-requires
     returns-4
     returns-5)
