@@ -7,9 +7,10 @@
  * call may change (every pointer without const) must not overlap anything else that is lent to the same call. Calls on
  * different records may run at the same time.
  *
- * Node. A node is its record: QR_RECORD_WORDS words, owned by the host, which may copy it, keep it and lend it again.
- * qr_start makes lent words a fresh node. Words that no call of this library left are looked through at every call and
- * refused with QR_BAD_RECORD where they are no record; a record that this library left is never refused so.
+ * Node. A node is its record: qr_record_words(stake_count) words, owned by the host, which may copy it, keep it and lend
+ * it again, always with that length. qr_start makes lent words a fresh node. Words that no call of this library left are
+ * looked through at every call and refused with QR_BAD_RECORD where they are no record; a record that this library left
+ * is never refused so.
  *
  * Answers. Every operation answers a number: 0 where it is done, else why not (enum qr_number). A refusal changes none
  * of the record, the outbox and the buffers, and puts zeros into the places for the values beside it. A number that is
@@ -81,7 +82,6 @@ enum qr_record_kind {
 
 /* Sizes: what lent memory has to have, and what a ring has at most. */
 enum qr_size {
-    QR_RECORD_WORDS = 7773,    /* words of a record, exactly */
     QR_OUTBOX_WORDS = 384,     /* words of an outbox, 128 records of three, or more */
     QR_CERTIFICATE_BYTES = 32, /* bytes of a buffer for a certificate, or more */
     QR_PROOF_BYTES = 64,       /* bytes of a buffer for a proof, or more */
@@ -90,15 +90,21 @@ enum qr_size {
     QR_LAST_SLOT = 16
 };
 
-/* QR_RECORD_WORDS and QR_OUTBOX_WORDS of the library that is linked: a host compares them with those of this header. */
-size_t qr_record_words(void);
+/* Words of a record of a ring of so many nodes, 1 to QR_MOST_NODES, exactly. */
+#define QR_RECORD_WORDS(nodes) (93 + 120 * (size_t)(nodes))
+
+/*
+ * The same of the library that is linked, which a host compares with those of this header. qr_record_words: by the number
+ * of stakes, whatever it is; above QR_MOST_NODES as many as for QR_MOST_NODES.
+ */
+size_t qr_record_words(size_t stake_count);
 
 size_t qr_outbox_words(void);
 
 /*
  * Makes the record's words a fresh node: stakes of nodes 0, 1 .. (1 to 64 of them, each at least 1, together at most
  * 2^48), the own node's number, genesis's number (not 0). What stood in the words does not matter. Answers 17 where
- * they are not QR_RECORD_WORDS many, else 1 where something is out of range; then the words stay.
+ * they are not qr_record_words(stake_count) many, else 1 where something is out of range; then the words stay.
  */
 uint64_t qr_start(uint64_t *record, size_t record_words, const uint64_t *stakes, size_t stake_count, size_t own,
                   uint64_t genesis);

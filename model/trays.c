@@ -34,7 +34,7 @@ int main(int count, char **word)
     if (count != 3)
         return 1;
     int full = !strcmp(word[1], "full");
-    words = qr_record_words();
+    words = qr_record_words(NODES);
     for (size_t i = 0; i < NODES; i++)
         stakes[i] = 1;
     if (words > RECORD || qr_start(record, words, stakes, NODES, 0, 1) != QR_DONE)

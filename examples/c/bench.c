@@ -41,14 +41,14 @@ static void show_tray(uint64_t *record, uint64_t *outbox)
     const uint64_t votes[16] = {1, 1, 1, 7, 1, 0, 1, 7, 1, 1, 1, 7, 3, 2, 1, 0};
     uint64_t answers[5] = {99, 99, 99, 99, 99};
     size_t made;
-    if (qr_start(record, QR_RECORD_WORDS, stakes, 3, 0, 1) != QR_DONE)
+    if (qr_start(record, QR_RECORD_WORDS(3), stakes, 3, 0, 1) != QR_DONE)
         return;
-    uint64_t number = qr_tray(record, QR_RECORD_WORDS, outbox, QR_OUTBOX_WORDS, &made, votes, 16, answers, 5);
+    uint64_t number = qr_tray(record, QR_RECORD_WORDS(3), outbox, QR_OUTBOX_WORDS, &made, votes, 16, answers, 5);
     show_records("tray", number, outbox, made);
     printf("answers:");
     for (size_t i = 0; i < 5; i++)
         printf(" %" PRIu64, answers[i]);
-    number = qr_tray(record, QR_RECORD_WORDS, outbox, QR_OUTBOX_WORDS, &made, votes, 15, answers, 3);
+    number = qr_tray(record, QR_RECORD_WORDS(3), outbox, QR_OUTBOX_WORDS, &made, votes, 15, answers, 3);
     printf("; a part at the end: %" PRIu64 "\n", number);
 }
 
@@ -58,20 +58,24 @@ int main(void)
     const uint8_t long_proof[10] = {0x02, 0x01, 0x07, 0x01, 0x00, 0x05, 0x01, 0x00, 0x01, 0x00};
     const uint8_t light_proof[10] = {0x02, 0x01, 0x07, 0x01, 0x00, 0x05, 0x01, 0x00, 0x00, 0x00};
     uint64_t values[5], missing;
-    static uint64_t record[QR_RECORD_WORDS], outbox[QR_OUTBOX_WORDS];
+    static uint64_t record[QR_RECORD_WORDS(3)], outbox[QR_OUTBOX_WORDS];
     uint8_t packet[QR_PROOF_BYTES];
     size_t made, written;
 
-    if (qr_record_words() != QR_RECORD_WORDS || qr_outbox_words() != QR_OUTBOX_WORDS) {
+    if (qr_record_words(3) != QR_RECORD_WORDS(3) || qr_outbox_words() != QR_OUTBOX_WORDS) {
         fprintf(stderr, "the library is not of this header\n");
         return 1;
     }
-    if (qr_start(record, QR_RECORD_WORDS, stakes, 1, 0, 1) != QR_DONE)
+    if (qr_start(record, QR_RECORD_WORDS(1), stakes, 1, 0, 1) != QR_DONE)
         return 1;
-    uint64_t number = qr_block(record, QR_RECORD_WORDS, outbox, QR_OUTBOX_WORDS, &made, 1, 7, 0, 1);
+    uint64_t number = qr_block(record, QR_RECORD_WORDS(1), outbox, QR_OUTBOX_WORDS, &made, 1, 7, 0, 1);
     show_records("B1", number, outbox, made);
+    number = qr_look(record, QR_RECORD_WORDS(2), outbox, QR_OUTBOX_WORDS, &made);
+    printf("a record one place too long: %" PRIu64, number);
+    number = qr_look(record, QR_RECORD_WORDS(1), outbox, QR_OUTBOX_WORDS - 1, &made);
+    printf("; an outbox one word short: %" PRIu64 "\n", number);
 
-    number = qr_write_proof(record, QR_RECORD_WORDS, packet, sizeof packet, &written, 1, 7);
+    number = qr_write_proof(record, QR_RECORD_WORDS(1), packet, sizeof packet, &written, 1, 7);
     printf("B9: %" PRIu64 ", proof of %zu bytes:", number, written);
     for (size_t i = 0; i < written; i++)
         printf(" %02X", packet[i]);

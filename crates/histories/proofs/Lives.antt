@@ -6,7 +6,7 @@ use Prim.Native.Nat.{ℕ, _*_, _%_, _≤_, _<_}
 use native.Mathlib.Omega.{arith}
 use lib.ListN.{length, drop, length-reverse}
 use lib.Dec.{eqb, leb}
-use borrow.Author.Tests.{eq-eqb, leb-true, leb-false}
+use borrow.Author.Tests.{leb-true, leb-false}
 use Rattle.rulebook.specs.declared.Input.{Input}
 use Rattle.rulebook.specs.declared.Input.the-variants as input
 use Rattle.rulebook.specs.declared.Refusal.{Refusal}
@@ -16,6 +16,7 @@ use Rattle.rulebook.specs.declared.StepAnswer.{StepAnswer}
 use Rattle.rulebook.specs.declared.Vote.{Vote}
 use Rattle.rulebook.specs.declared.Verdict.{Verdict}
 use Rattle.rulebook.specs.declared.Verdict.the-variants.{Fine, Refused}
+use Rattle.rulebook.specs.Weights.{placesFor}
 use Rattle.rulebook.specs.Ledger.{Ledger, fresh}
 use Rattle.rulebook.specs.Rules.{Record, State}
 use Rattle.rulebook.specs.Run.{run}
@@ -29,6 +30,7 @@ use Rattle.settling.proofs.Soundness.{feed-sound}
 use Rattle.settling.proofs.Start.{fresh-sound}
 use Rattle.record.specs.Layout.{recordWords, ledgerOf}
 use Rattle.record.specs.Spelling.{wordsOf}
+use Rattle.record.proofs.Places.{true-long}
 use Rattle.soundness.specs.Sound.{soundWords}
 use Rattle.soundness.specs.Starting.{startJudged, startAnswer, startLeft}
 use Rattle.soundness.proofs.Laws.{sound-long, sound-formed, sound-ledger}
@@ -92,7 +94,7 @@ pub record Did (ws : List ℕ) (is : List Input) (answer : StepAnswer) (ws' left
 module _ (ws lent : List ℕ) (i : Input) (answer : StepAnswer) (ws' left : List ℕ) (sound : soundWords ws ≡ true) (s : StepOf ws lent i answer ws' left) where
   leaves : (f : Fed) → step (ledgerOf ws) (length lent) i ≡ f → stepLeaves ws lent i ≡ asFed f lent
   unfolding stepLeaves
-  leaves f e = given-on _ _ _ (eq-eqb (length ws) recordWords (sound-long ws sound)) ∙ ap (λ (x : Fed). asFed x lent) e
+  leaves f e = given-on _ _ _ (true-long ws (sound-long ws sound)) ∙ ap (λ (x : Fed). asFed x lent) e
 
   pub step-is-fed : outboxWords ≤ length lent → StepFed ws i answer ws' left
   unfolding feed
@@ -163,7 +165,7 @@ module _ (ws lent votes places : List ℕ) (answer : StepAnswer) (ws' left answe
   unfolding trayLeaves
   tray-did-as t is e h d m =
       let q : trayLeaves ws lent votes places ≡ asServed t lent places =
-      given-on _ _ _ (eq-eqb (length ws) recordWords (sound-long ws sound)) ∙ ap (λ (x : Tray). asServed x lent places) e in
+      given-on _ _ _ (true-long ws (sound-long ws sound)) ∙ ap (λ (x : Tray). asServed x lent places) e in
       let w : ws' ≡ wordsOf (t .served .ledger) = s .words ∙ ap (λ (x : trays.Leaves). x .words) q in
       let a : answer ≡ t .answer = s .answered ∙ ap (λ (x : trays.Leaves). x .answer) q in
       let o : left ≡ spelled (t .served .records) ++ drop (3 * length (t .served .records)) lent = s .outbox ∙ ap (λ (x : trays.Leaves). x .outbox) q in
@@ -248,7 +250,7 @@ module _ (stakes : List ℕ) (own genesis : ℕ) (life : Life) (h : Lived stakes
     where
       go : (v : Verdict) → startJudged (life .found) stakes own genesis ≡ v → (startVerdict stakes own genesis ≡ Fine) × (life .words ≡ wordsOf (fresh stakes own genesis))
       go Fine e =
-          let f = refuse-fine (not (eqb (length (life .found)) recordWords)) refusal.BadRecord (startVerdict stakes own genesis) e in
+          let f = refuse-fine (not (eqb (length (life .found)) (recordWords (placesFor (length stakes))))) refusal.BadRecord (startVerdict stakes own genesis) e in
           (f .1, h .start .words ∙ ap (λ (v : Verdict). startLeft v (life .found) stakes own genesis) e)
       go (Refused r) e =
           let q : start.Started ≡ start.Refused r = h .start .answered ∙ ap startAnswer e in

@@ -12,6 +12,7 @@ use Rattle.rulebook.specs.declared.Refusal.{Refusal}
 use Rattle.rulebook.specs.declared.Refusal.the-variants as refusal
 use Rattle.rulebook.specs.declared.Verdict.{Verdict}
 use Rattle.rulebook.specs.declared.Verdict.the-variants.{Fine}
+use Rattle.rulebook.specs.Weights.{placesFor}
 use Rattle.rulebook.specs.Ledger.{Ledger, fresh, cellAt}
 use Rattle.rulebook.specs.Inputs.{refuseIf, startVerdict}
 use Rattle.rulebook.specs.WellFormed.{outboxWords}
@@ -69,6 +70,10 @@ inputs-fed ws (i ∷ is) =
 
 -- ---- a life
 
+-- Words of zeros, as many as so many stakes ask for.
+abbrev pub blankFor : List ℕ → List ℕ
+blankFor stakes = zeros (recordWords (placesFor (length stakes)))
+
 passes : (b : Bool) (r : Refusal) (v : Verdict) → b ≡ true → refuseIf (not b) r v ≡ v
 unfolding refuseIf
 passes b r v e = rw e refl
@@ -76,20 +81,20 @@ passes b r v e = rw e refl
 module _ (stakes : List ℕ) (own genesis : ℕ) (is : List Input) where
   -- From words of zeros.
   abbrev lifeFor : Life
-  lifeFor = record { found = zeros recordWords; words = wordsOf (fresh stakes own genesis); calls = callsFor (wordsOf (fresh stakes own genesis)) is }
+  lifeFor = record { found = blankFor stakes; words = wordsOf (fresh stakes own genesis); calls = callsFor (wordsOf (fresh stakes own genesis)) is }
 
-  pub judged : startVerdict stakes own genesis ≡ Fine → startJudged (zeros recordWords) stakes own genesis ≡ Fine
+  pub judged : startVerdict stakes own genesis ≡ Fine → startJudged (blankFor stakes) stakes own genesis ≡ Fine
   unfolding startJudged
   judged e =
-      passes (eqb (length (zeros recordWords)) recordWords) refusal.BadRecord (startVerdict stakes own genesis)
-      (eq-eqb (length (zeros recordWords)) recordWords (zeros-long recordWords))
+      passes (eqb (length (blankFor stakes)) (recordWords (placesFor (length stakes)))) refusal.BadRecord (startVerdict stakes own genesis)
+      (eq-eqb (length (blankFor stakes)) (recordWords (placesFor (length stakes))) (zeros-long (recordWords (placesFor (length stakes)))))
       ∙ e
 
   life-lived : startVerdict stakes own genesis ≡ Fine → Lived stakes own genesis lifeFor
   unfolding startAnswer startLeft
   life-lived e =
       record {
-        start = record { answered = sym (ap startAnswer (judged e)); words = sym (ap (λ (v : Verdict). startLeft v (zeros recordWords) stakes own genesis) (judged e)) };
+        start = record { answered = sym (ap startAnswer (judged e)); words = sym (ap (λ (v : Verdict). startLeft v (blankFor stakes) stakes own genesis) (judged e)) };
         steps = calls-meet (wordsOf (fresh stakes own genesis)) is;
       }
 

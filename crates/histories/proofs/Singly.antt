@@ -6,7 +6,6 @@ use Prim.Native.Nat.{ℕ, _%_}
 use native.Mathlib.Omega.{arith}
 use lib.ListN.{length}
 use lib.Dec.{eqb, leb}
-use borrow.Author.Tests.{eq-eqb}
 use Rattle.rulebook.specs.declared.Input.the-variants as input
 use Rattle.rulebook.specs.declared.Refusal.{Refusal}
 use Rattle.rulebook.specs.declared.Refusal.the-variants as refusal
@@ -21,7 +20,7 @@ use Rattle.rulebook.specs.WellFormed.{wellFormed, outboxWords}
 use Rattle.rulebook.proofs.ToolLaws.{given-on, given-off, given-keeps, by-test, both-and}
 use Rattle.settling.specs.Facts.{Sound}
 use Rattle.settling.proofs.Soundness.{feed-sound}
-use Rattle.record.specs.Layout.{recordWords, ledgerOf}
+use Rattle.record.specs.Layout.{isLong, ledgerOf}
 use Rattle.record.specs.Spelling.{wordsOf}
 use Rattle.record.proofs.Spelled.{words-ledger}
 use Rattle.soundness.specs.Sound.{soundWords}
@@ -78,11 +77,11 @@ served-as : (ws out votes places : List ℕ) (n : ℕ) (ws' left answers : List 
     → (soundWords ws ≡ true) × (trayLeaves ws out votes places ≡ asServed (trayServed (serve (ledgerOf ws) (votesIn votes))) out places)
 unfolding trayLeaves soundWords
 served-as ws out votes places n ws' left answers h =
-    by-test (eqb (length ws) recordWords)
+    by-test (isLong ws)
     (λ t.
     let e : trayLeaves ws out votes places ≡ asServed (tray (ledgerOf ws) (length out) (length places) votes) out places = given-on _ _ _ t in
     let d = done-served (ledgerOf ws) (length out) (length places) votes n (ap (λ (x : trays.Leaves). x .answer) (sym e) ∙ sym (h .answered)) in
-    (both-and (eqb (length ws) recordWords) (wellFormed (ledgerOf ws)) t (d .0), e ∙ ap (λ (x : Tray). asServed x out places) (d .1)))
+    (both-and (isLong ws) (wellFormed (ledgerOf ws)) t (d .0), e ∙ ap (λ (x : Tray). asServed x out places) (d .1)))
     (λ t.
     let e : trayLeaves ws out votes places ≡ trays.asFound refusal.BadRecord ws out places = given-off _ _ _ t in
     let q : Done n ≡ Refused refusal.BadRecord = h .answered ∙ ap (λ (x : trays.Leaves). x .answer) e in

@@ -21,7 +21,7 @@ use Rattle.rulebook.specs.Ledger.{Ledger, fresh, cellAt}
 use Rattle.rulebook.specs.Inputs.{startVerdict}
 use Rattle.rulebook.specs.WellFormed.{outboxWords}
 use Rattle.rulebook.proofs.ToolLaws.{given-on}
-use Rattle.record.specs.Layout.{recordWords, ledgerOf}
+use Rattle.record.specs.Layout.{ledgerOf}
 use Rattle.record.specs.Spelling.{wordsOf}
 use Rattle.soundness.specs.Starting.{startAnswer, startLeft}
 use Rattle.node.specs.Stepping.{stepLeaves}
@@ -29,7 +29,7 @@ use Rattle.safety.specs.Ballots.{has, recordFor}
 use Rattle.safety.specs.Ring.{afterAll, madeIn}
 use Rattle.histories.specs.Calls.{fedBy, inputsOf}
 use Rattle.histories.proofs.Lives.{lived}
-use Rattle.histories.proofs.Meeting.{zeros, room, judged}
+use Rattle.histories.proofs.Meeting.{zeros, blankFor, room, judged}
 use Rattle.answers.specs.Face.{Beside}
 use Rattle.hosts.specs.Calls.{Asked, qr-vote, qr-block, qr-timeout, qr-look, asks, inputFor, HostCall, HostCalls, noMore, called, inputsFed, HostLife, HostLived, wordsLeft, toldOut}
 use Rattle.hosts.specs.Ring.{HostRingMet}
@@ -105,7 +105,7 @@ inputs-fed ws (i ∷ is) =
 module _ (stakes : List ℕ) (own genesis : ℕ) (is : List Input) where
   -- From words of zeros.
   abbrev lifeFor : HostLife
-  lifeFor = record { found = zeros recordWords; words = wordsOf (fresh stakes own genesis); calls = callsFor (wordsOf (fresh stakes own genesis)) is }
+  lifeFor = record { found = blankFor stakes; words = wordsOf (fresh stakes own genesis); calls = callsFor (wordsOf (fresh stakes own genesis)) is }
 
   life-lived : startVerdict stakes own genesis ≡ Fine → HostLived stakes own genesis lifeFor
   unfolding startAnswer startLeft startPanel
@@ -114,7 +114,7 @@ module _ (stakes : List ℕ) (own genesis : ℕ) (is : List Input) where
       record {
         start = record {
           numbered = sym (ap (λ (v : Verdict). startPanel (startAnswer v) .number) j);
-          words = sym (ap (λ (v : Verdict). startLeft v (zeros recordWords) stakes own genesis) j);
+          words = sym (ap (λ (v : Verdict). startLeft v (blankFor stakes) stakes own genesis) j);
         };
         steps = calls-meet (wordsOf (fresh stakes own genesis)) is;
       }

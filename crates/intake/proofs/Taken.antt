@@ -11,14 +11,15 @@ use Rattle.rulebook.specs.declared.Vote.{Vote}
 use Rattle.rulebook.specs.declared.Input.{Input}
 use Rattle.rulebook.specs.declared.Input.the-variants as input
 use Rattle.rulebook.specs.declared.Verdict.the-variants.{Fine}
-use Rattle.rulebook.specs.Weights.{mostNodes, lastSlot}
+use Rattle.rulebook.specs.Weights.{lastSlot}
 use Rattle.rulebook.specs.Ledger.{Ledger, noInitial, ownCell, putKept, putTimedOut}
 use Rattle.rulebook.specs.Votes.{storeVote}
 use Rattle.rulebook.specs.Rules.{State, stateOf, castSkips}
 use Rattle.rulebook.specs.Run.{mostRecords}
 use Rattle.rulebook.specs.Inputs.{verdict, voteVerdict, blockVerdict, timeoutVerdict, timeOut, intake}
 use Rattle.rulebook.proofs.ToolLaws.{given-on, given-off}
-use Rattle.record.specs.Layout.{recordWords, InSlot, Placed, ledgerOf}
+use Rattle.record.specs.Layout.{InSlot, Placed, ledgerOf}
+use Rattle.record.proofs.Places.{long-same}
 use Rattle.record.proofs.Reading.{ledger-shaped}
 use Rattle.settling.specs.Spare.{spare}
 use Rattle.settling.specs.Steps as settle
@@ -55,9 +56,9 @@ module _ {ws out : List ℕ} (ws' : List ℕ) {m : Ledger} (v : Live ws out 0) (
   pub live-stored : Live ws' out 0
   live-stored =
       record {
-        long = long ∙ v .long;
+        long = long-same ws ws' long (v .long);
         room = v .room;
-        own = omega (arith, same-as .own, v .own);
+        own = omega (arith, same-as .own, ap length (same-as .stakes), v .own);
         budget = omega (arith, spare-most (ledgerOf ws'));
       }
 

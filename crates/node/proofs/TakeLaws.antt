@@ -3,7 +3,7 @@ use mathlib.Core.List.{List}
 use Prim.Native.Nat.{ℕ}
 use native.Mathlib.Omega.{arith}
 use Rattle.rulebook.specs.declared.Input.{Input}
-use Rattle.soundness.proofs.Laws.{sound-long, sound-head}
+use Rattle.soundness.proofs.Laws.{sound-long, sound-head, sound-placed}
 use Rattle.intake.specs.Taking as intake
 use Rattle.node.specs.Stepping.{Taking}
 
@@ -14,7 +14,7 @@ taking-in {ws = ws} k =
     record {
       long = sound-long ws (k .sound);
       room = k .room;
-      few = h .few;
-      own = omega (arith, h .mine, h .few);
+      few = sound-placed ws (k .sound);
+      own = omega (arith, h .mine, sound-placed ws (k .sound));
       fine = k .fine;
     }

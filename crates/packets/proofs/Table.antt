@@ -9,9 +9,10 @@ use lib.Seq.{getD-take, length-take-le}
 use lib.Dec.{eqb, leb}
 use borrow.Author.Tests.{leb-true, eqb-true}
 use Rattle.rulebook.specs.Tools.{given, allTo}
-use Rattle.rulebook.specs.Weights.{mostNodes, mostStake, lastSlot, stakeIn, totalTo, stakesFit}
-use Rattle.rulebook.specs.Ledger.{Ledger}
+use Rattle.rulebook.specs.Weights.{mostNodes, placesFor, mostStake, lastSlot, stakeIn, totalTo, stakesFit}
+use Rattle.rulebook.specs.Ledger.{Ledger, places}
 use Rattle.rulebook.specs.WellFormed.{headFits, rowBlank, rowFits, wellFormed}
+use Rattle.rulebook.proofs.PlaceLaws.{nodes-placed}
 use Rattle.rulebook.proofs.ToolLaws.{and-both, all-same, sum-same}
 use Rattle.packets.specs.Promises.{TableOfRecord}
 
@@ -39,20 +40,21 @@ unfolding stakesFit
 fit-few xs n e =
     leb-true n mostNodes (and-both (leb 1 n) (leb n mostNodes) (and-both (leb 1 n && leb n mostNodes) _ e .0) .1)
 
-head-true : (l : Ledger) → wellFormed l ≡ true → (stakesFit (l .stakes) (l .count) ≡ true) × (totalTo (l .stakes) (l .count) ≡ l .total)
+head-true : (l : Ledger) → wellFormed l ≡ true → (stakesFit (l .stakes) (l .count) ≡ true) × (totalTo (l .stakes) (l .count) ≡ l .total) × (places l ≡ placesFor (l .count))
 unfolding wellFormed headFits
 head-true l e =
-    let h = and-both (stakesFit (l .stakes) (l .count) && eqb (totalTo (l .stakes) (l .count)) (l .total)) _
-    (given-true (headFits l) (λ _. given (rowBlank l) false (λ _. allTo lastSlot (λ i. rowFits l (suc i)))) e) .0 in
+    let g = and-both (eqb (places l) (placesFor (l .count))) _
+    (given-true (headFits l) (λ _. given (rowBlank l) false (λ _. allTo lastSlot (λ i. rowFits l (suc i)))) e) in
+    let h = and-both (stakesFit (l .stakes) (l .count) && eqb (totalTo (l .stakes) (l .count)) (l .total)) _ (g .1) .0 in
     let p = and-both (stakesFit (l .stakes) (l .count)) (eqb (totalTo (l .stakes) (l .count)) (l .total)) h in
-    (p .0, eqb-true (totalTo (l .stakes) (l .count)) (l .total) (p .1))
+    (p .0, eqb-true (totalTo (l .stakes) (l .count)) (l .total) (p .1), eqb-true (places l) (placesFor (l .count)) (g .0))
 
 pub table-of-record : TableOfRecord
-table-of-record l shape e =
+table-of-record l e =
     let h = head-true l e in
     let n = l .count in
     let ws = take n (l .stakes) in
-    let few : n ≤ length (l .stakes) = let a = fit-few (l .stakes) n (h .0) in let b = shape .stakes in omega arith in
+    let few : n ≤ length (l .stakes) = omega (arith, nodes-placed n (fit-few (l .stakes) n (h .0)), h .2) in
     let len : length ws ≡ n = length-take-le n (l .stakes) few in
     let same : (i : ℕ) → i < n → stakeIn (l .stakes) i ≡ stakeIn ws i = λ i k. sym (getD-take n (l .stakes) i 0 k) in
     record {

@@ -18,7 +18,7 @@ use Rattle.rulebook.specs.PaperNumbers.{certificateKind}
 use Rattle.rulebook.specs.Ledger.{Ledger, cellAt}
 use Rattle.rulebook.specs.Pool.{counts, signersOf, weigh, held}
 use Rattle.rulebook.specs.Packets.{certificateAt, bit, countOf}
-use Rattle.rulebook.specs.WellFormed.{Shaped, wellFormed}
+use Rattle.rulebook.specs.WellFormed.{wellFormed}
 use Rattle.rulebook.specs.Checker.{checkCertificate, checkProof}
 use Rattle.rulebook.specs.Writers.{certificateFor, writeCertificate, writeProof}
 
@@ -86,7 +86,7 @@ pub record TableIs (l : Ledger) (stakes : List ℕ) : Type 0 where
 
 -- Every record that is not answered 17 has such a table: the first of its stakes.
 abbrev pub TableOfRecord : Type 0
-TableOfRecord = (l : Ledger) → Shaped l → wellFormed l ≡ true → TableIs l (take (l .count) (l .stakes))
+TableOfRecord = (l : Ledger) → wellFormed l ≡ true → TableIs l (take (l .count) (l .stakes))
 
 -- The true answer: the nodes whose stored votes count, and their weight in the pool.
 unfoldable pub acceptedFor : Ledger → CertificateKind → ℕ → ℕ → Accepted

@@ -1,4 +1,6 @@
 // What each command of a script asks of the face, and how it is answered.
+ghost use Prim.Native.Nat.{_≤_};
+ghost use lib.ListN.{length};
 ghost use Rattle.commands.specs.Commands.{Heard};
 use crate::answers::Turn;
 use crate::answers::answered;
@@ -19,6 +21,7 @@ use quointrowel::qr_check_certificate;
 use quointrowel::qr_check_proof;
 use quointrowel::qr_look;
 use quointrowel::qr_read_vote;
+use quointrowel::qr_record_words;
 use quointrowel::qr_start;
 use quointrowel::qr_timeout;
 use quointrowel::qr_tray;
@@ -35,6 +38,29 @@ fn size(x: u64) -> usize {
     x as usize
 }
 
+// How many of the words are the node's, by its count.
+fn node_words(rec: &[u64]) -> usize
+    ensures { λ r. ⌜ r ≤ length (now (rec .entry)) ⌝ }
+{
+    if rec.len() == 0 {
+        return 0;
+    }
+    let words = qr_record_words(size(rec[0]));
+    if rec.len() < words {
+        return 0;
+    }
+    words
+}
+
+// Starts a node on as many of the words as its stakes ask for.
+fn start_node(rec: &mut [u64], stakes: &[u64], own: usize, genesis: u64) -> u64 {
+    let words = qr_record_words(stakes.len());
+    if words < rec.len() {
+        return qr_start(&mut rec[0..words], stakes, own, genesis);
+    }
+    qr_start(rec, stakes, own, genesis)
+}
+
 // Starts a node from own number, genesis and stakes, as many of them as there is room for.
 fn start_with(rec: &mut [u64], args: &[u64], many: usize) -> u64 {
     if args.len() < 2 {
@@ -46,9 +72,9 @@ fn start_with(rec: &mut [u64], args: &[u64], many: usize) -> u64 {
     let own = size(args[0]);
     let genesis = args[1];
     if many < args.len() {
-        return qr_start(rec, &args[2..many], own, genesis);
+        return start_node(rec, &args[2..many], own, genesis);
     }
-    qr_start(rec, &args[2..], own, genesis)
+    start_node(rec, &args[2..], own, genesis)
 }
 
 // start OWN GENESIS STAKE..; 65 stakes are kept, which are too many already.
@@ -63,8 +89,9 @@ fn vote(page: &mut [u8], line: &[u8], at: usize, rec: &mut [u64], outbox: &mut [
     let mut args = [0u64; 4];
     read_numbers(line, at, &mut args);
     let mut made = 0;
+    let words = node_words(rec);
     let n = qr_vote(
-        rec,
+        &mut rec[0..words],
         outbox,
         &mut made,
         args[0],
@@ -80,8 +107,9 @@ fn block(page: &mut [u8], line: &[u8], at: usize, rec: &mut [u64], outbox: &mut 
     let mut args = [0u64; 4];
     read_numbers(line, at, &mut args);
     let mut made = 0;
+    let words = node_words(rec);
     let n = qr_block(
-        rec,
+        &mut rec[0..words],
         outbox,
         &mut made,
         size(args[0]),
@@ -97,14 +125,16 @@ fn timeout(page: &mut [u8], line: &[u8], at: usize, rec: &mut [u64], outbox: &mu
     let mut args = [0u64; 1];
     read_numbers(line, at, &mut args);
     let mut made = 0;
-    let n = qr_timeout(rec, outbox, &mut made, size(args[0]));
+    let words = node_words(rec);
+    let n = qr_timeout(&mut rec[0..words], outbox, &mut made, size(args[0]));
     records(page, n, made, outbox)
 }
 
 // look
 fn look(page: &mut [u8], rec: &mut [u64], outbox: &mut [u64]) -> bool {
     let mut made = 0;
-    let n = qr_look(rec, outbox, &mut made);
+    let words = node_words(rec);
+    let n = qr_look(&mut rec[0..words], outbox, &mut made);
     records(page, n, made, outbox)
 }
 
@@ -134,7 +164,8 @@ fn tray_with(
 fn tray_votes(page: &mut [u8], votes: &[u64], rec: &mut [u64], outbox: &mut [u64]) -> bool {
     let mut answers = [0u64; 512];
     let mut made = 0;
-    let n = qr_tray(rec, outbox, &mut made, votes, &mut answers);
+    let words = node_words(rec);
+    let n = qr_tray(&mut rec[0..words], outbox, &mut made, votes, &mut answers);
     let many = votes.len() / 4;
     if many < answers.len() {
         served(page, n, made, outbox, &answers[0..many])
@@ -269,15 +300,17 @@ fn explain(page: &mut [u8], line: &[u8], at: usize) -> bool {
 
 // Answers a command that tells the node nothing: the record is lent to be read, and no outbox is lent.
 fn ask(page: &mut [u8], c: Command, line: &[u8], at: usize, rec: &[u64]) -> Turn {
+    let words = node_words(rec);
+    let node = &rec[0..words];
     match c {
-        Command::Cert => answered(cert(page, line, at, rec)),
-        Command::Proof => answered(proof(page, line, at, rec)),
+        Command::Cert => answered(cert(page, line, at, node)),
+        Command::Proof => answered(proof(page, line, at, node)),
         Command::Check => answered(check(page, line, at, false)),
         Command::CheckProof => answered(check(page, line, at, true)),
         Command::Pack => answered(pack(page, line, at)),
         Command::Unpack => answered(unpack(page, line, at)),
-        Command::Board => answered(view(page, line, at, rec)),
-        Command::Votes => answered(board::votes(page, rec)),
+        Command::Board => answered(view(page, line, at, node)),
+        Command::Votes => answered(board::votes(page, node)),
         Command::Why => answered(explain(page, line, at)),
         Command::Help => answered(help(page)),
         Command::Quit => Turn::Quit,

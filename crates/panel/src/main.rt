@@ -18,6 +18,7 @@ const LONGEST: usize = 4096;
 // Every answer has room in a page: at most 128 records of 63 bytes with the numbers of 512 votes, three bytes each, or 64 bytes in hex.
 const PAGE_ROOM: usize = 10240;
 
+// The words of the largest record, that of 64 nodes.
 const RECORD_WORDS: usize = 7773;
 
 const OUTBOX_WORDS: usize = 384;

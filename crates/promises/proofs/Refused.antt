@@ -6,7 +6,6 @@ use Prim.Native.Nat.{ℕ, _*_, _%_}
 use native.Mathlib.Omega.{arith}
 use lib.ListN.{length, drop}
 use lib.Dec.{eqb, leb}
-use borrow.Author.Tests.{eqb-true}
 use Rattle.rulebook.specs.declared.CertificateKind.{CertificateKind}
 use Rattle.rulebook.specs.declared.CheckAnswer.{CheckAnswer}
 use Rattle.rulebook.specs.declared.Input.{Input}
@@ -27,8 +26,9 @@ use Rattle.rulebook.specs.Writers.{Wrote, wroteOn, writeCertificate, writeProof
 use Rattle.rulebook.specs.Packets.{certificateBytes}
 use Rattle.rulebook.specs.Messages.{messageBytes, messageVerdict, writeVote}
 use Rattle.rulebook.proofs.ToolLaws.{given-on, given-off, given-keeps, by-test}
-use Rattle.record.specs.Layout.{recordWords, ledgerOf}
+use Rattle.record.specs.Layout.{isLong, ledgerOf}
 use Rattle.record.specs.Spelling.{wordsOf}
+use Rattle.record.proofs.Places.{long-true}
 use Rattle.record.proofs.Spelled.{words-ledger}
 use Rattle.soundness.specs.Sound.{soundWords}
 use Rattle.soundness.specs.Starting.{startJudged, startAnswer, startLeft}
@@ -81,11 +81,11 @@ nothing-told rs out e = rw e
 pub step-refused : StepRefused
 unfolding stepLeaves
 step-refused ws out i r ws' left h =
-    by-test (eqb (length ws) recordWords)
+    by-test (isLong ws)
     (λ t.
     let q : stepLeaves ws out i ≡ asFed (step (ledgerOf ws) (length out) i) out = given-on _ _ _ t in
     let k = step-kept (ledgerOf ws) (length out) i r (ap (λ (x : Leaves). x .answer) (sym q) ∙ sym (h .answered)) in (
-      h .words ∙ ap (λ (x : Leaves). x .words) q ∙ ap wordsOf (k .0) ∙ words-ledger ws (eqb-true (length ws) recordWords t),
+      h .words ∙ ap (λ (x : Leaves). x .words) q ∙ ap wordsOf (k .0) ∙ words-ledger ws (long-true ws t),
       h .outbox ∙ ap (λ (x : Leaves). x .outbox) q ∙ nothing-told (step (ledgerOf ws) (length out) i .records) out (k .1),
     ))
     (λ t.
@@ -116,12 +116,12 @@ tray-kept l room places votes =
 pub tray-refused : TrayRefused
 unfolding trayLeaves trayRefused serve spelled over
 tray-refused ws out votes places r ws' left answers h =
-    by-test (eqb (length ws) recordWords)
+    by-test (isLong ws)
     (λ t.
     let q : trayLeaves ws out votes places ≡ asServed (tray (ledgerOf ws) (length out) (length places) votes) out places = given-on _ _ _ t in
     let k = tray-kept (ledgerOf ws) (length out) (length places) votes r (ap (λ (x : trays.Leaves). x .answer) (sym q) ∙ sym (h .answered)) in
     let f : trayLeaves ws out votes places ≡ asServed (trayRefused (ledgerOf ws) r) out places = q ∙ ap (λ (x : Tray). asServed x out places) k in (
-      h .words ∙ ap (λ (x : trays.Leaves). x .words) f ∙ words-ledger ws (eqb-true (length ws) recordWords t),
+      h .words ∙ ap (λ (x : trays.Leaves). x .words) f ∙ words-ledger ws (long-true ws t),
       h .outbox ∙ ap (λ (x : trays.Leaves). x .outbox) f,
       h .answers ∙ ap (λ (x : trays.Leaves). x .answers) f,
     ))

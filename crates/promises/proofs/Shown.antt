@@ -5,7 +5,7 @@ use mathlib.Core.List.{List, [], _∷_}
 use Prim.Native.Nat.{ℕ, _%_}
 use lib.ListN.{length, length-reverse}
 use lib.Dec.{eqb, leb, ltb}
-use borrow.Author.Tests.{eq-eqb, ne-eqb, le-ltb, lt-leb, ltb-true, ltb-false}
+use borrow.Author.Tests.{ne-eqb, le-ltb, lt-leb, ltb-true, ltb-false}
 use Rattle.rulebook.specs.declared.Input.{Input}
 use Rattle.rulebook.specs.declared.Input.the-variants as input
 use Rattle.rulebook.specs.declared.Place.{Place}
@@ -26,7 +26,8 @@ use Rattle.rulebook.specs.Packets.{certificateBytes}
 use Rattle.rulebook.specs.Writers.{Wrote, certificateFor, wroteOn, writeCertificate, certificateVerdict, writeProof, proofVerdict, proofBytes}
 use Rattle.rulebook.proofs.ToolLaws.{given-on, given-off, by-test}
 use Rattle.settling.proofs.FeedLaws.{step-malformed, step-short, step-fed}
-use Rattle.record.specs.Layout.{recordWords, ledgerOf}
+use Rattle.record.specs.Layout.{isLong, ledgerOf}
+use Rattle.record.proofs.Places.{true-long}
 use Rattle.soundness.specs.Sound.{soundWords}
 use Rattle.soundness.specs.Starting.{startJudged, startAnswer}
 use Rattle.soundness.proofs.Laws.{sound-long, sound-formed}
@@ -72,7 +73,7 @@ module _ (ws out : List ℕ) (i : Input) where
   unsound-answer : soundWords ws ≡ false → stepLeaves ws out i .answer ≡ refusedWith (ledgerOf ws) refusal.BadRecord .answer
   unfolding stepLeaves soundWords refusedWith
   unsound-answer e =
-      by-test (eqb (length ws) recordWords)
+      by-test (isLong ws)
       (λ t.
       let f : wellFormed (ledgerOf ws) ≡ false = rw t at e in
       ap (λ (x : Leaves). x .answer) (given-on _ _ _ t) ∙ ap (λ (x : Fed). x .answer) (step-malformed (ledgerOf ws) i (length out) f))
@@ -80,7 +81,7 @@ module _ (ws out : List ℕ) (i : Input) where
 
   sound-answer : soundWords ws ≡ true → stepLeaves ws out i .answer ≡ step (ledgerOf ws) (length out) i .answer
   unfolding stepLeaves
-  sound-answer e = ap (λ (x : Leaves). x .answer) (given-on _ _ _ (eq-eqb (length ws) recordWords (sound-long ws e)))
+  sound-answer e = ap (λ (x : Leaves). x .answer) (given-on _ _ _ (true-long ws (sound-long ws e)))
 
   roomless : ltb (length out) outboxWords ≡ true → soundWords ws ≡ true
       → stepPanel (step (ledgerOf ws) (length out) i .answer) ≡ shown (refuseIf (ltb (length out) outboxWords) refusal.NoRoom (verdict (ledgerOf ws) i)) (length (feed (ledgerOf ws) i .records) ∷ [])
@@ -172,7 +173,7 @@ unfolding trayLeaves trayJudged soundFirst soundWords refuseIf stepPanel shown b
 tray-leaves-shown ws out votes places =
     let values : List ℕ = length (serve (ledgerOf ws) (votesIn votes) .records) ∷ [] in
     let first : Bool → Panel = λ b. shown (refuseIf (not (b && wellFormed (ledgerOf ws))) refusal.BadRecord (roomThenPart out votes places)) values in
-    by-test (eqb (length ws) recordWords)
+    by-test (isLong ws)
     (λ t. ap (λ (x : trays.Leaves). stepPanel (x .answer)) (given-on _ _ _ t) ∙ tray-tested (ledgerOf ws) out votes places ∙ ap first (sym t))
     (λ t. ap (λ (x : trays.Leaves). stepPanel (x .answer)) (given-off _ _ _ t) ∙ ap first (sym t))
 

@@ -2,6 +2,7 @@
 // panel and puts the values beside it into lent places; the definitions of the paper's numbers say which.
 ghost use mathlib.Core.Path.{_≡_};
 ghost use lib.ListN.{length};
+ghost use Rattle.rulebook.specs.Weights.{placesFor};
 ghost use Rattle.rulebook.specs.PaperNumbers.{certificateKind};
 ghost use Rattle.rulebook.specs.Checker.{checkCertificate, checkProof};
 ghost use Rattle.rulebook.specs.Messages.{voteOf, readVote, writeVote};
@@ -39,12 +40,12 @@ use trays::tray;
 use writers::write_certificate;
 use writers::write_proof;
 
-// How many words a record has.
+// How many words the record of a node has, by the number of stakes.
 #[no_mangle]
-pub extern "C" fn qr_record_words() -> usize
-    ensures { λ r. ⌜ r ≡ recordWords ⌝ }
+pub extern "C" fn qr_record_words(count: usize) -> usize
+    ensures { λ r. ⌜ r ≡ recordWords (placesFor count) ⌝ }
 {
-    record_words()
+    record_words(count)
 }
 
 // How many words an outbox has to have.

@@ -28,7 +28,6 @@ use Rattle.writers.proofs.Laid.{certificate-unsound, proof-unsound}
 use Rattle.packets.specs.Promises.{acceptedFor, proofKind}
 use Rattle.packets.proofs.Back.{certificate-back as packet-back, proof-back as packets-back}
 use Rattle.packets.proofs.Table.{table-of-record}
-use Rattle.record.proofs.Reading.{ledger-shaped}
 use Rattle.readback.specs.ReadBack.{readAs, ReadsBack}
 
 -- ---- a writer's refusal, and the bytes that it wrote
@@ -96,7 +95,7 @@ module _ (ws : List ℕ) (room : ℕ) (k : CertificateKind) (s b n : ℕ) (e : c
   certificate-accepted h =
       ap (λ (w : Wrote). checkCertificate (take (ledgerOf ws .count) (ledgerOf ws .stakes)) (w .bytes)) on-is
       ∙ packet-back (ledgerOf ws) (take (ledgerOf ws .count) (ledgerOf ws .stakes))
-      (table-of-record (ledgerOf ws) (ledger-shaped ws) (sound-formed ws certificate-sound)) room k s b n h answer-is .1
+      (table-of-record (ledgerOf ws) (sound-formed ws certificate-sound)) room k s b n h answer-is .1
 
 -- It ends inside the buffer.
 pub certificate-inside : (ws buffer : List ℕ) (k : CertificateKind) (s b n : ℕ) {after : List ℕ} {a : WriteAnswer}
@@ -137,7 +136,7 @@ module _ (ws : List ℕ) (room s b n : ℕ) (e : proofOn ws room s b .answer ≡
   proof-accepted h =
       ap (λ (w : Wrote). checkProof (take (ledgerOf ws .count) (ledgerOf ws .stakes)) (w .bytes)) proof-on-is
       ∙ packets-back (ledgerOf ws) (take (ledgerOf ws .count) (ledgerOf ws .stakes))
-      (table-of-record (ledgerOf ws) (ledger-shaped ws) (sound-formed ws proof-sound)) room s b n h proof-answer-is .1
+      (table-of-record (ledgerOf ws) (sound-formed ws proof-sound)) room s b n h proof-answer-is .1
 
 -- It ends inside the buffer.
 pub proof-inside : (ws buffer : List ℕ) (s b n : ℕ) {after : List ℕ} {a : WriteAnswer}

@@ -5,69 +5,79 @@ use native.Mathlib.Omega.{arith}
 use Prim.Native.Nat.{ℕ, suc, _+_, _*_, _≤_, _<_}
 use lib.ListN.{length, getD}
 use Rattle.rulebook.specs.declared.Cell.{Cell}
-use Rattle.rulebook.specs.Weights.{mostNodes, lastSlot, windows, windowOf, stakeIn}
-use Rattle.rulebook.specs.Ledger.{Ledger, Row, noRow, noCell, rowAt, cellAt}
+use Rattle.rulebook.specs.Weights.{lastSlot, windows, windowOf, stakeIn}
+use Rattle.rulebook.specs.Ledger.{Ledger, Row, noRow, noCell, places, rowAt, cellAt}
 use Rattle.rulebook.specs.WellFormed.{Shaped}
-use Rattle.record.specs.Layout.{wordAt, armedStart, stakeStart, rowStart, cellStart, recordWords, tabulate, cellFrom, blockFrom, cellOf, rowOf, ledgerOf, Placed, InSlot, InWindow}
+use Rattle.record.specs.Layout.{wordAt, armedStart, stakeStart, rowStart, cellStart, tabulate, placesIn, cellFrom, blockFrom, cellOf, rowOf, ledgerAt, ledgerOf, Placed, InSlot, InWindow}
 use Rattle.record.proofs.Tables.{length-tabulate, getD-tabulate}
+use Rattle.record.proofs.Places.{node-placed}
 
-module _ (ws : List ℕ) where
-  pub count-word : ledgerOf ws .count ≡ wordAt ws 0
-  unfolding ledgerOf
+module _ (p : ℕ) (ws : List ℕ) where
+  pub count-word : ledgerAt p ws .count ≡ wordAt ws 0
+  unfolding ledgerAt
   count-word = refl
 
-  pub total-word : ledgerOf ws .total ≡ wordAt ws 1
-  unfolding ledgerOf
+  pub total-word : ledgerAt p ws .total ≡ wordAt ws 1
+  unfolding ledgerAt
   total-word = refl
 
-  pub own-word : ledgerOf ws .own ≡ wordAt ws 2
-  unfolding ledgerOf
+  pub own-word : ledgerAt p ws .own ≡ wordAt ws 2
+  unfolding ledgerAt
   own-word = refl
 
-  pub genesis-word : ledgerOf ws .genesis ≡ wordAt ws 3
-  unfolding ledgerOf
+  pub genesis-word : ledgerAt p ws .genesis ≡ wordAt ws 3
+  unfolding ledgerAt
   genesis-word = refl
 
-  pub armed-word : (w : ℕ) → w < windows → getD (ledgerOf ws .armed) w 0 ≡ wordAt ws (armedStart + w)
-  unfolding ledgerOf
+  pub armed-word : (w : ℕ) → w < windows → getD (ledgerAt p ws .armed) w 0 ≡ wordAt ws (armedStart + w)
+  unfolding ledgerAt
   armed-word w h = getD-tabulate windows w (λ k. wordAt ws (armedStart + k)) 0 h
 
-  pub stake-word : (n : ℕ) → n < mostNodes → stakeIn (ledgerOf ws .stakes) n ≡ wordAt ws (stakeStart + n)
-  unfolding ledgerOf
-  stake-word n h = getD-tabulate mostNodes n (λ k. wordAt ws (stakeStart + k)) 0 h
+  pub stake-word : (n : ℕ) → n < p → stakeIn (ledgerAt p ws .stakes) n ≡ wordAt ws (stakeStart + n)
+  unfolding ledgerAt
+  stake-word n h = getD-tabulate p n (λ k. wordAt ws (stakeStart + k)) 0 h
 
-  pub row-words : (s : ℕ) → s < suc lastSlot → rowAt (ledgerOf ws) s ≡ rowOf ws s
-  unfolding ledgerOf
-  row-words s h = getD-tabulate (suc lastSlot) s (rowOf ws) noRow h
+  pub row-words : (s : ℕ) → s < suc lastSlot → rowAt (ledgerAt p ws) s ≡ rowOf p ws s
+  unfolding ledgerAt
+  row-words s h = getD-tabulate (suc lastSlot) s (rowOf p ws) noRow h
 
-  pub cell-words : (s n : ℕ) → s < suc lastSlot → n < mostNodes → cellAt (ledgerOf ws) s n ≡ cellOf ws s n
-  cell-words s n h k = ap (λ (r : Row). getD (r .cells) n noCell) (row-words s h) ∙ getD-tabulate mostNodes n (cellOf ws s) noCell k
+  pub cell-words : (s n : ℕ) → s < suc lastSlot → n < p → cellAt (ledgerAt p ws) s n ≡ cellOf p ws s n
+  cell-words s n h k = ap (λ (r : Row). getD (r .cells) n noCell) (row-words s h) ∙ getD-tabulate p n (cellOf p ws s) noCell k
 
-  -- A ledger read from words has a place for every slot, node and window.
-  pub ledger-shaped : Shaped (ledgerOf ws)
-  unfolding ledgerOf
-  ledger-shaped =
+  shaped : Shaped (places (ledgerAt p ws)) (ledgerAt p ws)
+  unfolding ledgerAt
+  shaped =
       record {
         armed = length-tabulate windows (λ w. wordAt ws (armedStart + w));
-        stakes = length-tabulate mostNodes (λ n. wordAt ws (stakeStart + n));
-        rows = length-tabulate (suc lastSlot) (rowOf ws);
-        cells = λ s h. ap (λ (r : Row). length (r .cells)) (getD-tabulate (suc lastSlot) s (rowOf ws) noRow h) ∙ length-tabulate mostNodes (cellOf ws s);
+        stakes = refl;
+        rows = length-tabulate (suc lastSlot) (rowOf p ws);
+        cells = λ s h.
+            ap (λ (r : Row). length (r .cells)) (getD-tabulate (suc lastSlot) s (rowOf p ws) noRow h)
+            ∙ length-tabulate p (cellOf p ws s)
+            ∙ sym (length-tabulate p (λ n. wordAt ws (stakeStart + n)));
       }
+
+-- A ledger read from words has a place for every slot, node and window.
+pub ledger-shaped : (ws : List ℕ) → Shaped (places (ledgerOf ws)) (ledgerOf ws)
+ledger-shaped ws = shaped (placesIn ws) ws
 
 -- ---- what code reads at a place that it computed
 
-pub cell-read : (ws : List ℕ) (s n i : ℕ) → Placed ws s n → i ≡ cellStart s n → cellFrom ws i ≡ cellAt (ledgerOf ws) s n
-cell-read ws s n i p e = ap (cellFrom ws) e ∙ sym (cell-words ws s n (p .slot) (p .node))
+pub cell-read : (ws : List ℕ) (s n i : ℕ) → Placed ws s n → i ≡ cellStart (placesIn ws) s n → cellFrom ws i ≡ cellAt (ledgerOf ws) s n
+cell-read ws s n i h e = ap (cellFrom ws) e ∙ sym (cell-words (placesIn ws) ws s n (h .slot) (node-placed ws n (h .node)))
 
-module _ (ws : List ℕ) (s i : ℕ) (p : InSlot ws s) (e : i ≡ rowStart s) where
+module _ (ws : List ℕ) (s i : ℕ) (h : InSlot ws s) (e : i ≡ rowStart (placesIn ws) s) where
+  here : rowOf (placesIn ws) ws s ≡ rowAt (ledgerOf ws) s
+  here = sym (row-words (placesIn ws) ws s (h .slot))
+
   pub kept-read : blockFrom ws i ≡ rowAt (ledgerOf ws) s .kept
-  kept-read = ap (blockFrom ws) e ∙ ap (λ (r : Row). r .kept) (sym (row-words ws s (p .slot)))
+  kept-read = ap (blockFrom ws) e ∙ ap (λ (r : Row). r .kept) here
 
   pub timed-out-read : wordAt ws (i + 3) ≡ rowAt (ledgerOf ws) s .timedOut
-  timed-out-read = ap (λ (k : ℕ). wordAt ws (k + 3)) e ∙ ap (λ (r : Row). r .timedOut) (sym (row-words ws s (p .slot)))
+  timed-out-read = ap (λ (k : ℕ). wordAt ws (k + 3)) e ∙ ap (λ (r : Row). r .timedOut) here
 
   pub final-read : wordAt ws (i + 4) ≡ rowAt (ledgerOf ws) s .final
-  final-read = ap (λ (k : ℕ). wordAt ws (k + 4)) e ∙ ap (λ (r : Row). r .final) (sym (row-words ws s (p .slot)))
+  final-read = ap (λ (k : ℕ). wordAt ws (k + 4)) e ∙ ap (λ (r : Row). r .final) here
 
 -- A slot's window is one of the four.
 pub window-small : (s : ℕ) → 1 ≤ s → s < suc lastSlot → windowOf s < windows
@@ -75,4 +85,4 @@ unfolding windowOf
 window-small s a b = omega arith
 
 pub armed-read : (ws : List ℕ) (s i : ℕ) → InWindow ws s → i ≡ armedStart + windowOf s → wordAt ws i ≡ getD (ledgerOf ws .armed) (windowOf s) 0
-armed-read ws s i p e = ap (wordAt ws) e ∙ sym (armed-word ws (windowOf s) (window-small s (p .later) (p .slot)))
+armed-read ws s i h e = ap (wordAt ws) e ∙ sym (armed-word (placesIn ws) ws (windowOf s) (window-small s (h .later) (h .slot)))

@@ -3,18 +3,19 @@ use mathlib.Core.Path.{_≡_, refl, sym, ap, _∙_}
 use mathlib.Core.List.{List, [], _∷_, _++_, map}
 use Prim.Native.Nat.{ℕ, zero, suc, _+_, _*_, _<_}
 use native.Mathlib.Omega.{arith}
-use native.Mathlib.Nat.{zero-add, suc-add, zero-mul, add-zero, not-suc-le-zero, le-of-suc-le-suc}
+use native.Mathlib.Nat.{zero-add, suc-add, zero-mul, add-zero, mul-comm, not-suc-le-zero, le-of-suc-le-suc}
 use lib.ListN.{length, getD, length-append, length-map, List·getD-append}
 use lib.Seq.{getD-append-add}
 use Rattle.rulebook.specs.declared.Cell.{Cell}
 use Rattle.rulebook.specs.declared.VoteKind.{VoteKind}
-use Rattle.rulebook.specs.Weights.{mostNodes, lastSlot, windows}
-use Rattle.rulebook.specs.Ledger.{Ledger, Row, noRow, noCell, rowAt, putRow}
+use Rattle.rulebook.specs.Weights.{lastSlot, windows}
+use Rattle.rulebook.specs.Ledger.{Ledger, Row, noRow, noCell, places, rowAt, putRow}
 use Rattle.rulebook.specs.Votes.{storeVote}
 use Rattle.rulebook.specs.WellFormed.{Shaped}
-use Rattle.record.specs.Layout.{wordAt, armedStart, stakeStart, headWords, cellWords, rowHead, rowWords, rowStart, cellStart, recordWords, tabulate, cellFrom, cellOf, rowOf, ledgerOf}
+use Rattle.record.specs.Layout.{wordAt, armedStart, stakeStart, headWords, cellWords, rowHead, rowWords, rowStart, cellStart, recordWords, placesIn, tabulate, cellFrom, cellOf, rowOf, ledgerAt, ledgerOf, Long}
 use Rattle.record.specs.Spelling.{joined, spellCell, spellHead, spellRow, wordsOf}
 use Rattle.record.proofs.Tables.{getD-tabulate, tabulate-same, tabulate-getD}
+use Rattle.record.proofs.Places.{places-back, sized-long, same-shape}
 use Rattle.record.proofs.Reading.{row-words}
 use Rattle.record.proofs.Replacing.{row-other}
 
@@ -56,92 +57,97 @@ tabulate-map g (suc n) f = λ i. g (f zero) ∷ tabulate-map g n (λ k. f (suc k
 
 -- ---- the spelling of the meaning
 
-module _ (ws : List ℕ) where
+module _ (p : ℕ) (ws : List ℕ) where
   cell-spelled : (at : ℕ) → spellCell (cellFrom ws at) ≡ tabulate cellWords (λ j. wordAt ws (at + j))
   unfolding tabulate
   cell-spelled at =
       let z : at ≡ at + 0 = omega arith in
       λ i. wordAt ws (z i) ∷ wordAt ws (at + 1) ∷ wordAt ws (at + 2) ∷ wordAt ws (at + 3) ∷ wordAt ws (at + 4) ∷ wordAt ws (at + 5) ∷ wordAt ws (at + 6) ∷ []
 
-  head-spelled : (s : ℕ) → spellHead (rowOf ws s) ≡ tabulate rowHead (λ j. wordAt ws (rowStart s + j))
+  head-spelled : (s : ℕ) → spellHead (rowOf p ws s) ≡ tabulate rowHead (λ j. wordAt ws (rowStart p s + j))
   unfolding tabulate
   head-spelled s =
-      let z : rowStart s ≡ rowStart s + 0 = omega arith in
-      λ i. wordAt ws (z i) ∷ wordAt ws (rowStart s + 1) ∷ wordAt ws (rowStart s + 2) ∷ wordAt ws (rowStart s + 3) ∷ wordAt ws (rowStart s + 4) ∷ []
+      let z : rowStart p s ≡ rowStart p s + 0 = omega arith in
+      λ i. wordAt ws (z i) ∷ wordAt ws (rowStart p s + 1) ∷ wordAt ws (rowStart p s + 2) ∷ wordAt ws (rowStart p s + 3) ∷ wordAt ws (rowStart p s + 4) ∷ []
 
-  cells-spelled : (s : ℕ) → map spellCell (tabulate mostNodes (cellOf ws s)) ≡ tabulate mostNodes (λ n. tabulate cellWords (λ j. wordAt ws (rowStart s + (rowHead + (cellWords * n + j)))))
+  cells-spelled : (s : ℕ) → map spellCell (tabulate p (cellOf p ws s)) ≡ tabulate p (λ n. tabulate cellWords (λ j. wordAt ws (rowStart p s + (rowHead + (cellWords * n + j)))))
   cells-spelled s =
-      tabulate-map spellCell mostNodes (cellOf ws s)
-      ∙ tabulate-same mostNodes (λ n. spellCell (cellOf ws s n)) (λ n. tabulate cellWords (λ j. wordAt ws (rowStart s + (rowHead + (cellWords * n + j)))))
-      (λ n l. cell-spelled (cellStart s n)
-      ∙ tabulate-same cellWords (λ j. wordAt ws (cellStart s n + j)) (λ j. wordAt ws (rowStart s + (rowHead + (cellWords * n + j)))) (λ j m. ap (wordAt ws) (omega arith)))
+      tabulate-map spellCell p (cellOf p ws s)
+      ∙ tabulate-same p (λ n. spellCell (cellOf p ws s n)) (λ n. tabulate cellWords (λ j. wordAt ws (rowStart p s + (rowHead + (cellWords * n + j)))))
+      (λ n l. cell-spelled (cellStart p s n)
+      ∙ tabulate-same cellWords (λ j. wordAt ws (cellStart p s n + j)) (λ j. wordAt ws (rowStart p s + (rowHead + (cellWords * n + j)))) (λ j m. ap (wordAt ws) (omega arith)))
 
-  row-spelled : (s : ℕ) → spellRow (rowOf ws s) ≡ tabulate rowWords (λ j. wordAt ws (rowStart s + j))
+  row-spelled : (s : ℕ) → spellRow (rowOf p ws s) ≡ tabulate (rowWords p) (λ j. wordAt ws (rowStart p s + j))
   row-spelled s =
       sym
-      (tabulate-split rowWords rowHead (cellWords * mostNodes) (λ j. wordAt ws (rowStart s + j)) refl
+      (tabulate-split (rowWords p) rowHead (cellWords * p) (λ j. wordAt ws (rowStart p s + j)) refl
       ∙ (λ i. sym (head-spelled s) i
-      ++ (tabulate-rows (cellWords * mostNodes) mostNodes cellWords (λ j. wordAt ws (rowStart s + (rowHead + j))) refl ∙ ap joined (sym (cells-spelled s))) i))
+      ++ (tabulate-rows (cellWords * p) p cellWords (λ j. wordAt ws (rowStart p s + (rowHead + j))) (mul-comm cellWords p) ∙ ap joined (sym (cells-spelled s))) i))
 
-  rows-spelled : map spellRow (tabulate (suc lastSlot) (rowOf ws)) ≡ tabulate (suc lastSlot) (λ s. tabulate rowWords (λ j. wordAt ws (headWords + (rowWords * s + j))))
+  rows-spelled : map spellRow (tabulate (suc lastSlot) (rowOf p ws)) ≡ tabulate (suc lastSlot) (λ s. tabulate (rowWords p) (λ j. wordAt ws (headWords p + (rowWords p * s + j))))
+  unfolding rowStart
   rows-spelled =
-      tabulate-map spellRow (suc lastSlot) (rowOf ws)
-      ∙ tabulate-same (suc lastSlot) (λ s. spellRow (rowOf ws s)) (λ s. tabulate rowWords (λ j. wordAt ws (headWords + (rowWords * s + j))))
-      (λ s l. row-spelled s ∙ tabulate-same rowWords (λ j. wordAt ws (rowStart s + j)) (λ j. wordAt ws (headWords + (rowWords * s + j))) (λ j m. ap (wordAt ws) (omega arith)))
+      tabulate-map spellRow (suc lastSlot) (rowOf p ws)
+      ∙ tabulate-same (suc lastSlot) (λ s. spellRow (rowOf p ws s)) (λ s. tabulate (rowWords p) (λ j. wordAt ws (headWords p + (rowWords p * s + j))))
+      (λ s l. row-spelled s ∙ tabulate-same (rowWords p) (λ j. wordAt ws (rowStart p s + j)) (λ j. wordAt ws (headWords p + (rowWords p * s + j))) (λ j m. ap (wordAt ws) (omega arith)))
 
   four : tabulate armedStart (λ j. wordAt ws j) ≡ wordAt ws 0 ∷ wordAt ws 1 ∷ wordAt ws 2 ∷ wordAt ws 3 ∷ []
   unfolding tabulate
   four = refl
 
-  -- For words of the right length the spelling of the meaning is those words.
-  pub words-ledger : length ws ≡ recordWords → wordsOf (ledgerOf ws) ≡ ws
-  unfolding ledgerOf wordsOf
-  words-ledger e =
+  spelling : length ws ≡ recordWords p → wordsOf (ledgerAt p ws) ≡ ws
+  unfolding ledgerAt wordsOf rowStart
+  spelling e =
       sym
       (tabulate-getD ws 0
-      ∙ tabulate-split (length ws) armedStart 7769 (λ j. wordAt ws j) e
+      ∙ tabulate-split (length ws) armedStart (windows + (p + rowWords p * suc lastSlot)) (λ j. wordAt ws j) (e ∙ omega arith)
       ∙ (λ i. four i
-      ++ (tabulate-split 7769 windows 7765 (λ j. wordAt ws (armedStart + j)) refl
+      ++ (tabulate-split (windows + (p + rowWords p * suc lastSlot)) windows (p + rowWords p * suc lastSlot) (λ j. wordAt ws (armedStart + j)) refl
       ∙ (λ k. tabulate windows (λ j. wordAt ws (armedStart + j))
-      ++ (tabulate-split 7765 mostNodes 7701 (λ j. wordAt ws (armedStart + (windows + j))) refl
+      ++ (tabulate-split (p + rowWords p * suc lastSlot) p (rowWords p * suc lastSlot) (λ j. wordAt ws (armedStart + (windows + j))) refl
       ∙ (λ m. stakes m
-      ++ (tabulate-rows 7701 (suc lastSlot) rowWords (λ j. wordAt ws (armedStart + (windows + (mostNodes + j)))) refl ∙ ap joined rows) m)) k)) i))
+      ++ (tabulate-rows (rowWords p * suc lastSlot) (suc lastSlot) (rowWords p) (λ j. wordAt ws (armedStart + (windows + (p + j)))) (mul-comm (rowWords p) (suc lastSlot)) ∙ ap joined rows) m)) k)) i))
     where
-      stakes : tabulate mostNodes (λ j. wordAt ws (armedStart + (windows + j))) ≡ tabulate mostNodes (λ j. wordAt ws (stakeStart + j))
-      stakes = tabulate-same mostNodes (λ j. wordAt ws (armedStart + (windows + j))) (λ j. wordAt ws (stakeStart + j)) (λ j l. ap (wordAt ws) (omega arith))
+      stakes : tabulate p (λ j. wordAt ws (armedStart + (windows + j))) ≡ tabulate p (λ j. wordAt ws (stakeStart + j))
+      stakes = tabulate-same p (λ j. wordAt ws (armedStart + (windows + j))) (λ j. wordAt ws (stakeStart + j)) (λ j l. ap (wordAt ws) (omega arith))
 
-      rows : tabulate (suc lastSlot) (λ s. tabulate rowWords (λ j. wordAt ws (armedStart + (windows + (mostNodes + (rowWords * s + j)))))) ≡ map spellRow (tabulate (suc lastSlot) (rowOf ws))
+      rows : tabulate (suc lastSlot) (λ s. tabulate (rowWords p) (λ j. wordAt ws (armedStart + (windows + (p + (rowWords p * s + j)))))) ≡ map spellRow (tabulate (suc lastSlot) (rowOf p ws))
       rows =
-          tabulate-same (suc lastSlot) (λ s. tabulate rowWords (λ j. wordAt ws (armedStart + (windows + (mostNodes + (rowWords * s + j)))))) (λ s. tabulate rowWords (λ j. wordAt ws (headWords + (rowWords * s + j))))
-          (λ s l. tabulate-same rowWords (λ j. wordAt ws (armedStart + (windows + (mostNodes + (rowWords * s + j))))) (λ j. wordAt ws (headWords + (rowWords * s + j))) (λ j m. ap (wordAt ws) (omega arith)))
+          tabulate-same (suc lastSlot) (λ s. tabulate (rowWords p) (λ j. wordAt ws (armedStart + (windows + (p + (rowWords p * s + j)))))) (λ s. tabulate (rowWords p) (λ j. wordAt ws (headWords p + (rowWords p * s + j))))
+          (λ s l. tabulate-same (rowWords p) (λ j. wordAt ws (armedStart + (windows + (p + (rowWords p * s + j))))) (λ j. wordAt ws (headWords p + (rowWords p * s + j))) (λ j m. ap (wordAt ws) (omega arith)))
           ∙ sym rows-spelled
 
+-- For words of the right length the spelling of the meaning is those words.
+pub words-ledger : (ws : List ℕ) → Long ws → wordsOf (ledgerOf ws) ≡ ws
+words-ledger ws e = spelling (placesIn ws) ws e
+
 -- Words of the right length are told by their ledger.
-pub words-told : (ws ws' : List ℕ) → length ws ≡ recordWords → length ws' ≡ recordWords → ledgerOf ws ≡ ledgerOf ws' → ws ≡ ws'
+pub words-told : (ws ws' : List ℕ) → Long ws → Long ws' → ledgerOf ws ≡ ledgerOf ws' → ws ≡ ws'
 words-told ws ws' e e' q = sym (words-ledger ws e) ∙ ap wordsOf q ∙ words-ledger ws' e'
 
 -- ---- a vote stays in its row
 
--- A row's words are told by the row.
-row-told : (ws : List ℕ) (s j : ℕ) → s < suc lastSlot → j < rowWords → wordAt ws (rowStart s + j) ≡ wordAt (spellRow (rowAt (ledgerOf ws) s)) j
-row-told ws s j h l =
-    sym
-    (ap (λ (r : Row). wordAt (spellRow r) j) (row-words ws s h)
-    ∙ ap (λ (xs : List ℕ). wordAt xs j) (row-spelled ws s)
-    ∙ getD-tabulate rowWords j (λ k. wordAt ws (rowStart s + k)) 0 l)
+module _ (p : ℕ) where
+  -- A row's words are told by the row.
+  row-told : (ws : List ℕ) (s j : ℕ) → s < suc lastSlot → j < rowWords p → wordAt ws (rowStart p s + j) ≡ wordAt (spellRow (rowAt (ledgerAt p ws) s)) j
+  row-told ws s j h l =
+      sym
+      (ap (λ (r : Row). wordAt (spellRow r) j) (row-words p ws s h)
+      ∙ ap (λ (xs : List ℕ). wordAt xs j) (row-spelled p ws s)
+      ∙ getD-tabulate (rowWords p) j (λ k. wordAt ws (rowStart p s + k)) 0 l)
 
--- Whatever is put into slot s's row, every word of slot t's row stays.
-pub row-words-stay : (ws ws' : List ℕ) (s t j : ℕ) (r : Row) → ledgerOf ws' ≡ putRow (ledgerOf ws) s r → t < suc lastSlot → (t ≡ s → ⊥) → j < rowWords
-    → wordAt ws' (rowStart t + j) ≡ wordAt ws (rowStart t + j)
-row-words-stay ws ws' s t j r e h q l =
-    let same : rowAt (ledgerOf ws') t ≡ rowAt (ledgerOf ws) t = ap (λ (m : Ledger). rowAt m t) e ∙ row-other (ledgerOf ws) s t r q in
-    row-told ws' t j h l ∙ ap (λ (x : Row). wordAt (spellRow x) j) same ∙ sym (row-told ws t j h l)
+  -- Whatever is put into slot s's row, every word of slot t's row stays.
+  pub row-words-stay : (ws ws' : List ℕ) (s t j : ℕ) (r : Row) → ledgerAt p ws' ≡ putRow (ledgerAt p ws) s r → t < suc lastSlot → (t ≡ s → ⊥) → j < rowWords p
+      → wordAt ws' (rowStart p t + j) ≡ wordAt ws (rowStart p t + j)
+  row-words-stay ws ws' s t j r e h q l =
+      let same : rowAt (ledgerAt p ws') t ≡ rowAt (ledgerAt p ws) t = ap (λ (m : Ledger). rowAt m t) e ∙ row-other (ledgerAt p ws) s t r q in
+      row-told ws' t j h l ∙ ap (λ (x : Row). wordAt (spellRow x) j) same ∙ sym (row-told ws t j h l)
 
 -- So a vote stored in slot s changes no word of another slot's row.
-pub vote-stays : (ws ws' : List ℕ) (s n t j : ℕ) (k : VoteKind) (b : ℕ) → ledgerOf ws' ≡ storeVote (ledgerOf ws) s n k b → t < suc lastSlot → (t ≡ s → ⊥) → j < rowWords
-    → wordAt ws' (rowStart t + j) ≡ wordAt ws (rowStart t + j)
+pub vote-stays : (ws ws' : List ℕ) (s n t j : ℕ) (k : VoteKind) (b : ℕ) → length ws' ≡ length ws → ledgerOf ws' ≡ storeVote (ledgerOf ws) s n k b → t < suc lastSlot → (t ≡ s → ⊥)
+    → j < rowWords (placesIn ws) → wordAt ws' (rowStart (placesIn ws) t + j) ≡ wordAt ws (rowStart (placesIn ws) t + j)
 unfolding storeVote
-vote-stays ws ws' s n t j k b e h q l = row-words-stay ws ws' s t j _ e h q l
+vote-stays ws ws' s n t j k b long e h q l = row-words-stay (placesIn ws) ws ws' s t j _ (sym (same-shape ws ws' long) ∙ e) h q l
 
 -- ---- the meaning of the spelling
 
@@ -182,8 +188,8 @@ map-long g k xs d e i h =
 cells-long : (cs : List Cell) → length (joined (map spellCell cs)) ≡ cellWords * length cs
 cells-long cs = joined-long cellWords (map spellCell cs) (map-long spellCell cellWords cs noCell (λ i h. refl)) ∙ ap (λ k. cellWords * k) (length-map cs spellCell)
 
-row-long : (r : Row) → length (r .cells) ≡ mostNodes → length (spellRow r) ≡ rowWords
-row-long r e = length-append (spellHead r) (joined (map spellCell (r .cells))) ∙ omega (arith, cells-long (r .cells))
+row-long : (p : ℕ) (r : Row) → length (r .cells) ≡ p → length (spellRow r) ≡ rowWords p
+row-long p r e = length-append (spellHead r) (joined (map spellCell (r .cells))) ∙ omega (arith, cells-long (r .cells))
 
 -- A cell's word in its row's spelling.
 row-cell : (r : Row) (n j : ℕ) → n < length (r .cells) → j < cellWords → wordAt (spellRow r) (rowHead + (cellWords * n + j)) ≡ wordAt (spellCell (getD (r .cells) n noCell)) j
@@ -192,24 +198,25 @@ row-cell r n j h l =
     ∙ joined-at cellWords (map spellCell (r .cells)) n j (map-long spellCell cellWords (r .cells) noCell (λ i h. refl)) (omega (arith, length-map (r .cells) spellCell)) l
     ∙ ap (λ x. wordAt x j) (map-at spellCell (r .cells) n noCell h)
 
-module _ (l : Ledger) (w : Shaped l) where
-  rows-long : (i : ℕ) → i < length (map spellRow (l .rows)) → length (getD (map spellRow (l .rows)) i []) ≡ rowWords
+module _ (p : ℕ) (l : Ledger) (w : Shaped p l) where
+  rows-long : (i : ℕ) → i < length (map spellRow (l .rows)) → length (getD (map spellRow (l .rows)) i []) ≡ rowWords p
   rows-long =
-      map-long spellRow rowWords (l .rows) noRow
-      (λ i h. row-long (getD (l .rows) i noRow) (w .cells i (omega (arith, w .rows))))
+      map-long spellRow (rowWords p) (l .rows) noRow
+      (λ i h. row-long p (getD (l .rows) i noRow) (w .cells i (omega (arith, w .rows))))
 
-  pub words-long : length (wordsOf l) ≡ recordWords
-  unfolding wordsOf
-  words-long =
+  rows-all : length (joined (map spellRow (l .rows))) ≡ rowWords p * suc lastSlot
+  rows-all = joined-long (rowWords p) (map spellRow (l .rows)) rows-long ∙ ap (λ (k : ℕ). rowWords p * k) (length-map (l .rows) spellRow ∙ w .rows)
+
+  all-words : length (wordsOf l) ≡ recordWords p
+  unfolding wordsOf rowStart
+  all-words =
       omega (
         arith,
         length-append (l .armed) (l .stakes ++ joined (map spellRow (l .rows))),
         length-append (l .stakes) (joined (map spellRow (l .rows))),
-        joined-long rowWords (map spellRow (l .rows)) rows-long,
-        length-map (l .rows) spellRow,
+        rows-all,
         w .armed,
         w .stakes,
-        w .rows,
       )
 
   armed-spelled : (k : ℕ) → k < windows → wordAt (wordsOf l) (armedStart + k) ≡ getD (l .armed) k 0
@@ -226,28 +233,29 @@ module _ (l : Ledger) (w : Shaped l) where
       ∙ getD-append-add (l .count ∷ l .total ∷ l .own ∷ l .genesis ∷ []) (l .armed ++ (l .stakes ++ joined (map spellRow (l .rows)))) (length (l .armed) + k) 0
       ∙ getD-append-add (l .armed) (l .stakes ++ joined (map spellRow (l .rows))) k 0
 
-  stake-spelled : (k : ℕ) → k < mostNodes → wordAt (wordsOf l) (stakeStart + k) ≡ getD (l .stakes) k 0
+  stake-spelled : (k : ℕ) → k < p → wordAt (wordsOf l) (stakeStart + k) ≡ getD (l .stakes) k 0
   stake-spelled k h = after-armed k ∙ List·getD-append (l .stakes) (joined (map spellRow (l .rows))) 0 k (omega (arith, w .stakes))
 
-  row-word : (s j : ℕ) → s < suc lastSlot → j < rowWords → wordAt (wordsOf l) (rowStart s + j) ≡ wordAt (spellRow (rowAt l s)) j
+  row-word : (s j : ℕ) → s < suc lastSlot → j < rowWords p → wordAt (wordsOf l) (rowStart p s + j) ≡ wordAt (spellRow (rowAt l s)) j
+  unfolding rowStart
   row-word s j h m =
-      let z : rowStart s + j ≡ stakeStart + (length (l .stakes) + (rowWords * s + j)) = omega (arith, w .stakes) in
+      let z : rowStart p s + j ≡ stakeStart + (length (l .stakes) + (rowWords p * s + j)) = omega (arith, w .stakes) in
       ap (wordAt (wordsOf l)) z
-      ∙ after-armed (length (l .stakes) + (rowWords * s + j))
-      ∙ getD-append-add (l .stakes) (joined (map spellRow (l .rows))) (rowWords * s + j) 0
-      ∙ joined-at rowWords (map spellRow (l .rows)) s j rows-long (omega (arith, length-map (l .rows) spellRow, w .rows)) m
+      ∙ after-armed (length (l .stakes) + (rowWords p * s + j))
+      ∙ getD-append-add (l .stakes) (joined (map spellRow (l .rows))) (rowWords p * s + j) 0
+      ∙ joined-at (rowWords p) (map spellRow (l .rows)) s j rows-long (omega (arith, length-map (l .rows) spellRow, w .rows)) m
       ∙ ap (λ x. wordAt x j) (map-at spellRow (l .rows) s noRow (omega (arith, w .rows)))
 
-  cell-word : (s n j : ℕ) → s < suc lastSlot → n < mostNodes → j < cellWords → wordAt (wordsOf l) (cellStart s n + j) ≡ wordAt (spellCell (getD (rowAt l s .cells) n noCell)) j
+  cell-word : (s n j : ℕ) → s < suc lastSlot → n < p → j < cellWords → wordAt (wordsOf l) (cellStart p s n + j) ≡ wordAt (spellCell (getD (rowAt l s .cells) n noCell)) j
   cell-word s n j h k m =
-      let z : cellStart s n + j ≡ rowStart s + (rowHead + (cellWords * n + j)) = omega arith in
+      let z : cellStart p s n + j ≡ rowStart p s + (rowHead + (cellWords * n + j)) = omega arith in
       ap (wordAt (wordsOf l)) z
       ∙ row-word s (rowHead + (cellWords * n + j)) h (omega arith)
       ∙ row-cell (rowAt l s) n j (omega (arith, w .cells s h)) m
 
-  cell-back : (s n : ℕ) → s < suc lastSlot → n < mostNodes → cellOf (wordsOf l) s n ≡ getD (rowAt l s .cells) n noCell
+  cell-back : (s n : ℕ) → s < suc lastSlot → n < p → cellOf p (wordsOf l) s n ≡ getD (rowAt l s .cells) n noCell
   cell-back s n h k =
-      let z : wordAt (wordsOf l) (cellStart s n) ≡ getD (rowAt l s .cells) n noCell .notar = rw add-zero at (cell-word s n 0 h k (omega arith)) in
+      let z : wordAt (wordsOf l) (cellStart p s n) ≡ getD (rowAt l s .cells) n noCell .notar = rw add-zero at (cell-word s n 0 h k (omega arith)) in
       λ i. record {
         notar = z i;
         skip = cell-word s n 1 h k (omega arith) i;
@@ -258,14 +266,14 @@ module _ (l : Ledger) (w : Shaped l) where
         finalvote = cell-word s n 6 h k (omega arith) i;
       }
 
-  row-back : (s : ℕ) → s < suc lastSlot → rowOf (wordsOf l) s ≡ rowAt l s
+  row-back : (s : ℕ) → s < suc lastSlot → rowOf p (wordsOf l) s ≡ rowAt l s
   row-back s h =
-      let z : wordAt (wordsOf l) (rowStart s) ≡ rowAt l s .kept .number = rw add-zero at (row-word s 0 h (omega arith)) in
+      let z : wordAt (wordsOf l) (rowStart p s) ≡ rowAt l s .kept .number = rw add-zero at (row-word s 0 h (omega arith)) in
       λ i. record {
         kept = record { number = z i; parentslot = record { 0 = row-word s 1 h (omega arith) i }; parent = row-word s 2 h (omega arith) i };
         timedOut = row-word s 3 h (omega arith) i;
         final = row-word s 4 h (omega arith) i;
-        cells = (tabulate-same mostNodes (cellOf (wordsOf l) s) (λ n. getD (rowAt l s .cells) n noCell) (λ n k. cell-back s n h k)
+        cells = (tabulate-same p (cellOf p (wordsOf l) s) (λ n. getD (rowAt l s .cells) n noCell) (λ n k. cell-back s n h k)
             ∙ ap (λ k. tabulate k (λ n. getD (rowAt l s .cells) n noCell)) (sym (w .cells s h))
             ∙ sym (tabulate-getD (rowAt l s .cells) noCell)) i;
       }
@@ -274,10 +282,9 @@ module _ (l : Ledger) (w : Shaped l) where
   unfolding wordsOf
   front j h = List·getD-append (l .count ∷ l .total ∷ l .own ∷ l .genesis ∷ []) (l .armed ++ (l .stakes ++ joined (map spellRow (l .rows)))) 0 j h
 
-  -- The meaning of a ledger's spelling is that ledger.
-  pub ledger-words : ledgerOf (wordsOf l) ≡ l
-  unfolding ledgerOf
-  ledger-words =
+  meaning : ledgerAt p (wordsOf l) ≡ l
+  unfolding ledgerAt
+  meaning =
       λ i. record {
         count = front 0 (omega arith) i;
         total = front 1 (omega arith) i;
@@ -285,8 +292,17 @@ module _ (l : Ledger) (w : Shaped l) where
         genesis = front 3 (omega arith) i;
         armed = (tabulate-same windows (λ k. wordAt (wordsOf l) (armedStart + k)) (λ k. getD (l .armed) k 0) armed-spelled
             ∙ ap (λ k. tabulate k (λ n. getD (l .armed) n 0)) (sym (w .armed)) ∙ sym (tabulate-getD (l .armed) 0)) i;
-        stakes = (tabulate-same mostNodes (λ k. wordAt (wordsOf l) (stakeStart + k)) (λ k. getD (l .stakes) k 0) stake-spelled
+        stakes = (tabulate-same p (λ k. wordAt (wordsOf l) (stakeStart + k)) (λ k. getD (l .stakes) k 0) stake-spelled
             ∙ ap (λ k. tabulate k (λ n. getD (l .stakes) n 0)) (sym (w .stakes)) ∙ sym (tabulate-getD (l .stakes) 0)) i;
-        rows = (tabulate-same (suc lastSlot) (rowOf (wordsOf l)) (λ s. getD (l .rows) s noRow) row-back
+        rows = (tabulate-same (suc lastSlot) (rowOf p (wordsOf l)) (λ s. getD (l .rows) s noRow) row-back
             ∙ ap (λ k. tabulate k (λ s. getD (l .rows) s noRow)) (sym (w .rows)) ∙ sym (tabulate-getD (l .rows) noRow)) i;
       }
+
+-- A ledger's words are as many as its places ask for.
+pub words-long : (l : Ledger) → Shaped (places l) l → Long (wordsOf l)
+words-long l w = sized-long (wordsOf l) (places l) (all-words (places l) l w)
+
+-- The meaning of a ledger's spelling is that ledger.
+pub ledger-words : (l : Ledger) → Shaped (places l) l → ledgerOf (wordsOf l) ≡ l
+ledger-words l w =
+    ap (λ (p : ℕ). ledgerAt p (wordsOf l)) (places-back (wordsOf l) (places l) (all-words (places l) l w)) ∙ meaning (places l) l w

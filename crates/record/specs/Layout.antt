@@ -1,13 +1,15 @@
 -- What a node's words mean: a head (count, total, own number, genesis, the armed windows, the stakes), then a row for each
 -- slot: the kept block's number, its parent's slot and number, timed out, final block, then a cell for each node.
 use mathlib.Core.Path.{_≡_}
+use mathlib.Core.Bool.{Bool}
 use mathlib.Core.List.{List, [], _∷_}
-use Prim.Native.Nat.{ℕ, zero, suc, _+_, _*_, _≤_, _<_}
+use Prim.Native.Nat.{ℕ, zero, suc, _+_, _-_, _*_, _/_, _≤_, _<_}
 use lib.ListN.{length, getD}
+use lib.Dec.{eqb}
 use Rattle.rulebook.specs.declared.Cell.{Cell}
 use Rattle.rulebook.specs.declared.Block.{Block}
-use Rattle.rulebook.specs.Weights.{mostNodes, lastSlot, windows}
-use Rattle.rulebook.specs.Ledger.{Ledger, Row}
+use Rattle.rulebook.specs.Weights.{lastSlot, windows}
+use Rattle.rulebook.specs.Ledger.{Ledger, Row, places}
 
 -- ---- where each thing stands
 
@@ -17,8 +19,9 @@ armedStart = 4
 abbrev pub stakeStart : ℕ
 stakeStart = armedStart + windows
 
-abbrev pub headWords : ℕ
-headWords = stakeStart + mostNodes
+-- The head of a record with p places.
+abbrev pub headWords : ℕ → ℕ
+headWords p = stakeStart + p
 
 abbrev pub cellWords : ℕ
 cellWords = 7
@@ -26,43 +29,30 @@ cellWords = 7
 abbrev pub rowHead : ℕ
 rowHead = 5
 
-abbrev pub rowWords : ℕ
-rowWords = rowHead + cellWords * mostNodes
+abbrev pub rowWords : ℕ → ℕ
+rowWords p = rowHead + cellWords * p
 
 -- The first word of slot s's row, and of node n's cell in it.
-abbrev pub rowStart : ℕ → ℕ
-rowStart s = headWords + rowWords * s
+unfoldable pub rowStart : ℕ → ℕ → ℕ
+rowStart p s = headWords p + rowWords p * s
 
-abbrev pub cellStart : ℕ → ℕ → ℕ
-cellStart s n = rowStart s + rowHead + cellWords * n
+abbrev pub cellStart : ℕ → ℕ → ℕ → ℕ
+cellStart p s n = rowStart p s + rowHead + cellWords * n
 
--- "one fixed length".
-abbrev pub recordWords : ℕ
-recordWords = headWords + rowWords * suc lastSlot
+-- "one fixed length", by the places: all rows after the head.
+abbrev pub recordWords : ℕ → ℕ
+recordWords p = rowStart p (suc lastSlot)
 
--- ---- what inner functions ask of their callers
+-- That is so many words without any place, and so many more for each.
+abbrev pub bareWords : ℕ
+bareWords = 93
 
--- The words are as many as they should be, and the slot has a row.
-pub record InSlot (ws : List ℕ) (s : ℕ) : Type 0 where
-  pub long : length ws ≡ recordWords
-  pub slot : s < suc lastSlot
+abbrev pub placeWords : ℕ
+placeWords = 120
 
--- Likewise, and the slot has a window: it is not genesis's.
-pub record InWindow (ws : List ℕ) (s : ℕ) : Type 0 where
-  pub long : length ws ≡ recordWords
-  pub later : 1 ≤ s
-  pub slot : s < suc lastSlot
-
--- Likewise, and the node has a cell.
-pub record Placed (ws : List ℕ) (s n : ℕ) : Type 0 where
-  pub long : length ws ≡ recordWords
-  pub slot : s < suc lastSlot
-  pub node : n < mostNodes
-
--- The words are as many as they should be, and the node has a stake.
-pub record InTable (ws : List ℕ) (n : ℕ) : Type 0 where
-  pub long : length ws ≡ recordWords
-  pub node : n < mostNodes
+-- The places that words have. Their number alone tells it, so no store changes the shape.
+unfoldable pub placesIn : List ℕ → ℕ
+placesIn ws = (length ws - bareWords) / placeWords
 
 -- ---- what the words mean
 
@@ -90,38 +80,82 @@ cellFrom ws i =
 abbrev pub blockFrom : List ℕ → ℕ → Block
 blockFrom ws i = record { number = wordAt ws i; parentslot = record { 0 = wordAt ws (i + 1) }; parent = wordAt ws (i + 2) }
 
-abbrev pub cellOf : List ℕ → ℕ → ℕ → Cell
-cellOf ws s n = cellFrom ws (cellStart s n)
+abbrev pub cellOf : ℕ → List ℕ → ℕ → ℕ → Cell
+cellOf p ws s n = cellFrom ws (cellStart p s n)
 
-abbrev pub rowOf : List ℕ → ℕ → Row
-rowOf ws s =
+abbrev pub rowOf : ℕ → List ℕ → ℕ → Row
+rowOf p ws s =
     record {
-      kept = blockFrom ws (rowStart s);
-      timedOut = wordAt ws (rowStart s + 3);
-      final = wordAt ws (rowStart s + 4);
-      cells = tabulate mostNodes (cellOf ws s);
+      kept = blockFrom ws (rowStart p s);
+      timedOut = wordAt ws (rowStart p s + 3);
+      final = wordAt ws (rowStart p s + 4);
+      cells = tabulate p (cellOf p ws s);
     }
 
--- The ledger that the words hold.
-unfoldable pub ledgerOf : List ℕ → Ledger
-ledgerOf ws =
+-- The ledger that words of p places hold.
+unfoldable pub ledgerAt : ℕ → List ℕ → Ledger
+ledgerAt p ws =
     record {
       count = wordAt ws 0;
       total = wordAt ws 1;
       own = wordAt ws 2;
       genesis = wordAt ws 3;
       armed = tabulate windows (λ w. wordAt ws (armedStart + w));
-      stakes = tabulate mostNodes (λ n. wordAt ws (stakeStart + n));
-      rows = tabulate (suc lastSlot) (rowOf ws);
+      stakes = tabulate p (λ n. wordAt ws (stakeStart + n));
+      rows = tabulate (suc lastSlot) (rowOf p ws);
     }
 
--- Likewise, and the own number has a cell.
-pub record OwnIn (ws : List ℕ) (s : ℕ) : Type 0 where
-  pub long : length ws ≡ recordWords
-  pub slot : s < suc lastSlot
-  pub own : ledgerOf ws .own < mostNodes
+-- The ledger that words hold, as many places as their length says.
+abbrev pub ledgerOf : List ℕ → Ledger
+ledgerOf ws = ledgerAt (placesIn ws) ws
 
--- The words are as many as they should be, and all nodes that they count have a place.
+-- The words are as many as their places ask for: as a test, and said of them.
+abbrev pub isLong : List ℕ → Bool
+isLong ws = eqb (length ws) (recordWords (placesIn ws))
+
+abbrev pub Long : List ℕ → Type 0
+Long ws = length ws ≡ recordWords (placesIn ws)
+
+-- ---- what inner functions ask of their callers
+
+-- The words are as many as their places ask for, and the slot has a row.
+pub record InSlot (ws : List ℕ) (s : ℕ) : Type 0 where
+  pub long : Long ws
+  pub slot : s < suc lastSlot
+
+-- Likewise, and the slot has a window: it is not genesis's.
+pub record InWindow (ws : List ℕ) (s : ℕ) : Type 0 where
+  pub long : Long ws
+  pub later : 1 ≤ s
+  pub slot : s < suc lastSlot
+
+-- Likewise, and the node has a cell.
+pub record Placed (ws : List ℕ) (s n : ℕ) : Type 0 where
+  pub long : Long ws
+  pub slot : s < suc lastSlot
+  pub node : n < places (ledgerOf ws)
+
+-- The words are as many as their places ask for, and the node has a stake.
+pub record InTable (ws : List ℕ) (n : ℕ) : Type 0 where
+  pub long : Long ws
+  pub node : n < places (ledgerOf ws)
+
+-- The words are as many as their places ask for, the slot has a row, and the own number has a cell.
+pub record OwnIn (ws : List ℕ) (s : ℕ) : Type 0 where
+  pub long : Long ws
+  pub slot : s < suc lastSlot
+  pub own : ledgerOf ws .own < places (ledgerOf ws)
+
+-- The words are as many as their places ask for, and all nodes that they count have a place.
 pub record Counted (ws : List ℕ) : Type 0 where
-  pub long : length ws ≡ recordWords
-  pub few : ledgerOf ws .count ≤ mostNodes
+  pub long : Long ws
+  pub few : ledgerOf ws .count ≤ places (ledgerOf ws)
+
+-- Where a row, or a cell, begins, and that it lies within the words.
+pub record RowAt (ws : List ℕ) (s i : ℕ) : Type 0 where
+  pub is : i ≡ rowStart (placesIn ws) s
+  pub inside : i + rowWords (placesIn ws) ≤ length ws
+
+pub record CellAt (ws : List ℕ) (s n i : ℕ) : Type 0 where
+  pub is : i ≡ cellStart (placesIn ws) s n
+  pub inside : i + cellWords ≤ length ws

@@ -2,24 +2,23 @@
 // record through these functions.
 ghost use mathlib.Core.Path.{_≡_};
 ghost use mathlib.Core.Bool.{not};
-ghost use Prim.Native.Nat.{_<_, suc};
+ghost use Prim.Native.Nat.{_<_};
 ghost use lib.ListN.{length, getD, take, replicate};
-ghost use Rattle.rulebook.specs.Weights.{mostNodes, lastSlot, windows, stakeIn};
-ghost use Rattle.rulebook.specs.Ledger.{none, rowAt, cellAt, ownCell, isArmed, putCell, putKept, putTimedOut, putFinal, putArmed};
+ghost use Rattle.rulebook.specs.Weights.{placesFor, windows, stakeIn};
+ghost use Rattle.rulebook.specs.Ledger.{none, places, rowAt, cellAt, ownCell, isArmed, putCell, putKept, putTimedOut, putFinal, putArmed};
 ghost use Rattle.rulebook.specs.Votes.{storeVote};
-ghost use Rattle.record.specs.Layout.{recordWords, rowStart, cellStart, InSlot, InWindow, InTable, Placed, OwnIn, Counted, ledgerOf};
+ghost use Rattle.record.specs.Layout.{recordWords, isLong, Long, InSlot, InWindow, InTable, Placed, RowAt, CellAt, OwnIn, Counted, ledgerOf};
 ghost use Rattle.record.specs.Setting.{putHead, putStake};
 use cells::with_vote;
 use rulebook::Block;
 use rulebook::Cell;
+use rulebook::MOST_NODES;
 use rulebook::Node;
 use rulebook::Slot;
 use rulebook::VoteKind;
 use rulebook::Weight;
 
-// "There are up to 64 nodes"; "Slots 1 to 16, windows of 4".
-pub const NODES: usize = 64;
-
+// "Slots 1 to 16, windows of 4".
 pub const LAST_SLOT: usize = 16;
 
 pub const WINDOWS: usize = 4;
@@ -29,37 +28,64 @@ const ARMED_START: usize = 4;
 
 const STAKE_START: usize = ARMED_START + WINDOWS;
 
-const HEAD_WORDS: usize = STAKE_START + NODES;
-
 const CELL_WORDS: usize = 7;
 
 const ROW_HEAD: usize = 5;
 
-const ROW_WORDS: usize = ROW_HEAD + CELL_WORDS * NODES;
+// The words of a record without any place, and how many more each place takes.
+const BARE_WORDS: usize = STAKE_START + ROW_HEAD * (LAST_SLOT + 1);
 
-const RECORD_WORDS: usize = HEAD_WORDS + ROW_WORDS * (LAST_SLOT + 1);
+const PLACE_WORDS: usize = 1 + CELL_WORDS * (LAST_SLOT + 1);
 
-// How many words the host lends a node.
-pub fn record_words() -> usize
-    ensures { λ r. ⌜ r ≡ recordWords ⌝ }
+// How many places for nodes a record has, by the number of stakes.
+pub fn places_for(count: usize) -> usize
+    ensures { λ r. ⌜ r ≡ placesFor count ⌝ }
 {
-    RECORD_WORDS
+    if MOST_NODES < count {
+        return MOST_NODES;
+    }
+    count
+}
+
+// How many words the host lends a node, by the number of stakes.
+pub fn record_words(count: usize) -> usize
+    ensures { λ r. ⌜ r ≡ recordWords (placesFor count) ⌝ }
+{
+    BARE_WORDS + PLACE_WORDS * places_for(count)
+}
+
+// How many places for nodes the words have.
+pub fn places_in(rec: &[u64]) -> usize
+    ensures { λ r. ⌜ r ≡ places (ledgerOf (now (rec .entry))) ⌝ }
+{
+    if rec.len() < BARE_WORDS {
+        return 0;
+    }
+    (rec.len() - BARE_WORDS) / PLACE_WORDS
+}
+
+// Whether the words are as many as their places ask for.
+pub fn is_long(rec: &[u64]) -> bool
+    ensures { λ r. ⌜ r ≡ isLong (now (rec .entry)) ⌝ }
+{
+    rec.len() == BARE_WORDS + PLACE_WORDS * places_in(rec)
 }
 
 // The first word of a slot's row.
-fn row_start(s: Slot) -> usize
-    requires { ⌜ s .0 < suc lastSlot ⌝ }
-    ensures { λ r. ⌜ r ≡ rowStart (s .0) ⌝ }
+fn row_start(rec: &[u64], s: Slot) -> usize
+    requires { ⌜ InSlot (now rec) (s .0) ⌝ }
+    ensures { λ r. ⌜ RowAt (now (rec .entry)) (s .0) r ⌝ }
 {
-    HEAD_WORDS + ROW_WORDS * s.0
+    let p = places_in(rec);
+    STAKE_START + p + (ROW_HEAD + CELL_WORDS * p) * s.0
 }
 
 // The first word of a node's cell in a slot's row.
-fn cell_start(s: Slot, n: Node) -> usize
-    requires { ⌜ (s .0 < suc lastSlot) × (n .0 < mostNodes) ⌝ }
-    ensures { λ r. ⌜ r ≡ cellStart (s .0) (n .0) ⌝ }
+fn cell_start(rec: &[u64], s: Slot, n: Node) -> usize
+    requires { ⌜ Placed (now rec) (s .0) (n .0) ⌝ }
+    ensures { λ r. ⌜ CellAt (now (rec .entry)) (s .0) (n .0) r ⌝ }
 {
-    row_start(s) + ROW_HEAD + CELL_WORDS * n.0
+    row_start(rec, s) + ROW_HEAD + CELL_WORDS * n.0
 }
 
 // What the pool keeps of a node in a slot.
@@ -67,7 +93,7 @@ pub fn load_cell(rec: &[u64], s: Slot, n: Node) -> Cell
     requires { ⌜ Placed (now rec) (s .0) (n .0) ⌝ }
     ensures { λ r. ⌜ r ≡ cellAt (ledgerOf (now (rec .entry))) (s .0) (n .0) ⌝ }
 {
-    let i = cell_start(s, n);
+    let i = cell_start(rec, s, n);
     Cell {
         notar: rec[i],
         skip: rec[i + 1],
@@ -84,7 +110,7 @@ pub fn store_cell(rec: &mut [u64], s: Slot, n: Node, c: Cell)
     requires { ⌜ Placed (now rec) (s .0) (n .0) ⌝ }
     ensures { λ _. ⌜ ledgerOf (now (rec .exit)) ≡ putCell (ledgerOf (now (rec .entry))) (s .0) (n .0) c ⌝ }
 {
-    let i = cell_start(s, n);
+    let i = cell_start(rec, s, n);
     rec[i] = c.notar;
     rec[i + 1] = c.skip;
     rec[i + 2] = c.fallback1;
@@ -99,7 +125,7 @@ pub fn kept_block(rec: &[u64], s: Slot) -> Block
     requires { ⌜ InSlot (now rec) (s .0) ⌝ }
     ensures { λ r. ⌜ r ≡ rowAt (ledgerOf (now (rec .entry))) (s .0) .kept ⌝ }
 {
-    let i = row_start(s);
+    let i = row_start(rec, s);
     Block {
         number: rec[i],
         parentslot: Slot(rec[i + 1] as usize),
@@ -112,7 +138,7 @@ pub fn keep_block(rec: &mut [u64], s: Slot, b: Block)
     requires { ⌜ InSlot (now rec) (s .0) ⌝ }
     ensures { λ _. ⌜ ledgerOf (now (rec .exit)) ≡ putKept (ledgerOf (now (rec .entry))) (s .0) b ⌝ }
 {
-    let i = row_start(s);
+    let i = row_start(rec, s);
     let p = b.parentslot;
     rec[i] = b.number;
     rec[i + 1] = p.0 as u64;
@@ -124,7 +150,7 @@ pub fn timeout_word(rec: &[u64], s: Slot) -> u64
     requires { ⌜ InSlot (now rec) (s .0) ⌝ }
     ensures { λ r. ⌜ r ≡ rowAt (ledgerOf (now (rec .entry))) (s .0) .timedOut ⌝ }
 {
-    let i = row_start(s);
+    let i = row_start(rec, s);
     rec[i + 3]
 }
 
@@ -141,7 +167,7 @@ pub fn mark_timed_out(rec: &mut [u64], s: Slot)
     requires { ⌜ InSlot (now rec) (s .0) ⌝ }
     ensures { λ _. ⌜ ledgerOf (now (rec .exit)) ≡ putTimedOut (ledgerOf (now (rec .entry))) (s .0) ⌝ }
 {
-    let i = row_start(s);
+    let i = row_start(rec, s);
     rec[i + 3] = 1;
 }
 
@@ -150,7 +176,7 @@ pub fn final_block(rec: &[u64], s: Slot) -> u64
     requires { ⌜ InSlot (now rec) (s .0) ⌝ }
     ensures { λ r. ⌜ r ≡ rowAt (ledgerOf (now (rec .entry))) (s .0) .final ⌝ }
 {
-    let i = row_start(s);
+    let i = row_start(rec, s);
     rec[i + 4]
 }
 
@@ -159,13 +185,13 @@ pub fn set_final(rec: &mut [u64], s: Slot, b: u64)
     requires { ⌜ InSlot (now rec) (s .0) ⌝ }
     ensures { λ _. ⌜ ledgerOf (now (rec .exit)) ≡ putFinal (ledgerOf (now (rec .entry))) (s .0) b ⌝ }
 {
-    let i = row_start(s);
+    let i = row_start(rec, s);
     rec[i + 4] = b;
 }
 
 // The word that marks a window as armed, whatever stands in it.
 pub fn armed_word(rec: &[u64], w: usize) -> u64
-    requires { ⌜ (length (now rec) ≡ recordWords) × (w < windows) ⌝ }
+    requires { ⌜ Long (now rec) × (w < windows) ⌝ }
     ensures { λ r. ⌜ r ≡ getD (ledgerOf (now (rec .entry)) .armed) w 0 ⌝ }
 {
     let i = ARMED_START + w;
@@ -191,7 +217,7 @@ pub fn arm(rec: &mut [u64], s: Slot)
 
 // The number of nodes.
 pub fn count(rec: &[u64]) -> usize
-    requires { ⌜ length (now rec) ≡ recordWords ⌝ }
+    requires { ⌜ Long (now rec) ⌝ }
     ensures { λ r. ⌜ r ≡ ledgerOf (now (rec .entry)) .count ⌝ }
 {
     rec[0] as usize
@@ -199,7 +225,7 @@ pub fn count(rec: &[u64]) -> usize
 
 // The total stake.
 pub fn total(rec: &[u64]) -> Weight
-    requires { ⌜ length (now rec) ≡ recordWords ⌝ }
+    requires { ⌜ Long (now rec) ⌝ }
     ensures { λ r. ⌜ r .0 ≡ ledgerOf (now (rec .entry)) .total ⌝ }
 {
     Weight(rec[1])
@@ -207,7 +233,7 @@ pub fn total(rec: &[u64]) -> Weight
 
 // The own number.
 pub fn own(rec: &[u64]) -> Node
-    requires { ⌜ length (now rec) ≡ recordWords ⌝ }
+    requires { ⌜ Long (now rec) ⌝ }
     ensures { λ r. ⌜ r .0 ≡ ledgerOf (now (rec .entry)) .own ⌝ }
 {
     Node(rec[2] as usize)
@@ -215,7 +241,7 @@ pub fn own(rec: &[u64]) -> Node
 
 // Genesis's number.
 pub fn genesis(rec: &[u64]) -> u64
-    requires { ⌜ length (now rec) ≡ recordWords ⌝ }
+    requires { ⌜ Long (now rec) ⌝ }
     ensures { λ r. ⌜ r ≡ ledgerOf (now (rec .entry)) .genesis ⌝ }
 {
     rec[3]
@@ -267,7 +293,7 @@ pub fn clear(rec: &mut [u64])
 
 // Puts in the number of nodes, the total stake, the own number and genesis's number.
 pub fn set_head(rec: &mut [u64], count: usize, total: Weight, own: Node, genesis: u64)
-    requires { ⌜ length (now rec) ≡ recordWords ⌝ }
+    requires { ⌜ Long (now rec) ⌝ }
     ensures { λ _. ⌜ ledgerOf (now (rec .exit)) ≡ putHead (ledgerOf (now (rec .entry))) count (total .0) (own .0) genesis ⌝ }
 {
     rec[0] = count as u64;

@@ -18,7 +18,8 @@ use soundness::start;
 use writers::write_certificate;
 use writers::write_proof;
 
-const RECORD_WORDS: usize = 7773;
+// The words of a record with two places.
+const RECORD_WORDS: usize = 333;
 
 const MOST_NUMBERS: usize = 64;
 
@@ -179,36 +180,90 @@ fn lines(bytes: &[u8], sound: &mut [u64]) {
     }
 }
 
-// The node whose record is spoiled: two nodes of stakes 6 and 4.
-fn begin(rec: &mut [u64]) {
-    let mut stakes = [6u64; 2];
-    stakes[1] = 4;
-    match start(rec, &stakes, Node(0), 1) {
+fn tell_start(answer: StartAnswer) {
+    match answer {
         StartAnswer::Started => number(0),
         StartAnswer::Refused(r) => number(refusal_number(r)),
     }
     end_line();
 }
 
-// A record of a wrong length.
+// The node whose record is spoiled: two nodes of stakes 6 and 4.
+fn begin(rec: &mut [u64]) {
+    let mut stakes = [6u64; 2];
+    stakes[1] = 4;
+    say(b"start");
+    tell_start(start(rec, &stakes, Node(0), 1));
+}
+
+// A fresh node of so many stakes of 1, told as a node of two with total 2: nothing but the number of places is wrong.
+fn as_two(rec: &mut [u64], stakes: &[u64]) {
+    start(rec, stakes, Node(0), 1);
+    put(rec, 0, 2);
+    put(rec, 1, 2);
+    if 2 < stakes.len() {
+        put(rec, 10, 0);
+    }
+}
+
+// A record of a wrong length: a word more or less; a place more or less than the count says.
 fn lengths() {
-    let mut short = [0u64; 7772];
-    let other = [0u64; 7772];
-    say(b"7772 words");
+    let mut short = [0u64; 332];
+    let other = [0u64; 332];
+    say(b"332 words");
     ask(&mut short, &other);
-    let mut long = [0u64; 7774];
-    let another = [0u64; 7774];
-    say(b"7774 words");
+    let mut long = [0u64; 334];
+    let another = [0u64; 334];
+    say(b"334 words");
     ask(&mut long, &another);
+    let one = [1u64; 1];
+    let mut single = [0u64; 213];
+    let mut same = [0u64; 213];
+    as_two(&mut single, &one);
+    as_two(&mut same, &one);
+    say(b"two nodes on one place");
+    ask(&mut single, &same);
+    let three = [1u64; 3];
+    let mut triple = [0u64; 453];
+    let mut again = [0u64; 453];
+    as_two(&mut triple, &three);
+    as_two(&mut again, &three);
+    say(b"two nodes on three places");
+    ask(&mut triple, &again);
+}
+
+// Start: 17 for a length that the number of stakes does not ask for, then 1.
+fn starts() {
+    let mut none = [0u64; 93];
+    let mut two = [0u64; 333];
+    let mut most = [0u64; 7773];
+    let mut beyond = [0u64; 7893];
+    let stakes = [1u64; 65];
+    say(b"no stakes on no place");
+    tell_start(start(&mut none, &stakes[..0], Node(0), 1));
+    say(b"no stakes on two places");
+    tell_start(start(&mut two, &stakes[..0], Node(0), 1));
+    say(b"one stake and genesis 0 on two places");
+    tell_start(start(&mut two, &stakes[..1], Node(0), 0));
+    say(b"two stakes and genesis 0 on two places");
+    tell_start(start(&mut two, &stakes[..2], Node(0), 0));
+    say(b"three stakes on two places");
+    tell_start(start(&mut two, &stakes[..3], Node(0), 1));
+    say(b"64 stakes on 64 places");
+    tell_start(start(&mut most, &stakes[..64], Node(63), 1));
+    say(b"65 stakes on 64 places");
+    tell_start(start(&mut most, &stakes, Node(0), 1));
+    say(b"65 stakes on 65 places");
+    tell_start(start(&mut beyond, &stakes, Node(0), 1));
 }
 
 fn main() {
     let mut sound = [0u64; RECORD_WORDS];
     let mut buffer = io::large_buffer();
-    say(b"start");
     begin(&mut sound);
     let got = libc::read(0, &mut buffer);
     let n = io::count(got, &buffer);
     lines(&buffer[..n], &mut sound);
     lengths();
+    starts();
 }

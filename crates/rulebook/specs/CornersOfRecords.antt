@@ -1,14 +1,15 @@
 -- Computed cases of 17: a record in range that has something in every place, and the same record with one place spoiled.
 use mathlib.Core.Bool.{Bool, true, false, not, _&&_}
-use mathlib.Core.List.{List, [], _∷_}
-use Prim.Native.Nat.{ℕ, _+_, _^_}
+use mathlib.Core.List.{List, [], _∷_, _++_}
+use Prim.Native.Nat.{ℕ, suc, _+_, _-_, _^_, min}
 use lib.ListN.{set, replicate}
 use lib.Dec.{T}
 use Rattle.rulebook.specs.declared.Cell.{Cell}
 use Rattle.rulebook.specs.declared.Block.{Block}
 use Rattle.rulebook.specs.declared.Input.{Input}
 use Rattle.rulebook.specs.PaperNumbers.{stepPanel}
-use Rattle.rulebook.specs.Ledger.{Ledger, Row, noBlock, rowAt, putRow, putCell, putKept, putTimedOut, putFinal}
+use Rattle.rulebook.specs.Weights.{lastSlot, windows}
+use Rattle.rulebook.specs.Ledger.{Ledger, blankRow, rowAt, putRow, putCell, putKept, putTimedOut, putFinal}
 use Rattle.rulebook.specs.WellFormed.{wellFormed, step}
 use Rattle.rulebook.specs.Scripts.{vote, cell, ring, equal, all}
 use Rattle.rulebook.specs.Computes.{rules}
@@ -35,15 +36,15 @@ cells =
     ∷ not (fits (cell 0 0 0 6 0 0 0)) ∷ not (fits (cell 0 0 0 0 6 0 0)) ∷ not (fits (cell 0 0 5 0 6 0 0))
     ∷ not (fits (cell 0 0 5 5 0 0 0)) ∷ not (fits (cell 0 0 5 6 6 0 0)) ∷ not (fits (cell 0 0 5 6 5 0 0)) ∷ not (withCell 16 1 (cell 0 2 0 0 0 0 0)) ∷ [])
 
--- The cell of no node, in slot s.
+-- The cell of node n in a slot that no vote is for.
 abbrev blankOnly : ℕ → ℕ → Bool
 blankOnly s n =
     all (not (withCell s n (cell 1 0 0 0 0 0 0)) ∷ not (withCell s n (cell 0 1 0 0 0 0 0)) ∷ not (withCell s n (cell 0 0 1 0 0 0 0)) ∷ not (withCell s n (cell 0 0 0 1 0 0 0))
     ∷ not (withCell s n (cell 0 0 0 0 1 0 0)) ∷ not (withCell s n (cell 0 0 0 0 0 1 0)) ∷ not (withCell s n (cell 0 0 0 0 0 0 1)) ∷ [])
 
--- Unused cells: the first and the last past the nodes, and those of row 0.
+-- Unused cells: those of row 0, the first and the last.
 abbrev unusedCells : Bool
-unusedCells = all (blankOnly 1 2 ∷ not (withCell 1 63 (cell 0 1 0 0 0 0 0)) ∷ blankOnly 0 0 ∷ not (withCell 0 63 (cell 0 1 0 0 0 0 0)) ∷ [])
+unusedCells = all (blankOnly 0 0 ∷ blankOnly 0 1 ∷ [])
 
 -- A kept block obeys 5 and 11; where none is kept its parent is 0 too.
 abbrev keptBlocks : Bool
@@ -68,9 +69,28 @@ abbrev heads : Bool
 heads =
     let a = odd .armed in
     let w = odd .stakes in
-    all (not (headed 0 0 0 1 a (replicate 64 0)) ∷ not (headed 3 10 0 1 a w) ∷ not (headed 1 6 0 1 a w) ∷ not (headed 2 9 0 1 a w) ∷ not (headed 2 11 0 1 a w)
+    all (not (headed 0 0 0 1 a []) ∷ not (headed 3 10 0 1 a (w ++ (0 ∷ []))) ∷ not (headed 1 6 0 1 a w) ∷ not (headed 2 9 0 1 a w) ∷ not (headed 2 11 0 1 a w)
     ∷ not (headed 2 10 2 1 a w) ∷ not (headed 2 10 0 0 a w) ∷ not (headed 2 10 0 1 (set a 0 2) w) ∷ not (headed 2 10 0 1 (set a 1 2) w) ∷ not (headed 2 10 0 1 (set a 2 2) w)
-    ∷ not (headed 2 10 0 1 (set a 3 2) w) ∷ not (headed 2 6 0 1 a (set w 1 0)) ∷ not (headed 2 10 0 1 a (set w 63 1)) ∷ not (headed 2 (2 ^ 48 + 1) 0 1 a (set (set w 0 (2 ^ 48)) 1 1)) ∷ [])
+    ∷ not (headed 2 10 0 1 (set a 3 2) w) ∷ not (headed 2 6 0 1 a (set w 1 0)) ∷ not (headed 2 10 0 1 a (w ++ (1 ∷ []))) ∷ not (headed 2 (2 ^ 48 + 1) 0 1 a (set (set w 0 (2 ^ 48)) 1 1)) ∷ [])
+
+-- A ring of n nodes of stake 1 whose record has p places.
+abbrev sized : ℕ → ℕ → Bool
+sized n p =
+    wellFormed
+    (record {
+      count = n;
+      total = n;
+      own = 0;
+      genesis = 1;
+      armed = replicate windows 0;
+      stakes = replicate (min n p) 1 ++ replicate (p - n) 0;
+      rows = replicate (suc lastSlot) (blankRow p);
+    })
+
+-- A record one place too long or too short for its count; a count above the limit has no record.
+abbrev lengths : Bool
+lengths =
+    all (sized 1 1 ∷ not (sized 1 2) ∷ not (sized 2 1) ∷ sized 2 2 ∷ not (sized 1 64) ∷ sized 64 64 ∷ not (sized 64 65) ∷ not (sized 64 63) ∷ not (sized 65 64) ∷ not (sized 65 65) ∷ [])
 
 -- 17 before 9, 9 before all else; 383 words are too few, 384 are enough.
 abbrev stepOrder : Bool
@@ -78,6 +98,6 @@ stepOrder =
     let number : Ledger → ℕ → Input → ℕ = (λ l room i. stepPanel (step l room i .answer) .number) in
     equal (number (putTimedOut odd 0) 0 (vote 9 0 0 0) ∷ number odd 383 (vote 9 0 0 0) ∷ number odd 384 (vote 9 0 0 0) ∷ []) (17 ∷ 9 ∷ 4 ∷ [])
 
-cornersOfRecords : T (all (cells ∷ unusedCells ∷ keptBlocks ∷ marks ∷ heads ∷ stepOrder ∷ []))
+cornersOfRecords : T (all (cells ∷ unusedCells ∷ keptBlocks ∷ marks ∷ heads ∷ lengths ∷ stepOrder ∷ []))
 unfolding rules
 cornersOfRecords = tt

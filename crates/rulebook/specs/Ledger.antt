@@ -6,7 +6,7 @@ use lib.ListN.{length, getD, set, replicate}
 use lib.Dec.{eqb}
 use Rattle.rulebook.specs.declared.Cell.{Cell}
 use Rattle.rulebook.specs.declared.Block.{Block}
-use Rattle.rulebook.specs.Weights.{mostNodes, lastSlot, windows, windowOf, totalTo}
+use Rattle.rulebook.specs.Weights.{placesFor, lastSlot, windows, windowOf, totalTo}
 
 -- One slot: the kept block with its parent, whether its timeout was taken, the block reported final, a cell for each node.
 pub record Row : Type 0 where
@@ -35,8 +35,16 @@ noCell =
 abbrev pub noBlock : Block
 noBlock = record { number = 0; parentslot = record { 0 = 0 }; parent = 0 }
 
+-- A row of so many places with nothing in it; one without a place stands for a slot that has none.
+unfoldable pub blankRow : ℕ → Row
+blankRow places = record { kept = noBlock; timedOut = 0; final = 0; cells = replicate places noCell }
+
 unfoldable pub noRow : Row
-noRow = record { kept = noBlock; timedOut = 0; final = 0; cells = replicate mostNodes noCell }
+noRow = blankRow 0
+
+-- The places that a ledger has for nodes.
+abbrev pub places : Ledger → ℕ
+places l = length (l .stakes)
 
 -- ---- reading
 
@@ -113,6 +121,6 @@ fresh stakes own genesis =
       own = own;
       genesis = genesis;
       armed = replicate windows 0;
-      stakes = stakes ++ replicate (mostNodes - length stakes) 0;
-      rows = replicate (suc lastSlot) noRow;
+      stakes = stakes ++ replicate (placesFor (length stakes) - length stakes) 0;
+      rows = replicate (suc lastSlot) (blankRow (placesFor (length stakes)));
     }

@@ -10,16 +10,16 @@ use Rattle.rulebook.specs.declared.Block.{Block}
 use Rattle.rulebook.specs.declared.Input.{Input}
 use Rattle.rulebook.specs.declared.Refusal.the-variants as refusal
 use Rattle.rulebook.specs.Tools.{given, allTo}
-use Rattle.rulebook.specs.Weights.{mostNodes, lastSlot, windows, stakeIn, stakesFit, totalTo}
-use Rattle.rulebook.specs.Ledger.{Ledger, Row, none, noRow, rowAt, cellAt}
+use Rattle.rulebook.specs.Weights.{placesFor, lastSlot, windows, stakeIn, stakesFit, totalTo}
+use Rattle.rulebook.specs.Ledger.{Ledger, none, places, rowAt, cellAt}
 use Rattle.rulebook.specs.Inputs.{Fed, refusedWith, feed, badParent}
 
--- The ledger has a place for every slot, node and window.
-pub record Shaped (l : Ledger) : Type 0 where
+-- The ledger has a row for every slot, a mark for every window, and p places for nodes wherever there are any.
+pub record Shaped (p : ℕ) (l : Ledger) : Type 0 where
   pub armed : length (l .armed) ≡ windows
-  pub stakes : length (l .stakes) ≡ mostNodes
+  pub stakes : length (l .stakes) ≡ p
   pub rows : length (l .rows) ≡ suc lastSlot
-  pub cells : (s : ℕ) → s < suc lastSlot → length (rowAt l s .cells) ≡ mostNodes
+  pub cells : (s : ℕ) → s < suc lastSlot → length (rowAt l s .cells) ≡ p
 
 -- A flag is 0 or 1.
 abbrev pub flag : ℕ → Bool
@@ -46,7 +46,7 @@ cellBlank c =
 
 -- "an unused place not zero": the cells past the last node are blank.
 unfoldable pub cellsFit : Ledger → ℕ → ℕ → Bool
-cellsFit l s used = allTo mostNodes (λ n. given (ltb n used) (cellBlank (cellAt l s n)) (λ _. cellFits (cellAt l s n)))
+cellsFit l s used = allTo (places l) (λ n. given (ltb n used) (cellBlank (cellAt l s n)) (λ _. cellFits (cellAt l s n)))
 
 -- A kept block has a parent that 5 and 11 let pass; where none is kept all is 0.
 unfoldable pub keptFits : Ledger → ℕ → Block → Bool
@@ -65,13 +65,15 @@ rowBlank l =
     (none (r .kept .number) && (none (r .kept .parentslot .0) && none (r .kept .parent)))
     && ((none (r .timedOut) && none (r .final)) && cellsFit l 0 0)
 
--- Count, own number, genesis, stakes and "a total that is not the sum".
+-- "node record of wrong length": as many places as the count asks for. Then count, own number, genesis, stakes and "a total that is not
+-- the sum".
 unfoldable pub headFits : Ledger → Bool
 headFits l =
-    (stakesFit (l .stakes) (l .count) && eqb (totalTo (l .stakes) (l .count)) (l .total))
+    eqb (places l) (placesFor (l .count))
+    && ((stakesFit (l .stakes) (l .count) && eqb (totalTo (l .stakes) (l .count)) (l .total))
     && ((ltb (l .own) (l .count) && not (none (l .genesis)))
     && (allTo windows (λ w. flag (getD (l .armed) w 0))
-    && allTo mostNodes (λ n. ltb n (l .count) || none (stakeIn (l .stakes) n))))
+    && allTo (places l) (λ n. ltb n (l .count) || none (stakeIn (l .stakes) n)))))
 
 -- Not 17.
 unfoldable pub wellFormed : Ledger → Bool

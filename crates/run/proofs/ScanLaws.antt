@@ -7,8 +7,9 @@ use lib.ListN.{length}
 use Rattle.rulebook.specs.Weights.{lastSlot, totalTo}
 use Rattle.rulebook.specs.Rules.{State}
 use Rattle.rulebook.specs.Run.{made, ruleAt, scan, run}
-use Rattle.record.specs.Layout.{ledgerOf}
+use Rattle.record.specs.Layout.{recordWords, placesIn, ledgerOf}
 use Rattle.record.specs.Tabled.{Tabled}
+use Rattle.record.proofs.Places.{places-words}
 use Rattle.settling.specs.Spare.{spare}
 use Rattle.settling.specs.Steps.{Passed, Running}
 use Rattle.settling.proofs.Spending.{rule-comes, scan-comes}
@@ -39,7 +40,7 @@ under-way h a =
       live = a .live;
       table =
           record {
-            few = omega (arith, h .few, e .count);
+            few = omega (arith, h .few, e .count, ap length (e .stakes));
             own = a .live .own;
             sum = (λ i. totalTo (e .stakes i) (e .count i)) ∙ h .sum ∙ sym (e .total);
             some = omega (arith, h .some, e .total);
@@ -49,6 +50,12 @@ under-way h a =
 
 pub under-way-at : {ws out : List ℕ} {at s : ℕ} → UnderWay ws out at → 1 ≤ s → s ≤ lastSlot → UnderWayAt ws out at s
 under-way-at v a b = record { live = record { live = v .live; low = a; high = b }; table = v .table }
+
+-- The words of one node are as many as before: its stakes tell the places.
+pub held-long : {ws out ws' left : List ℕ} {at now : ℕ} {q : State} → Live ws out at → Onward ws out at ws' left now q → length ws' ≡ length ws
+held-long {ws = ws} {ws' = ws'} v a =
+    let p : placesIn ws' ≡ placesIn ws = sym (places-words (placesIn ws') ws') ∙ ap length (a .same .stakes) ∙ places-words (placesIn ws) ws in
+    a .live .long ∙ ap recordWords p ∙ sym (v .long)
 
 -- As many records as the outbox holds.
 pub moved-made : {ws out ws' left : List ℕ} {at now : ℕ} {q : State} → Moved ws out at ws' left now q → made q ≡ now

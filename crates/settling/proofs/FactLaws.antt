@@ -8,10 +8,11 @@ use lib.Dec.{eqb, leb, ltb}
 use borrow.Author.Tests.{not-true, leb-true, le-leb, ltb-true, ltb-false, lt-ltb, le-ltb, eqb-true, eq-eqb}
 use Rattle.rulebook.specs.declared.Cell.{Cell}
 use Rattle.rulebook.specs.Tools.{given, allTo}
-use Rattle.rulebook.specs.Weights.{mostNodes, mostStake, lastSlot, windows, stakeIn, stakesFit, totalTo}
-use Rattle.rulebook.specs.Ledger.{Ledger, Row, none, noCell, rowAt, cellAt}
+use Rattle.rulebook.specs.Weights.{mostNodes, placesFor, mostStake, lastSlot, windows, stakeIn, stakesFit, totalTo}
+use Rattle.rulebook.specs.Ledger.{Ledger, Row, none, noCell, places, rowAt, cellAt}
 use Rattle.rulebook.specs.WellFormed.{flag, inOrder, cellFits, cellBlank, cellsFit, keptFits, rowFits, rowBlank, headFits, wellFormed}
 use Rattle.rulebook.proofs.ToolLaws.{given-on, given-off, and-both, both-and, or-left, or-right, or-cases, by-test, true-not-false, all-at, all-each}
+use Rattle.rulebook.proofs.PlaceLaws.{nodes-placed}
 use Rattle.settling.specs.Facts.{CellFacts, RowFacts, HeadFacts, Formed}
 
 -- ---- two tests, the second only where the first passes
@@ -70,8 +71,8 @@ row-facts l s e =
     record {
       kept = p .0;
       timedOut = leb-true (r .timedOut) 1 (q .0);
-      cells = λ n a b. sym (given-on (ltb n (l .count)) (cellBlank (cellAt l s n)) (λ _. cellFits (cellAt l s n)) (lt-ltb n (l .count) b)) ∙ all-at mostNodes n (cellOk r (l .count)) (q .1) a;
-      beyond = λ n a b. sym (given-off (ltb n (l .count)) (cellBlank (cellAt l s n)) (λ _. cellFits (cellAt l s n)) (le-ltb n (l .count) (omega arith))) ∙ all-at mostNodes n (cellOk r (l .count)) (q .1) a;
+      cells = λ n a b. sym (given-on (ltb n (l .count)) (cellBlank (cellAt l s n)) (λ _. cellFits (cellAt l s n)) (lt-ltb n (l .count) b)) ∙ all-at (places l) n (cellOk r (l .count)) (q .1) a;
+      beyond = λ n a b. sym (given-off (ltb n (l .count)) (cellBlank (cellAt l s n)) (λ _. cellFits (cellAt l s n)) (le-ltb n (l .count) (omega arith))) ∙ all-at (places l) n (cellOk r (l .count)) (q .1) a;
     }
 
 pub facts-row : (l : Ledger) (s : ℕ) → RowFacts l s (rowAt l s) → rowFits l s ≡ true
@@ -80,7 +81,7 @@ facts-row l s f =
     let r : Row = rowAt l s in
     both-and (keptFits l s (r .kept)) _ (f .kept)
     (both-and (flag (r .timedOut)) (cellsFit l s (l .count)) (le-leb (r .timedOut) 1 (f .timedOut))
-    (all-each mostNodes (cellOk r (l .count)) (λ n a.
+    (all-each (places l) (cellOk r (l .count)) (λ n a.
     by-test (ltb n (l .count))
     (λ t. given-on (ltb n (l .count)) (cellBlank (cellAt l s n)) (λ _. cellFits (cellAt l s n)) t ∙ f .cells n a (ltb-true n (l .count) t))
     (λ t. given-off (ltb n (l .count)) (cellBlank (cellAt l s n)) (λ _. cellFits (cellAt l s n)) t ∙ f .beyond n a (ltb-false n (l .count) t)))))
@@ -93,7 +94,8 @@ stakeOk l n = ltb n (l .count) || none (stakeIn (l .stakes) n)
 pub head-facts : (l : Ledger) → headFits l ≡ true → HeadFacts l
 unfolding headFits stakesFit
 head-facts l e =
-    let p = and-both (stakesFit (l .stakes) (l .count) && eqb (totalTo (l .stakes) (l .count)) (l .total)) _ e in
+    let z = and-both (eqb (places l) (placesFor (l .count))) _ e in
+    let p = and-both (stakesFit (l .stakes) (l .count) && eqb (totalTo (l .stakes) (l .count)) (l .total)) _ (z .1) in
     let q = and-both (stakesFit (l .stakes) (l .count)) (eqb (totalTo (l .stakes) (l .count)) (l .total)) (p .0) in
     let sizes = and-both (leb 1 (l .count) && leb (l .count) mostNodes) _ (q .0) in
     let size = and-both (leb 1 (l .count)) (leb (l .count) mostNodes) (sizes .0) in
@@ -101,8 +103,9 @@ head-facts l e =
     let sum : totalTo (l .stakes) (l .count) ≡ l .total = eqb-true (totalTo (l .stakes) (l .count)) (l .total) (q .1) in
     let r = and-both (ltb (l .own) (l .count) && not (none (l .genesis))) _ (p .1) in
     let own = and-both (ltb (l .own) (l .count)) (not (none (l .genesis))) (r .0) in
-    let rest = and-both (allTo windows (λ w. flag (getD (l .armed) w 0))) (allTo mostNodes (stakeOk l)) (r .1) in
+    let rest = and-both (allTo windows (λ w. flag (getD (l .armed) w 0))) (allTo (places l) (stakeOk l)) (r .1) in
     record {
+      room = eqb-true (places l) (placesFor (l .count)) (z .0);
       some = leb-true 1 (l .count) (size .0);
       few = leb-true (l .count) mostNodes (size .1);
       staked = λ n h. leb-true 1 (stakeIn (l .stakes) n) (all-at (l .count) n (λ n. leb 1 (stakeIn (l .stakes) n)) (stakes .0) h);
@@ -112,14 +115,15 @@ head-facts l e =
       genesis = not-true (none (l .genesis)) (own .1);
       armed = λ w h. leb-true (getD (l .armed) w 0) 1 (all-at windows w (λ w. flag (getD (l .armed) w 0)) (rest .0) h);
       unused = λ n a b.
-          or-cases (ltb n (l .count)) (none (stakeIn (l .stakes) n)) (all-at mostNodes n (stakeOk l) (rest .1) a)
+          or-cases (ltb n (l .count)) (none (stakeIn (l .stakes) n)) (all-at (places l) n (stakeOk l) (rest .1) a)
           (λ t. true-not-false (ltb n (l .count)) t (le-ltb n (l .count) b)) (λ t. eqb-true (stakeIn (l .stakes) n) 0 t);
     }
 
 pub facts-head : (l : Ledger) → HeadFacts l → headFits l ≡ true
 unfolding headFits stakesFit
 facts-head l f =
-    both-and (stakesFit (l .stakes) (l .count) && eqb (totalTo (l .stakes) (l .count)) (l .total)) _
+    both-and (eqb (places l) (placesFor (l .count))) _ (eq-eqb (places l) (placesFor (l .count)) (f .room))
+    (both-and (stakesFit (l .stakes) (l .count) && eqb (totalTo (l .stakes) (l .count)) (l .total)) _
     (both-and (stakesFit (l .stakes) (l .count)) (eqb (totalTo (l .stakes) (l .count)) (l .total))
     (both-and (leb 1 (l .count) && leb (l .count) mostNodes) _
     (both-and (leb 1 (l .count)) (leb (l .count) mostNodes) (le-leb 1 (l .count) (f .some)) (le-leb (l .count) mostNodes (f .few)))
@@ -129,11 +133,15 @@ facts-head l f =
     (eq-eqb (totalTo (l .stakes) (l .count)) (l .total) (f .sum)))
     (both-and (ltb (l .own) (l .count) && not (none (l .genesis))) _
     (both-and (ltb (l .own) (l .count)) (not (none (l .genesis))) (lt-ltb (l .own) (l .count) (f .mine)) (ap not (f .genesis)))
-    (both-and (allTo windows (λ w. flag (getD (l .armed) w 0))) (allTo mostNodes (stakeOk l))
+    (both-and (allTo windows (λ w. flag (getD (l .armed) w 0))) (allTo (places l) (stakeOk l))
     (all-each windows (λ w. flag (getD (l .armed) w 0)) (λ w h. le-leb (getD (l .armed) w 0) 1 (f .armed w h)))
-    (all-each mostNodes (stakeOk l) (λ n a.
+    (all-each (places l) (stakeOk l) (λ n a.
     by-test (ltb n (l .count)) (λ t. or-left (ltb n (l .count)) (none (stakeIn (l .stakes) n)) t)
-    (λ t. or-right (ltb n (l .count)) (none (stakeIn (l .stakes) n)) (eq-eqb (stakeIn (l .stakes) n) 0 (f .unused n a (ltb-false n (l .count) t))))))))
+    (λ t. or-right (ltb n (l .count)) (none (stakeIn (l .stakes) n)) (eq-eqb (stakeIn (l .stakes) n) 0 (f .unused n a (ltb-false n (l .count) t)))))))))
+
+-- Every node has a place.
+pub count-placed : (l : Ledger) → HeadFacts l → l .count ≤ places l
+count-placed l f = omega (arith, f .room, nodes-placed (l .count) (f .few))
 
 -- ---- the whole
 

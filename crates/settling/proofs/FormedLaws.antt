@@ -13,8 +13,8 @@ use Rattle.rulebook.specs.declared.VoteKind.{VoteKind}
 use Rattle.rulebook.specs.declared.VoteKind.the-variants as vote
 use Rattle.rulebook.specs.declared.Place.the-variants.{Free}
 use Rattle.rulebook.specs.Tools.{given, allTo}
-use Rattle.rulebook.specs.Weights.{mostNodes, lastSlot, windowOf}
-use Rattle.rulebook.specs.Ledger.{Ledger, Row, none, noCell, noInitial, rowAt, cellAt, putRow, putKept, putTimedOut, putFinal, putArmed}
+use Rattle.rulebook.specs.Weights.{lastSlot, windowOf}
+use Rattle.rulebook.specs.Ledger.{Ledger, Row, none, noCell, noInitial, places, rowAt, cellAt, putRow, putKept, putTimedOut, putFinal, putArmed}
 use Rattle.rulebook.specs.Pool.{hasFallback}
 use Rattle.rulebook.specs.Votes.{placeOf, withVote, fillFallback, storeVote}
 use Rattle.rulebook.specs.Inputs.{badParent}
@@ -24,7 +24,7 @@ use Rattle.settling.specs.Facts.{CellFacts, RowFacts, Formed}
 use Rattle.settling.specs.Steps.{BlockFine}
 use Rattle.settling.proofs.Places.{row-else, row-cases, cell-cases, window-low}
 use Rattle.settling.proofs.VoteLaws.{place-free}
-use Rattle.settling.proofs.FactLaws.{cell-facts, facts-cell}
+use Rattle.settling.proofs.FactLaws.{count-placed, cell-facts, facts-cell}
 
 -- ---- a cell
 
@@ -147,27 +147,27 @@ unfolding keptFits badParent
 kept-same l m s b e = rw e
 
 -- So the facts of a row are the same in a ledger with the same genesis and count.
-pub row-same : (l m : Ledger) (s : ℕ) (r : Row) → m .genesis ≡ l .genesis → m .count ≡ l .count → RowFacts l s r → RowFacts m s r
-row-same l m s r g n f =
+pub row-same : (l m : Ledger) (s : ℕ) (r : Row) → m .genesis ≡ l .genesis → m .count ≡ l .count → places m ≡ places l → RowFacts l s r → RowFacts m s r
+row-same l m s r g n k f =
     record {
       kept = kept-same l m s (r .kept) g ∙ f .kept;
       timedOut = f .timedOut;
-      cells = λ i a b. f .cells i a (omega arith);
-      beyond = λ i a b. f .beyond i a (omega arith);
+      cells = λ i a b. f .cells i (omega arith) (omega arith);
+      beyond = λ i a b. f .beyond i (omega arith) (omega arith);
     }
 
 -- The test of row 0, said of the row.
-abbrev blankOf : Row → Bool
-blankOf r =
+abbrev blankOf : ℕ → Row → Bool
+blankOf p r =
     (none (r .kept .number) && (none (r .kept .parentslot .0) && none (r .kept .parent)))
     && ((none (r .timedOut) && none (r .final))
-    && allTo mostNodes (λ n. given (ltb n 0) (cellBlank (getD (r .cells) n noCell)) (λ _. cellFits (getD (r .cells) n noCell))))
+    && allTo p (λ n. given (ltb n 0) (cellBlank (getD (r .cells) n noCell)) (λ _. cellFits (getD (r .cells) n noCell))))
 
-blank-is : (l : Ledger) → rowBlank l ≡ blankOf (rowAt l 0)
+blank-is : (l : Ledger) → rowBlank l ≡ blankOf (places l) (rowAt l 0)
 unfolding rowBlank cellsFit
 blank-is l = refl
 
-module _ (l : Ledger) (h : Shaped l) (f : Formed l) where
+module _ (l : Ledger) (h : Shaped (places l) l) (f : Formed l) where
   -- A row in range written to a slot.
   pub formed-row : (s : ℕ) (r : Row) → 1 ≤ s → s ≤ lastSlot → RowFacts l s r → Formed (putRow l s r)
   formed-row s r a b g =
@@ -176,6 +176,7 @@ module _ (l : Ledger) (h : Shaped l) (f : Formed l) where
       record {
         head =
             record {
+              room = d .room;
               some = d .some;
               few = d .few;
               staked = d .staked;
@@ -186,9 +187,9 @@ module _ (l : Ledger) (h : Shaped l) (f : Formed l) where
               armed = d .armed;
               unused = d .unused;
             };
-        blank = blank-is m ∙ ap blankOf (row-else l s r 0 (λ e. omega arith)) ∙ sym (blank-is l) ∙ f .blank;
+        blank = blank-is m ∙ ap (blankOf (places l)) (row-else l s r 0 (λ e. omega arith)) ∙ sym (blank-is l) ∙ f .blank;
         rows = λ t p q.
-            row-same l m t (rowAt m t) refl refl
+            row-same l m t (rowAt m t) refl refl refl
             (row-cases l s r (RowFacts l) t (omega (arith, h .rows)) g (λ _. f .rows t p q));
       }
 
@@ -200,7 +201,7 @@ module _ (l : Ledger) (h : Shaped l) (f : Formed l) where
         let r : Row = rowAt l s in
         let c : Cell = withVote (cellAt l s n) k x in
         let g = f .rows s a b in
-        let few = f .head .few in
+        let few = count-placed l (f .head) in
         let long : n < length (r .cells) = omega (arith, h .cells s (omega arith)) in
         formed-row s (record { kept = r .kept; timedOut = r .timedOut; final = r .final; cells = set (r .cells) n c }) a b
         (record {
@@ -244,6 +245,7 @@ module _ (l : Ledger) (h : Shaped l) (f : Formed l) where
         record {
           head =
               record {
+                room = d .room;
                 some = d .some;
                 few = d .few;
                 staked = d .staked;
@@ -258,7 +260,7 @@ module _ (l : Ledger) (h : Shaped l) (f : Formed l) where
                 unused = d .unused;
               };
           blank = blank-is m ∙ sym (blank-is l) ∙ f .blank;
-          rows = λ t p q. row-same l m t (rowAt l t) refl refl (f .rows t p q);
+          rows = λ t p q. row-same l m t (rowAt l t) refl refl refl (f .rows t p q);
         }
 
 -- An accepted block may be kept.

@@ -1,5 +1,5 @@
 -- A node makes at most 116 records in its life, whatever it is fed.
-use mathlib.Core.Path.{_≡_, refl, _∙_}
+use mathlib.Core.Path.{_≡_, refl, ap, _∙_}
 use mathlib.Core.List.{List, [], _∷_}
 use Prim.Native.Nat.{ℕ, _<_, _≤_}
 use native.Mathlib.Omega.{arith}
@@ -12,8 +12,8 @@ use Rattle.rulebook.specs.declared.Input.the-variants as input
 use Rattle.rulebook.specs.declared.Refusal.the-variants as refusal
 use Rattle.rulebook.specs.declared.Verdict.{Verdict}
 use Rattle.rulebook.specs.declared.Verdict.the-variants.{Fine, Refused}
-use Rattle.rulebook.specs.Weights.{mostNodes, lastSlot}
-use Rattle.rulebook.specs.Ledger.{Ledger, Row, noInitial, rowAt, ownCell, putKept, putTimedOut}
+use Rattle.rulebook.specs.Weights.{lastSlot}
+use Rattle.rulebook.specs.Ledger.{Ledger, Row, noInitial, places, rowAt, ownCell, putKept, putTimedOut}
 use Rattle.rulebook.specs.Votes.{storeVote}
 use Rattle.rulebook.specs.Rules.{State, stateOf, castSkips}
 use Rattle.rulebook.specs.Run.{mostRecords, made, run}
@@ -64,12 +64,12 @@ module _ (l : Ledger) (h : Placed l) where
         placed =
             record {
               shaped = stored-shaped l (v .slot .0) (v .node .0) (v .kind) (v .block) (h .shaped) (f .high);
-              mine = omega (arith, same .own, h .mine);
+              mine = omega (arith, same .own, ap length (same .stakes), h .mine);
             };
         same = same;
       }
 
-  pub kept-shaped : (s : ℕ) (b : Block) → s ≤ lastSlot → Shaped (putKept l s b)
+  pub kept-shaped : (s : ℕ) (b : Block) → s ≤ lastSlot → Shaped (places (putKept l s b)) (putKept l s b)
   kept-shaped s b a =
       let r : Row = rowAt l s in
       shaped-row l s (record { kept = b; timedOut = r .timedOut; final = r .final; cells = r .cells }) (h .shaped) a (h .shaped .cells s (omega arith))
@@ -82,7 +82,7 @@ module _ (l : Ledger) (h : Placed l) where
         same = record { own = refl; count = refl; total = refl; genesis = refl; stakes = refl };
       }
 
-  pub timedOut-shaped : (s : ℕ) → s ≤ lastSlot → Shaped (putTimedOut l s)
+  pub timedOut-shaped : (s : ℕ) → s ≤ lastSlot → Shaped (places (putTimedOut l s)) (putTimedOut l s)
   timedOut-shaped s a =
       let r : Row = rowAt l s in
       shaped-row l s (record { kept = r .kept; timedOut = 1; final = r .final; cells = r .cells }) (h .shaped) a (h .shaped .cells s (omega arith))
@@ -167,6 +167,6 @@ life-paid l (i ∷ is) h =
     }
 
 -- "a node makes at most 116 records in its life".
-pub life-within : (l : Ledger) (is : List Input) → Shaped l → l .own < l .count → l .count ≤ mostNodes → length (life l is) ≤ mostRecords
+pub life-within : (l : Ledger) (is : List Input) → Shaped (places l) l → l .own < l .count → l .count ≤ places l → length (life l is) ≤ mostRecords
 life-within l is h own count =
     paid-within l (after l is) (length (life l is)) (life-paid l is (record { shaped = h; mine = omega arith }))

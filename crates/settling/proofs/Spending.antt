@@ -9,7 +9,7 @@ use Rattle.rulebook.specs.declared.Cell.{Cell}
 use Rattle.rulebook.specs.declared.VoteKind.{VoteKind}
 use Rattle.rulebook.specs.Weights.{lastSlot}
 use Rattle.rulebook.specs.PaperNumbers.{voteNumber}
-use Rattle.rulebook.specs.Ledger.{Ledger, Row, rowAt, cellAt, putArmed, putFinal}
+use Rattle.rulebook.specs.Ledger.{Ledger, Row, places, rowAt, cellAt, putArmed, putFinal}
 use Rattle.rulebook.specs.Votes.{withVote, storeVote}
 use Rattle.rulebook.specs.Rules.{Record, State, recordOf, report, cast, castSkips, ruleA, ruleB, ruleC, ruleD, ruleE, ruleF}
 use Rattle.rulebook.specs.Run.{made, ruleAt, firstRule, firstSlot, scan, runFor, run}
@@ -25,7 +25,7 @@ use Rattle.settling.proofs.LawfulRules.{skips-keep, A-keeps, B-keeps, C
 pub same-node : (l : Ledger) → SameNode l l
 same-node l = record { own = refl; count = refl; total = refl; genesis = refl; stakes = refl }
 
-pub stored-shaped : (l : Ledger) (s n : ℕ) (k : VoteKind) (b : ℕ) → Shaped l → s ≤ lastSlot → Shaped (storeVote l s n k b)
+pub stored-shaped : (l : Ledger) (s n : ℕ) (k : VoteKind) (b : ℕ) → Shaped (places l) l → s ≤ lastSlot → Shaped (places (storeVote l s n k b)) (storeVote l s n k b)
 unfolding storeVote
 stored-shaped l s n k b h a =
     let r : Row = rowAt l s in
@@ -47,14 +47,14 @@ pub came-more : (o p : State) → Came o p → made o ≤ made p
 came-more o p c = omega (arith, ap (λ (rs : List Record). length rs) (c .grown), length-append (c .fresh) (o .records))
 
 -- A record more: the ledger that it leaves has one less to spend.
-came-one : (o p : State) (l : Ledger) (k s b : ℕ) → Came o p → Shaped l → SameNode (p .ledger) l → spare l + 1 ≡ spare (p .ledger) → Came o (report p l k s b)
+came-one : (o p : State) (l : Ledger) (k s b : ℕ) → Came o p → Shaped (places l) l → SameNode (p .ledger) l → spare l + 1 ≡ spare (p .ledger) → Came o (report p l k s b)
 came-one o p l k s b c h n e =
     record {
       fresh = recordOf k s b ∷ c .fresh;
       grown = ap (λ (rs : List Record). recordOf k s b ∷ rs) (c .grown);
       spent = omega (arith, c .spent);
       still = λ q. absurd (omega (arith, came-more o p c));
-      placed = record { shaped = h; mine = omega (arith, n .own, c .placed .mine) };
+      placed = record { shaped = h; mine = omega (arith, n .own, ap length (n .stakes), c .placed .mine) };
       same =
           record {
             own = n .own ∙ c .same .own;

@@ -4,18 +4,19 @@ use mathlib.Core.Bool.{true, false, not, _&&_, _||_}
 use mathlib.Core.List.{List, [], _∷_, _++_}
 use Prim.Native.Nat.{ℕ, zero, suc, _+_, _-_, _<_, _≤_}
 use native.Mathlib.Omega.{arith}
-use lib.ListN.{length, getD, replicate, length-append, length-replicate, List·getD-append}
+use lib.ListN.{length, getD, replicate, length-append, length-replicate, List·getD-append, getD-replicate}
 use lib.Dec.{leb, ltb}
 use borrow.Author.Tests.{not-false, leb-true, leb-false, le-ltb}
 use Rattle.rulebook.specs.declared.Input.{Input}
 use Rattle.rulebook.specs.declared.Refusal.the-variants as refusal
 use Rattle.rulebook.specs.declared.Verdict.the-variants.{Fine}
 use Rattle.rulebook.specs.Tools.{given, allTo}
-use Rattle.rulebook.specs.Weights.{mostNodes, mostStake, lastSlot, windows, stakeIn, stakesFit, totalTo}
-use Rattle.rulebook.specs.Ledger.{Ledger, Row, none, noCell, noRow, rowAt, fresh}
+use Rattle.rulebook.specs.Weights.{mostNodes, placesFor, mostStake, lastSlot, windows, stakeIn, stakesFit, totalTo}
+use Rattle.rulebook.specs.Ledger.{Ledger, Row, none, noCell, blankRow, noRow, places, rowAt, fresh}
 use Rattle.rulebook.specs.Run.{mostRecords}
 use Rattle.rulebook.specs.Inputs.{startVerdict}
 use Rattle.rulebook.specs.WellFormed.{Shaped, inOrder, cellFits, cellBlank, cellsFit, keptFits, rowBlank}
+use Rattle.rulebook.proofs.PlaceLaws.{nodes-placed}
 use Rattle.rulebook.proofs.ToolLaws.{given-off, and-both, or-none, all-at, all-each, sum-same}
 use Rattle.settling.specs.Facts.{RowFacts, Formed, Sound}
 use Rattle.settling.specs.Steps.{after, life}
@@ -33,13 +34,13 @@ replicate-all (suc n) (suc i) x = replicate-all n i x
 
 -- ---- the blank row
 
-blank-cell : (n : ℕ) → getD (noRow .cells) n noCell ≡ noCell
-unfolding noRow
-blank-cell n = replicate-all mostNodes n noCell
+blank-cell : (p n : ℕ) → getD (blankRow p .cells) n noCell ≡ noCell
+unfolding blankRow
+blank-cell p n = replicate-all p n noCell
 
-blank-long : length (noRow .cells) ≡ mostNodes
-unfolding noRow
-blank-long = length-replicate mostNodes noCell
+blank-long : (p : ℕ) → length (blankRow p .cells) ≡ p
+unfolding blankRow
+blank-long p = length-replicate p noCell
 
 no-cell-fits : cellFits noCell ≡ true
 unfolding cellFits inOrder
@@ -49,24 +50,24 @@ no-cell-blank : cellBlank noCell ≡ true
 unfolding cellBlank
 no-cell-blank = refl
 
-blank-facts : (l : Ledger) (s : ℕ) → RowFacts l s noRow
-unfolding noRow keptFits given
-blank-facts l s =
+blank-facts : (l : Ledger) (s p : ℕ) → RowFacts l s (blankRow p)
+unfolding blankRow keptFits given
+blank-facts l s p =
     record {
       kept = refl;
       timedOut = omega arith;
-      cells = λ n a b. ap cellFits (blank-cell n) ∙ no-cell-fits;
-      beyond = λ n a b. ap cellBlank (blank-cell n) ∙ no-cell-blank;
+      cells = λ n a b. ap cellFits (blank-cell p n) ∙ no-cell-fits;
+      beyond = λ n a b. ap cellBlank (blank-cell p n) ∙ no-cell-blank;
     }
 
-row-zero : (l : Ledger) → rowAt l 0 ≡ noRow → rowBlank l ≡ true
-unfolding rowBlank cellsFit noRow
-row-zero l e =
+row-zero : (l : Ledger) (p : ℕ) → rowAt l 0 ≡ blankRow p → rowBlank l ≡ true
+unfolding rowBlank cellsFit blankRow
+row-zero l p e =
     rw e
-    (all-each mostNodes (λ n. given (ltb n 0) (cellBlank (getD (noRow .cells) n noCell)) (λ _. cellFits (getD (noRow .cells) n noCell)))
-    (λ n a. given-off (ltb n 0) (cellBlank (getD (noRow .cells) n noCell)) (λ _. cellFits (getD (noRow .cells) n noCell)) (le-ltb n 0 (omega arith)) ∙ ap cellBlank (blank-cell n) ∙ no-cell-blank))
+    (all-each (places l) (λ n. given (ltb n 0) (cellBlank (getD (blankRow p .cells) n noCell)) (λ _. cellFits (getD (blankRow p .cells) n noCell)))
+    (λ n a. given-off (ltb n 0) (cellBlank (getD (blankRow p .cells) n noCell)) (λ _. cellFits (getD (blankRow p .cells) n noCell)) (le-ltb n 0 (omega arith)) ∙ ap cellBlank (blank-cell p n) ∙ no-cell-blank))
 
--- ---- the stakes in their 64 places
+-- ---- the stakes in their places
 
 -- Past the nodes there is no stake.
 pub stake-past : (ws : List ℕ) (k n : ℕ) → length ws ≤ n → stakeIn (ws ++ replicate k 0) n ≡ 0
@@ -98,13 +99,15 @@ module _ (stakes : List ℕ) (own genesis : ℕ) (e : startVerdict stakes own ge
   unfolding fresh stakesFit
   fresh-formed =
       let l : Ledger = fresh stakes own genesis in
-      let k : ℕ = mostNodes - length stakes in
+      let p : ℕ = placesFor (length stakes) in
+      let k : ℕ = placesFor (length stakes) - length stakes in
       let sizes = and-both (leb 1 (length stakes) && leb (length stakes) mostNodes) _ (start-fine .0) in
       let size = and-both (leb 1 (length stakes)) (leb (length stakes) mostNodes) (sizes .0) in
       let each = and-both (allTo (length stakes) (λ n. leb 1 (stakeIn stakes n))) (leb (totalTo stakes (length stakes)) mostStake) (sizes .1) in
       record {
         head =
             record {
+              room = length-append stakes (replicate k 0) ∙ omega (arith, length-replicate {A = ℕ} k 0, nodes-placed (length stakes) (leb-true (length stakes) mostNodes (size .1)));
               some = leb-true 1 (length stakes) (size .0);
               few = leb-true (length stakes) mostNodes (size .1);
               staked = λ n h. subst (λ (w : ℕ). 1 ≤ w) (sym (stake-there stakes k n h)) (leb-true 1 (stakeIn stakes n) (all-at (length stakes) n (λ n. leb 1 (stakeIn stakes n)) (each .0) h));
@@ -115,20 +118,21 @@ module _ (stakes : List ℕ) (own genesis : ℕ) (e : startVerdict stakes own ge
               armed = λ w h. omega (arith, replicate-all {A = ℕ} windows w 0);
               unused = λ n a b. stake-past stakes k n b;
             };
-        blank = row-zero l (replicate-all (suc lastSlot) 0 noRow);
-        rows = λ s a b. subst (RowFacts l s) (sym (replicate-all (suc lastSlot) s noRow)) (blank-facts l s);
+        blank = row-zero l p (getD-replicate (suc lastSlot) 0 (blankRow p) noRow (omega arith));
+        rows = λ s a b. subst (RowFacts l s) (sym (getD-replicate (suc lastSlot) s (blankRow p) noRow (omega arith))) (blank-facts l s p);
       }
 
-  pub fresh-shaped : Shaped (fresh stakes own genesis)
+  pub fresh-shaped : Shaped (places (fresh stakes own genesis)) (fresh stakes own genesis)
   unfolding fresh stakesFit
   fresh-shaped =
-      let k : ℕ = mostNodes - length stakes in
+      let p : ℕ = placesFor (length stakes) in
+      let k : ℕ = placesFor (length stakes) - length stakes in
       let few = fresh-formed .head .few in
       record {
         armed = length-replicate {A = ℕ} windows 0;
-        stakes = length-append stakes (replicate k 0) ∙ omega (arith, length-replicate {A = ℕ} k 0, few);
-        rows = length-replicate (suc lastSlot) noRow;
-        cells = λ s h. ap (λ (r : Row). length (r .cells)) (replicate-all (suc lastSlot) s noRow) ∙ blank-long;
+        stakes = refl;
+        rows = length-replicate (suc lastSlot) (blankRow p);
+        cells = λ s h. ap (λ (r : Row). length (r .cells)) (getD-replicate (suc lastSlot) s (blankRow p) noRow h) ∙ blank-long p ∙ sym (fresh-formed .head .room);
       }
 
   -- A node that starts is sound.

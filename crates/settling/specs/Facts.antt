@@ -5,8 +5,8 @@ use Prim.Native.Nat.{ℕ, _<_, _≤_}
 use lib.ListN.{getD}
 use lib.Dec.{eqb}
 use Rattle.rulebook.specs.declared.Cell.{Cell}
-use Rattle.rulebook.specs.Weights.{mostNodes, mostStake, lastSlot, windows, stakeIn, totalTo}
-use Rattle.rulebook.specs.Ledger.{Ledger, Row, none, noCell, rowAt}
+use Rattle.rulebook.specs.Weights.{mostNodes, placesFor, mostStake, lastSlot, windows, stakeIn, totalTo}
+use Rattle.rulebook.specs.Ledger.{Ledger, Row, none, noCell, places, rowAt}
 use Rattle.rulebook.specs.WellFormed.{Shaped, inOrder, cellFits, cellBlank, keptFits, rowBlank, wellFormed}
 
 -- A cell in range.
@@ -23,11 +23,12 @@ pub record CellFacts (c : Cell) : Type 0 where
 pub record RowFacts (l : Ledger) (s : ℕ) (r : Row) : Type 0 where
   pub kept : keptFits l s (r .kept) ≡ true
   pub timedOut : r .timedOut ≤ 1
-  pub cells : (n : ℕ) → n < mostNodes → n < l .count → cellFits (getD (r .cells) n noCell) ≡ true
-  pub beyond : (n : ℕ) → n < mostNodes → l .count ≤ n → cellBlank (getD (r .cells) n noCell) ≡ true
+  pub cells : (n : ℕ) → n < places l → n < l .count → cellFits (getD (r .cells) n noCell) ≡ true
+  pub beyond : (n : ℕ) → n < places l → l .count ≤ n → cellBlank (getD (r .cells) n noCell) ≡ true
 
 -- Count, own number, genesis, stakes, total and armed windows in range.
 pub record HeadFacts (l : Ledger) : Type 0 where
+  pub room : places l ≡ placesFor (l .count)
   pub some : 1 ≤ l .count
   pub few : l .count ≤ mostNodes
   pub staked : (n : ℕ) → n < l .count → 1 ≤ stakeIn (l .stakes) n
@@ -36,7 +37,7 @@ pub record HeadFacts (l : Ledger) : Type 0 where
   pub mine : l .own < l .count
   pub genesis : none (l .genesis) ≡ false
   pub armed : (w : ℕ) → w < windows → getD (l .armed) w 0 ≤ 1
-  pub unused : (n : ℕ) → n < mostNodes → l .count ≤ n → stakeIn (l .stakes) n ≡ 0
+  pub unused : (n : ℕ) → n < places l → l .count ≤ n → stakeIn (l .stakes) n ≡ 0
 
 -- Well-formed.
 pub record Formed (l : Ledger) : Type 0 where
@@ -46,5 +47,5 @@ pub record Formed (l : Ledger) : Type 0 where
 
 -- A ledger of the right shape that 17 lets pass: what every call finds and leaves.
 pub record Sound (l : Ledger) : Type 0 where
-  pub shaped : Shaped l
+  pub shaped : Shaped (places l) l
   pub formed : wellFormed l ≡ true

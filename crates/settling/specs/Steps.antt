@@ -8,8 +8,8 @@ use Rattle.rulebook.specs.declared.Vote.{Vote}
 use Rattle.rulebook.specs.declared.VoteKind.{VoteKind}
 use Rattle.rulebook.specs.declared.Place.the-variants.{Free}
 use Rattle.rulebook.specs.declared.Input.{Input}
-use Rattle.rulebook.specs.Weights.{mostNodes, lastSlot}
-use Rattle.rulebook.specs.Ledger.{Ledger, none, rowAt, cellAt, ownCell, isArmed, putArmed, putFinal}
+use Rattle.rulebook.specs.Weights.{lastSlot}
+use Rattle.rulebook.specs.Ledger.{Ledger, none, places, rowAt, cellAt, ownCell, isArmed, putArmed, putFinal}
 use Rattle.rulebook.specs.Votes.{placeOf}
 use Rattle.rulebook.specs.Rules.{Record, State, report, cast}
 use Rattle.rulebook.specs.Run.{made, ruleAt, runFor, run}
@@ -19,8 +19,8 @@ use Rattle.settling.specs.Spare.{spare}
 
 -- A ledger with a place for everything, the own cells among them: all that settling asks.
 pub record Placed (l : Ledger) : Type 0 where
-  pub shaped : Shaped l
-  pub mine : l .own < mostNodes
+  pub shaped : Shaped (places l) l
+  pub mine : l .own < places l
 
 -- The two ledgers are of one node: nothing of its head but the armed windows has moved.
 pub record SameNode (l m : Ledger) : Type 0 where

@@ -7,17 +7,18 @@ use Prim.Native.Nat.{ℕ, zero, suc, _+_, _≤_, _<_}
 use native.Mathlib.Omega.{arith}
 use lib.ListN.{length, getD, replicate, length-replicate, List·getD-eq-default, getD-replicate}
 use lib.Dec.{eqb, leb, ltb}
-use borrow.Author.Tests.{eq-eqb, ne-eqb, ltb-true, ltb-false, lt-ltb, le-ltb, leb-true, eqb-true, eqb-false}
+use borrow.Author.Tests.{not-true, not-false, ltb-true, ltb-false, lt-ltb, le-ltb, leb-true, eqb-true, eqb-false}
 use Rattle.rulebook.specs.declared.Cell.{Cell}
 use Rattle.rulebook.specs.declared.CertificateKind.the-variants as certificate
 use Rattle.rulebook.specs.Tools.{choose, given, someTo, lower, lowest}
-use Rattle.rulebook.specs.Weights.{mostNodes, lastSlot, slotOk}
-use Rattle.rulebook.specs.Ledger.{Ledger, Row, none, noRow, noCell, rowAt, cellAt}
+use Rattle.rulebook.specs.Weights.{lastSlot, slotOk}
+use Rattle.rulebook.specs.Ledger.{Ledger, Row, none, blankRow, noRow, noCell, places, rowAt, cellAt}
 use Rattle.rulebook.specs.Pool.{named, namesTo, names}
 use Rattle.rulebook.specs.WellFormed.{cellBlank}
 use Rattle.rulebook.proofs.ToolLaws.{by-test, given-on, given-off, and-both, both-and, some-none, some-more}
-use Rattle.record.specs.Layout.{recordWords, ledgerOf}
+use Rattle.record.specs.Layout.{isLong, Long, ledgerOf}
 use Rattle.record.specs.Setting.{noLedger}
+use Rattle.record.proofs.Places.{long-true}
 use Rattle.record.proofs.Reading.{ledger-shaped}
 use Rattle.pool.proofs.NameLaws.{names-none, names-more}
 use Rattle.candidates.proofs.LowestLaws.{lower-off, lowest-none, lowest-skip, lowest-take}
@@ -68,22 +69,21 @@ getD-same n i d =
     by-test (ltb i n) (λ t. getD-replicate n i d d (ltb-true i n t))
     (λ t. List·getD-eq-default (replicate n d) d (omega (arith, ltb-false i n t, length-replicate n d)))
 
--- A row with nothing in it has a cell with nothing in it for each node.
+-- A row with nothing in it has nothing in a cell for any node.
 blank-cell : (r : Row) (n : ℕ) → r ≡ noRow → getD (r .cells) n noCell ≡ noCell
-unfolding noRow
-blank-cell r n e = ap (λ (q : Row). getD (q .cells) n noCell) e ∙ getD-same mostNodes n noCell
+unfolding noRow blankRow
+blank-cell r n e = ap (λ (q : Row). getD (q .cells) n noCell) e
 
-none-row : (s : ℕ) → rowAt noLedger s ≡ noRow
-unfolding noLedger
+none-row : (s : ℕ) → rowAt (noLedger 0) s ≡ noRow
+unfolding noLedger noRow
 none-row s = getD-same (suc lastSlot) s noRow
 
-module _ (ws : List ℕ) (long : ℕ) (e : long ≡ recordWords) where
-  module _ (q : length ws ≡ long → ⊥) where
+module _ (ws : List ℕ) (long : Bool) (e : long ≡ isLong ws) where
+  module _ (q : not long ≡ true) where
     -- words that are not as many as a record's
-    pub short-ledger : ledgerIn ws ≡ noLedger
+    pub short-ledger : ledgerIn ws ≡ noLedger 0
     unfolding ledgerIn
-    short-ledger =
-        given-off (eqb (length ws) recordWords) noLedger (λ _. ledgerOf ws) (ne-eqb (length ws) recordWords (λ h. q (h ∙ sym e)))
+    short-ledger = given-off (isLong ws) (noLedger 0) (λ _. ledgerOf ws) (sym e ∙ not-true long q)
 
     pub short-row : (s : ℕ) → noRow ≡ rowAt (ledgerIn ws) s
     short-row s = sym (ap (λ (l : Ledger). rowAt l s) short-ledger ∙ none-row s)
@@ -92,12 +92,14 @@ module _ (ws : List ℕ) (long : ℕ) (e : long ≡ recordWords) where
     short-cell s n = sym (blank-cell (rowAt (ledgerIn ws) s) n (sym (short-row s)))
 
   -- words of a record's length
-  pub whole-ledger : length ws ≡ long → ledgerOf ws ≡ ledgerIn ws
+  pub whole-ledger : not long ≡ false → ledgerOf ws ≡ ledgerIn ws
   unfolding ledgerIn
-  whole-ledger q =
-      sym (given-on (eqb (length ws) recordWords) noLedger (λ _. ledgerOf ws) (eq-eqb (length ws) recordWords (q ∙ e)))
+  whole-ledger q = sym (given-on (isLong ws) (noLedger 0) (λ _. ledgerOf ws) (sym e ∙ not-false long q))
 
-  module _ (q : length ws ≡ long) where
+  pub whole-long : not long ≡ false → Long ws
+  whole-long q = long-true ws (sym e ∙ not-false long q)
+
+  module _ (q : not long ≡ false) where
     -- slots and nodes past the last
     pub past-row : (s : ℕ) → lastSlot < s → noRow ≡ rowAt (ledgerIn ws) s
     past-row s h =
@@ -107,7 +109,7 @@ module _ (ws : List ℕ) (long : ℕ) (e : long ≡ recordWords) where
     pub past-slot : (s n : ℕ) → lastSlot < s → noCell ≡ cellAt (ledgerIn ws) s n
     past-slot s n h = sym (blank-cell (rowAt (ledgerIn ws) s) n (sym (past-row s h)))
 
-    pub past-node : (s n : ℕ) → s ≤ lastSlot → mostNodes ≤ n → noCell ≡ cellAt (ledgerIn ws) s n
+    pub past-node : (s n : ℕ) → s ≤ lastSlot → places (ledgerOf ws) ≤ n → noCell ≡ cellAt (ledgerIn ws) s n
     past-node s n h k =
         sym (ap (λ (l : Ledger). cellAt l s n) (sym (whole-ledger q))
         ∙ List·getD-eq-default (rowAt (ledgerOf ws) s .cells) noCell (omega (arith, ledger-shaped ws .cells s (omega arith))))

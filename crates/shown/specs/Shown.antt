@@ -2,8 +2,7 @@
 use mathlib.Core.Bool.{Bool, false, not, _&&_, _||_}
 use mathlib.Core.List.{List, [], _∷_}
 use Prim.Native.Nat.{ℕ, _*_, _/_}
-use lib.ListN.{length}
-use lib.Dec.{eqb, leb, ltb}
+use lib.Dec.{leb, ltb}
 use Rattle.rulebook.specs.declared.Cell.{Cell}
 use Rattle.rulebook.specs.declared.Who.{Who}
 use Rattle.rulebook.specs.declared.CertificateKind.{CertificateKind}
@@ -13,17 +12,17 @@ use Rattle.rulebook.specs.Weights.{mostStake, slotOk}
 use Rattle.rulebook.specs.Ledger.{Ledger, none, rowAt, cellAt, isArmed}
 use Rattle.rulebook.specs.Pool.{weigh, held, missingTo, names}
 use Rattle.rulebook.specs.WellFormed.{cellBlank}
-use Rattle.record.specs.Layout.{recordWords, ledgerOf}
+use Rattle.record.specs.Layout.{isLong, ledgerOf}
 use Rattle.record.specs.Setting.{noLedger}
 use Rattle.soundness.specs.Sound.{soundWords}
 
--- The ledger that the words hold; one with nothing in it where they are not as many as a record's.
+-- The ledger that the words hold; one with nothing in it where no record has so many words.
 unfoldable pub ledgerIn : List ℕ → Ledger
-ledgerIn ws = given (eqb (length ws) recordWords) noLedger (λ _. ledgerOf ws)
+ledgerIn ws = given (isLong ws) (noLedger 0) (λ _. ledgerOf ws)
 
--- The slot's window is armed; none is where the words are not as many as a record's, or the slot is not one of 1 to 16.
+-- The slot's window is armed; none is where no record has so many words, or the slot is not one of 1 to 16.
 unfoldable pub armedShown : List ℕ → ℕ → Bool
-armedShown ws s = given (slotOk s && eqb (length ws) recordWords) false (λ _. isArmed (ledgerOf ws) s)
+armedShown ws s = given (slotOk s && isLong ws) false (λ _. isArmed (ledgerOf ws) s)
 
 -- A slot's weight of those who count; 0 where the words are no sound record, or the slot is not one of 1 to 16.
 unfoldable pub weightShown : List ℕ → ℕ → Who → ℕ

@@ -9,15 +9,15 @@ ghost use Rattle.rulebook.specs.WellFormed.{cellBlank};
 ghost use Rattle.shown.specs.Shown.{ledgerIn, armedShown, weightShown, heldShown, missingShown, nextFor, percent, fallbacks, lowerNamed, blockAfter, hasVotes, touched};
 use kinds::slot_ok;
 use record::LAST_SLOT;
-use record::NODES;
 use record::count;
 use record::final_block;
 use record::genesis;
 use record::is_armed;
+use record::is_long;
 use record::kept_block;
 use record::load_cell;
 use record::own;
-use record::record_words;
+use record::places_in;
 use record::timed_out;
 use record::total;
 use rulebook::Block;
@@ -48,7 +48,7 @@ const MOST_STAKE: u64 = 281474976710656;
 pub fn nodes_of(rec: &[u64]) -> usize
     ensures { λ r. ⌜ r ≡ ledgerIn (now (rec .entry)) .count ⌝ }
 {
-    if rec.len() != record_words() {
+    if !is_long(rec) {
         return 0;
     }
     count(rec)
@@ -58,7 +58,7 @@ pub fn nodes_of(rec: &[u64]) -> usize
 pub fn own_of(rec: &[u64]) -> Node
     ensures { λ r. ⌜ r .0 ≡ ledgerIn (now (rec .entry)) .own ⌝ }
 {
-    if rec.len() != record_words() {
+    if !is_long(rec) {
         return Node(0);
     }
     own(rec)
@@ -68,7 +68,7 @@ pub fn own_of(rec: &[u64]) -> Node
 pub fn total_of(rec: &[u64]) -> Weight
     ensures { λ r. ⌜ r .0 ≡ ledgerIn (now (rec .entry)) .total ⌝ }
 {
-    if rec.len() != record_words() {
+    if !is_long(rec) {
         return Weight(0);
     }
     total(rec)
@@ -78,7 +78,7 @@ pub fn total_of(rec: &[u64]) -> Weight
 pub fn genesis_of(rec: &[u64]) -> u64
     ensures { λ r. ⌜ r ≡ ledgerIn (now (rec .entry)) .genesis ⌝ }
 {
-    if rec.len() != record_words() {
+    if !is_long(rec) {
         return 0;
     }
     genesis(rec)
@@ -91,7 +91,7 @@ pub fn armed_in(rec: &[u64], s: Slot) -> bool
     if !slot_ok(s) {
         return false;
     }
-    if rec.len() != record_words() {
+    if !is_long(rec) {
         return false;
     }
     is_armed(rec, s)
@@ -103,13 +103,13 @@ pub fn armed_in(rec: &[u64], s: Slot) -> bool
 pub fn cell_of(rec: &[u64], s: Slot, n: Node) -> Cell
     ensures { λ r. ⌜ r ≡ cellAt (ledgerIn (now (rec .entry))) (s .0) (n .0) ⌝ }
 {
-    if rec.len() != record_words() {
+    if !is_long(rec) {
         return NOTHING;
     }
     if s.0 > LAST_SLOT {
         return NOTHING;
     }
-    if n.0 >= NODES {
+    if n.0 >= places_in(rec) {
         return NOTHING;
     }
     load_cell(rec, s, n)
@@ -124,7 +124,7 @@ pub fn kept_of(rec: &[u64], s: Slot) -> Block
         parentslot: Slot(0),
         parent: 0,
     };
-    if rec.len() != record_words() {
+    if !is_long(rec) {
         return none;
     }
     if s.0 > LAST_SLOT {
@@ -137,7 +137,7 @@ pub fn kept_of(rec: &[u64], s: Slot) -> Block
 pub fn final_of(rec: &[u64], s: Slot) -> u64
     ensures { λ r. ⌜ r ≡ rowAt (ledgerIn (now (rec .entry))) (s .0) .final ⌝ }
 {
-    if rec.len() != record_words() {
+    if !is_long(rec) {
         return 0;
     }
     if s.0 > LAST_SLOT {
@@ -150,7 +150,7 @@ pub fn final_of(rec: &[u64], s: Slot) -> u64
 pub fn timed_out_in(rec: &[u64], s: Slot) -> bool
     ensures { λ r. ⌜ r ≡ not (none (rowAt (ledgerIn (now (rec .entry))) (s .0) .timedOut)) ⌝ }
 {
-    if rec.len() != record_words() {
+    if !is_long(rec) {
         return false;
     }
     if s.0 > LAST_SLOT {

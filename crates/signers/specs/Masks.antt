@@ -3,12 +3,12 @@ use mathlib.Core.Path.{_≡_}
 use mathlib.Core.Bool.{Bool}
 use mathlib.Core.List.{List}
 use Prim.Native.Nat.{ℕ, suc, _≤_, _<_}
-use lib.ListN.{length}
 use Rattle.rulebook.specs.declared.Cell.{Cell}
 use Rattle.rulebook.specs.declared.CertificateKind.{CertificateKind}
 use Rattle.rulebook.specs.Weights.{mostNodes, lastSlot}
+use Rattle.rulebook.specs.Ledger.{places}
 use Rattle.rulebook.specs.Writers.{inA, inB}
-use Rattle.record.specs.Layout.{recordWords, ledgerOf}
+use Rattle.record.specs.Layout.{Long, ledgerOf}
 use Rattle.signers.specs.declared.Mask.{Mask}
 use Rattle.signers.specs.declared.Mask.the-variants as mask
 
@@ -19,12 +19,14 @@ inMask mask.B k b c = inB k b c
 
 -- The words are as many as they should be, the slot has a row, and so many nodes have a place.
 pub record Signing (ws : List ℕ) (nodes s : ℕ) : Type 0 where
-  pub long : length ws ≡ recordWords
+  pub long : Long ws
   pub slot : s < suc lastSlot
   pub few : nodes ≤ mostNodes
+  pub placed : nodes ≤ places (ledgerOf ws)
 
 -- Likewise for all nodes that the record counts.
 pub record Naming (ws : List ℕ) (s : ℕ) : Type 0 where
-  pub long : length ws ≡ recordWords
+  pub long : Long ws
   pub slot : s < suc lastSlot
   pub few : ledgerOf ws .count ≤ mostNodes
+  pub placed : ledgerOf ws .count ≤ places (ledgerOf ws)

@@ -4,23 +4,24 @@ use mathlib.Core.Bool.{Bool, true, false, _&&_}
 use mathlib.Core.List.{List}
 use Prim.Native.Nat.{ℕ, suc, _+_, _<_, _≤_}
 use native.Mathlib.Omega.{arith}
-use lib.ListN.{length, take}
+use lib.ListN.{length, take, List·getD-eq-default}
 use lib.Seq.{getD-take, length-take-le}
 use lib.Dec.{eqb, leb}
-use borrow.Author.Tests.{eq-eqb, ne-eqb, lt-leb, eqb-true}
+use borrow.Author.Tests.{leb-true}
 use Rattle.rulebook.specs.Tools.{allTo, sumTo}
 use Rattle.rulebook.specs.Weights.{mostNodes, mostStake, lastSlot, stakeIn, totalTo, stakesFit}
-use Rattle.rulebook.specs.Ledger.{Ledger}
-use Rattle.rulebook.specs.WellFormed.{Shaped, rowFits, rowBlank, headFits, wellFormed}
-use Rattle.rulebook.proofs.ToolLaws.{given-on, given-off, and-both, by-test, all-more, all-same, sum-same, sum-term}
+use Rattle.rulebook.specs.Ledger.{Ledger, places}
+use Rattle.rulebook.specs.WellFormed.{rowFits, rowBlank, headFits, wellFormed}
+use Rattle.rulebook.proofs.ToolLaws.{given-on, given-off, and-both, by-test, all-at, all-more, all-same, sum-same, sum-term}
 use Rattle.stakes.specs.declared.StakeTable.{StakeTable}
 use Rattle.stakes.specs.declared.Made.{Made}
 use Rattle.stakes.specs.Table.{tableOf, madeOf}
 use Rattle.stakes.proofs.Laws.{made-fits, made-table}
 use Rattle.settling.specs.Facts.{HeadFacts, Sound}
-use Rattle.settling.proofs.FactLaws.{formed}
-use Rattle.record.specs.Layout.{recordWords, ledgerOf, Counted}
+use Rattle.settling.proofs.FactLaws.{formed, count-placed}
+use Rattle.record.specs.Layout.{isLong, Long, ledgerOf, Counted}
 use Rattle.record.specs.Tabled.{Tabled}
+use Rattle.record.proofs.Places.{long-true}
 use Rattle.record.proofs.Reading.{ledger-shaped}
 use Rattle.soundness.specs.Sound.{soundWords}
 
@@ -62,11 +63,10 @@ unfolding tableOf
 table-sum ws = refl
 
 -- The stakes and the total of a record, by the table that its stakes make.
-pub stakes-judged : (l : Ledger) (made : Made) (sum kept : ℕ) → Shaped l → l .count ≤ mostNodes → made ≡ madeOf (take (l .count) (l .stakes))
+pub stakes-judged : (l : Ledger) (made : Made) (sum kept : ℕ) → l .count ≤ places l → made ≡ madeOf (take (l .count) (l .stakes))
     → sum ≡ made .table .total .0 → kept ≡ l .total
     → (made .fits && eqb sum kept) ≡ (stakesFit (l .stakes) (l .count) && eqb (totalTo (l .stakes) (l .count)) (l .total))
-stakes-judged l made sum kept w few e s k =
-    let h : l .count ≤ length (l .stakes) = omega (arith, w .stakes) in
+stakes-judged l made sum kept h e s k =
     let f : made .fits ≡ stakesFit (l .stakes) (l .count) =
     ap (λ (x : Made). x .fits) e ∙ made-fits (take (l .count) (l .stakes)) ∙ front-fits (l .stakes) (l .count) h in
     by-test (made .fits)
@@ -79,24 +79,26 @@ stakes-judged l made sum kept w few e s k =
     (λ t. rw (t, sym f ∙ t))
 
 -- More nodes than there are places.
-pub stakes-many : (l : Ledger) (b : Bool) → mostNodes < l .count → (stakesFit (l .stakes) (l .count) && b) ≡ false
+pub stakes-many : (l : Ledger) (b : Bool) → places l < l .count → (stakesFit (l .stakes) (l .count) && b) ≡ false
 unfolding stakesFit
-stakes-many l b h = rw (lt-leb (l .count) mostNodes h) (go (leb 1 (l .count)))
-  where
-    go : (t : Bool) → (((t && false) && (allTo (l .count) (λ n. leb 1 (stakeIn (l .stakes) n)) && leb (totalTo (l .stakes) (l .count)) mostStake)) && b) ≡ false
-    go true = refl
-    go false = refl
+stakes-many l b h =
+    by-test (stakesFit (l .stakes) (l .count))
+    (λ t.
+    let each = and-both (allTo (l .count) (λ n. leb 1 (stakeIn (l .stakes) n))) _ (and-both (leb 1 (l .count) && leb (l .count) mostNodes) _ t .1) .0 in
+    let past = leb-true 1 (stakeIn (l .stakes) (places l)) (all-at (l .count) (places l) (λ n. leb 1 (stakeIn (l .stakes) n)) each h) in
+    absurd (omega (arith, past, List·getD-eq-default (l .stakes) 0 {n = places l} (omega arith))))
+    (λ t. rw t)
 
 -- ---- the ways through the test
 
-pub short-unsound : (ws : List ℕ) (n : ℕ) → n ≡ recordWords → (length ws ≡ n → ⊥) → false ≡ soundWords ws
+pub short-unsound : (ws : List ℕ) → isLong ws ≡ false → false ≡ soundWords ws
 unfolding soundWords
-short-unsound ws n e q = rw (ne-eqb (length ws) recordWords (λ h. q (h ∙ sym e)))
+short-unsound ws e = rw e
 
-module _ (ws : List ℕ) (n : ℕ) (e : n ≡ recordWords) (long : length ws ≡ n) where
+module _ (ws : List ℕ) (long : isLong ws ≡ true) where
   pub test-whole : soundWords ws ≡ wellFormed (ledgerOf ws)
   unfolding soundWords
-  test-whole = rw (eq-eqb (length ws) recordWords (long ∙ e))
+  test-whole = rw long
 
   pub head-unsound : headFits (ledgerOf ws) ≡ false → false ≡ soundWords ws
   unfolding wellFormed
@@ -112,13 +114,13 @@ module _ (ws : List ℕ) (n : ℕ) (e : n ≡ recordWords) (long : length ws ≡
 
 -- ---- sound words
 
-pub sound-long : (ws : List ℕ) → soundWords ws ≡ true → length ws ≡ recordWords
+pub sound-long : (ws : List ℕ) → soundWords ws ≡ true → Long ws
 unfolding soundWords
-sound-long ws e = eqb-true (length ws) recordWords (and-both (eqb (length ws) recordWords) (wellFormed (ledgerOf ws)) e .0)
+sound-long ws e = long-true ws (and-both (isLong ws) (wellFormed (ledgerOf ws)) e .0)
 
 pub sound-formed : (ws : List ℕ) → soundWords ws ≡ true → wellFormed (ledgerOf ws) ≡ true
 unfolding soundWords
-sound-formed ws e = and-both (eqb (length ws) recordWords) (wellFormed (ledgerOf ws)) e .1
+sound-formed ws e = and-both (isLong ws) (wellFormed (ledgerOf ws)) e .1
 
 -- The ledger of sound words is sound.
 pub sound-ledger : (ws : List ℕ) → soundWords ws ≡ true → Sound (ledgerOf ws)
@@ -128,8 +130,12 @@ sound-ledger ws e = record { shaped = ledger-shaped ws; formed = sound-formed ws
 pub sound-head : (ws : List ℕ) → soundWords ws ≡ true → HeadFacts (ledgerOf ws)
 sound-head ws e = formed (ledgerOf ws) (sound-formed ws e) .head
 
+-- Every node of a sound record has a place.
+pub sound-placed : (ws : List ℕ) → soundWords ws ≡ true → ledgerOf ws .count ≤ places (ledgerOf ws)
+sound-placed ws e = count-placed (ledgerOf ws) (sound-head ws e)
+
 pub sound-counted : (ws : List ℕ) → soundWords ws ≡ true → Counted ws
-sound-counted ws e = record { long = sound-long ws e; few = sound-head ws e .few }
+sound-counted ws e = record { long = sound-long ws e; few = sound-placed ws e }
 
 -- A sound record's stakes are a table.
 pub sound-tabled : (ws : List ℕ) → soundWords ws ≡ true → Tabled (ledgerOf ws)
@@ -138,8 +144,8 @@ sound-tabled ws e =
     let l = ledgerOf ws in
     let d = sound-head ws e in
     record {
-      few = d .few;
-      own = omega (arith, d .mine, d .few);
+      few = sound-placed ws e;
+      own = omega (arith, d .mine, sound-placed ws e);
       sum = d .sum;
       some = omega (arith, d .staked 0 (d .some), sum-term (l .count) 0 (stakeIn (l .stakes)) (d .some), d .sum);
       light = d .small;

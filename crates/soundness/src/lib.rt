@@ -5,24 +5,26 @@ ghost use Prim.Native.Nat.{suc};
 ghost use lib.ListN.{length, getD};
 ghost use lib.Dec.{eqb, ltb};
 ghost use Rattle.rulebook.specs.Tools.{given, allTo};
-ghost use Rattle.rulebook.specs.Weights.{mostNodes, lastSlot, windows, stakeIn, stakesFit, totalTo};
-ghost use Rattle.rulebook.specs.Ledger.{none, fresh};
+ghost use Rattle.rulebook.specs.Weights.{lastSlot, windows, stakeIn, stakesFit, totalTo};
+ghost use Rattle.rulebook.specs.Ledger.{none, places, fresh};
 ghost use Rattle.rulebook.specs.Inputs.{badParent};
 ghost use Rattle.rulebook.specs.WellFormed.{flag, inOrder, cellFits, cellBlank, cellsFit, keptFits, rowFits, rowBlank, headFits};
-ghost use Rattle.record.specs.Layout.{recordWords, InSlot, ledgerOf};
+ghost use Rattle.record.specs.Layout.{Long, InSlot, ledgerOf};
 ghost use Rattle.soundness.specs.Sound.{soundWords};
 ghost use Rattle.soundness.specs.Starting.{SetUp, StartOf};
 use record::LAST_SLOT;
-use record::NODES;
 use record::WINDOWS;
 use record::armed_word;
 use record::clear;
 use record::count;
 use record::final_block;
 use record::genesis;
+use record::is_long;
 use record::kept_block;
 use record::load_cell;
 use record::own;
+use record::places_for;
+use record::places_in;
 use record::record_words;
 use record::set_head;
 use record::set_stake;
@@ -79,8 +81,9 @@ fn cells_fit(rec: &[u64], s: Slot, used: usize) -> bool
     requires { ⌜ InSlot (now rec) (s .0) ⌝ }
     ensures { λ r. ⌜ r ≡ cellsFit (ledgerOf (now (rec .entry))) (s .0) used ⌝ }
 {
+    let places = places_in(rec);
     let mut ok = true;
-    for n in 0..NODES {
+    for n in 0..places {
         let c = load_cell(rec, s, Node(n));
         let here = place_fits(c, n < used);
         ok = ok & here;
@@ -90,7 +93,7 @@ fn cells_fit(rec: &[u64], s: Slot, used: usize) -> bool
 
 // 11: the parent's slot is not below the slot, or it is slot 0 and the parent is not genesis.
 pub fn bad_parent(rec: &[u64], s: Slot, b: Block) -> bool
-    requires { ⌜ length (now rec) ≡ recordWords ⌝ }
+    requires { ⌜ Long (now rec) ⌝ }
     ensures { λ r. ⌜ r ≡ badParent (ledgerOf (now (rec .entry))) (s .0) b ⌝ }
 {
     let p = b.parentslot;
@@ -100,7 +103,7 @@ pub fn bad_parent(rec: &[u64], s: Slot, b: Block) -> bool
 
 // A kept block has a parent that 5 and 11 let pass; where none is kept all is 0.
 fn kept_fits(rec: &[u64], s: Slot, b: Block) -> bool
-    requires { ⌜ length (now rec) ≡ recordWords ⌝ }
+    requires { ⌜ Long (now rec) ⌝ }
     ensures { λ r. ⌜ r ≡ keptFits (ledgerOf (now (rec .entry))) (s .0) b ⌝ }
 {
     let p = b.parentslot;
@@ -125,7 +128,7 @@ fn row_fits(rec: &[u64], s: Slot) -> bool
 
 // Row 0 is unused.
 fn row_blank(rec: &[u64]) -> bool
-    requires { ⌜ length (now rec) ≡ recordWords ⌝ }
+    requires { ⌜ Long (now rec) ⌝ }
     ensures { λ r. ⌜ r ≡ rowBlank (ledgerOf (now (rec .entry))) ⌝ }
 {
     let b = kept_block(rec, Slot(0));
@@ -138,7 +141,7 @@ fn row_blank(rec: &[u64]) -> bool
 
 // The rows of slots 1 to 16.
 fn rows_fit(rec: &[u64]) -> bool
-    requires { ⌜ length (now rec) ≡ recordWords ⌝ }
+    requires { ⌜ Long (now rec) ⌝ }
     ensures { λ r. ⌜ r ≡ allTo lastSlot (λ i. rowFits (ledgerOf (now (rec .entry))) (suc i)) ⌝ }
 {
     let mut ok = true;
@@ -151,10 +154,10 @@ fn rows_fit(rec: &[u64]) -> bool
 
 // The stakes fit, and their sum is the total.
 fn stakes_fit(rec: &[u64]) -> bool
-    requires { ⌜ length (now rec) ≡ recordWords ⌝ }
+    requires { ⌜ Long (now rec) ⌝ }
     ensures { λ r. ⌜ r ≡ (stakesFit (ledgerOf (now (rec .entry)) .stakes) (ledgerOf (now (rec .entry)) .count) && eqb (totalTo (ledgerOf (now (rec .entry)) .stakes) (ledgerOf (now (rec .entry)) .count)) (ledgerOf (now (rec .entry)) .total)) ⌝ }
 {
-    if NODES < count(rec) {
+    if places_in(rec) < count(rec) {
         return false;
     }
     let made = make_table(stakes_of(rec));
@@ -166,7 +169,7 @@ fn stakes_fit(rec: &[u64]) -> bool
 
 // The marks of the armed windows.
 fn armed_fits(rec: &[u64]) -> bool
-    requires { ⌜ length (now rec) ≡ recordWords ⌝ }
+    requires { ⌜ Long (now rec) ⌝ }
     ensures { λ r. ⌜ r ≡ allTo windows (λ w. flag (getD (ledgerOf (now (rec .entry)) .armed) w 0)) ⌝ }
 {
     let mut ok = true;
@@ -178,36 +181,38 @@ fn armed_fits(rec: &[u64]) -> bool
 
 // The stakes past the last node are 0.
 fn rest_fits(rec: &[u64]) -> bool
-    requires { ⌜ length (now rec) ≡ recordWords ⌝ }
-    ensures { λ r. ⌜ r ≡ allTo mostNodes (λ n. ltb n (ledgerOf (now (rec .entry)) .count) || none (stakeIn (ledgerOf (now (rec .entry)) .stakes) n)) ⌝ }
+    requires { ⌜ Long (now rec) ⌝ }
+    ensures { λ r. ⌜ r ≡ allTo (places (ledgerOf (now (rec .entry)))) (λ n. ltb n (ledgerOf (now (rec .entry)) .count) || none (stakeIn (ledgerOf (now (rec .entry)) .stakes) n)) ⌝ }
 {
     let m = count(rec);
+    let places = places_in(rec);
     let mut ok = true;
-    for n in 0..NODES {
+    for n in 0..places {
         let w = stake(rec, Node(n));
         ok = ok & ((n < m) | (w.0 == 0));
     }
     ok
 }
 
-// Count, stakes, total, own number, genesis and armed windows.
+// Places, count, stakes, total, own number, genesis and armed windows.
 fn head_fits(rec: &[u64]) -> bool
-    requires { ⌜ length (now rec) ≡ recordWords ⌝ }
+    requires { ⌜ Long (now rec) ⌝ }
     ensures { λ r. ⌜ r ≡ headFits (ledgerOf (now (rec .entry))) ⌝ }
 {
+    let sized = places_in(rec) == places_for(count(rec));
     let table = stakes_fit(rec);
     let me = own(rec);
     let node = (me.0 < count(rec)) & (genesis(rec) != 0);
     let windows = armed_fits(rec);
     let rest = rest_fits(rec);
-    table & (node & (windows & rest))
+    sized & (table & (node & (windows & rest)))
 }
 
 // Not 17: whether the words are a node's record.
 pub fn sound(rec: &[u64]) -> bool
     ensures { λ r. ⌜ r ≡ soundWords (now (rec .entry)) ⌝ }
 {
-    if rec.len() != record_words() {
+    if !is_long(rec) {
         return false;
     }
     if !head_fits(rec) {
@@ -235,7 +240,7 @@ fn set_up(rec: &mut [u64], stakes: &[u64], total: Weight, own: Node, genesis: u6
 pub fn start(rec: &mut [u64], stakes: &[u64], own: Node, genesis: u64) -> StartAnswer
     ensures { λ r. ⌜ StartOf (now (rec .entry)) (now (stakes .entry)) (own .0) genesis r (now (rec .exit)) ⌝ }
 {
-    if rec.len() != record_words() {
+    if rec.len() != record_words(stakes.len()) {
         return StartAnswer::Refused(Refusal::BadRecord);
     }
     let made = make_table(stakes);

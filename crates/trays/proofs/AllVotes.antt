@@ -18,12 +18,13 @@ use Rattle.record.specs.Layout.{ledgerOf}
 use Rattle.record.specs.Spelling.{wordsOf}
 use Rattle.record.proofs.Spelled.{words-ledger}
 use Rattle.soundness.specs.Sound.{soundWords}
-use Rattle.soundness.proofs.Laws.{sound-long, sound-ledger, sound-head}
+use Rattle.soundness.proofs.Laws.{sound-long, sound-ledger, sound-head, sound-placed}
 use Rattle.soundness.proofs.InStep.{spelled-sound, spelled-as}
 use Rattle.settling.proofs.SpareLaws.{spare-most}
 use Rattle.settling.proofs.Soundness.{feed-sound}
 use Rattle.voter.specs.Outbox.{recordsIn, Past}
 use Rattle.voter.proofs.OutboxLaws.{made-in}
+use Rattle.run.proofs.ScanLaws.{held-long}
 use Rattle.node.specs.Stepping.{spelled}
 use Rattle.node.proofs.SpelledLaws.{outbox-spelled}
 use Rattle.trays.specs.declared.Taken.{Taken}
@@ -35,6 +36,7 @@ use Rattle.trays.proofs.Words.{votes-end, votes-more, ahead-ahead, serv
 pub record Going (ws out votes places ws' out' places' : List ℕ) (made i : ℕ) : Type 0 where
   pub few : i ≤ wholeVotes votes
   pub serving : Serving ws' out' made
+  pub size : length ws' ≡ length ws
   pub boxes : length out' ≡ length out
   pub kept : length places' ≡ length places
   pub rest : Past made out out'
@@ -54,10 +56,11 @@ going-start {ws = ws} h =
                 record {
                   long = sound-long ws (h .sound);
                   room = h .room;
-                  own = omega (arith, d .mine, d .few);
+                  own = omega (arith, d .mine, sound-placed ws (h .sound));
                   budget = omega (arith, spare-most (ledgerOf ws));
                 };
           };
+      size = refl;
       boxes = refl;
       kept = refl;
       rest = λ k q. refl;
@@ -100,6 +103,7 @@ module _ {ws out votes places ws' out' places' : List ℕ} {made i : ℕ} (h : G
         record {
           few = omega arith;
           serving = record { sound = still-sound; live = s .onward .live };
+          size = held-long (h .serving .live) (s .onward) ∙ h .size;
           boxes = same ∙ h .boxes;
           kept = length-set places' i (r .number) ∙ h .kept;
           rest = λ k q. s .onward .moved .rest k q ∙ h .rest k (omega (arith, s .onward .moved .more));

@@ -15,7 +15,8 @@ use Rattle.rulebook.specs.Rules.{Record, State, stateOf}
 use Rattle.rulebook.specs.Run.{run}
 use Rattle.rulebook.specs.Inputs.{Fed, voteVerdict, verdict, intake, fedWith, refusedWith}
 use Rattle.record.specs.Layout.{Counted, Placed, ledgerOf}
-use Rattle.soundness.proofs.Laws.{sound-head, sound-counted, sound-tabled}
+use Rattle.record.proofs.Places.{long-same}
+use Rattle.soundness.proofs.Laws.{sound-placed, sound-counted, sound-tabled}
 use Rattle.settling.specs.Spare.{spare}
 use Rattle.settling.specs.Steps.{SameNode, Paid, VoteFine}
 use Rattle.settling.proofs.Verdicts.{vote-fine}
@@ -42,7 +43,7 @@ module _ {ws out : List ℕ} {made : ℕ} {v : Vote} (k : Taking ws out made v) 
       record {
         long = k .serving .live .long;
         slot = omega (arith, fits .high);
-        node = omega (arith, fits .node, sound-head ws (k .serving .sound) .few);
+        node = omega (arith, fits .node, sound-placed ws (k .serving .sound));
       }
 
   module _ (ws' : List ℕ) (long : length ws' ≡ length ws) (is : ledgerOf ws' ≡ withVote (ledgerOf ws) v) where
@@ -71,9 +72,9 @@ module _ {ws out : List ℕ} {made : ℕ} {v : Vote} (k : Taking ws out made v) 
               };
           live =
               record {
-                long = long ∙ k .serving .live .long;
+                long = long-same ws ws' long (k .serving .live .long);
                 room = k .serving .live .room;
-                own = omega (arith, same-as .own, k .serving .live .own);
+                own = omega (arith, same-as .own, ap length (same-as .stakes), k .serving .live .own);
                 budget = omega (arith, k .serving .live .budget, paid .spent, ap spare is);
               };
           same = same-as;

@@ -27,7 +27,8 @@ use Rattle.settling.specs.Steps.{after, life}
 use Rattle.settling.proofs.FeedLaws.{step-fed}
 use Rattle.settling.proofs.Life.{paid-within, life-paid}
 use Rattle.settling.proofs.Soundness.{sound-placed, feed-sound}
-use Rattle.record.specs.Layout.{recordWords, ledgerOf}
+use Rattle.record.specs.Layout.{isLong, ledgerOf}
+use Rattle.record.proofs.Places.{true-long}
 use Rattle.soundness.specs.Sound.{soundWords}
 use Rattle.soundness.proofs.Laws.{sound-long, sound-ledger}
 use Rattle.soundness.proofs.InStep.{spelled-sound}
@@ -89,8 +90,8 @@ unfolding trayLeaves
 tray-leaves-sound ws out votes places r left box told s h =
     let t : Tray = tray (ledgerOf ws) (length out) (length places) votes in
     let e : trayLeaves ws out votes places ≡ asServed t out places =
-    given-on (eqb (length ws) recordWords) (asFound refusal.BadRecord ws out places) (λ _. asServed t out places)
-    (eq-eqb (length ws) recordWords (sound-long ws s)) in
+    given-on (isLong ws) (asFound refusal.BadRecord ws out places) (λ _. asServed t out places)
+    (true-long ws (sound-long ws s)) in
     ap soundWords (h .words ∙ ap (λ (x : Leaves). x .words) e)
     ∙ spelled-sound (t .served .ledger) (tray-sound (ledgerOf ws) (length out) (length places) votes (sound-ledger ws s))
 

@@ -5,7 +5,7 @@ use mathlib.Core.List.{List}
 use Prim.Native.Nat.{ℕ, _%_, _≤_, _<_}
 use lib.ListN.{length}
 use lib.Dec.{eqb, leb}
-use borrow.Author.Tests.{eq-eqb, ne-eqb, eqb-true, le-leb, lt-leb}
+use borrow.Author.Tests.{eq-eqb, ne-eqb, le-leb, lt-leb}
 use Rattle.rulebook.specs.declared.Refusal.{Refusal}
 use Rattle.rulebook.specs.declared.Refusal.the-variants as refusal
 use Rattle.rulebook.specs.declared.StepAnswer.{StepAnswer}
@@ -14,7 +14,8 @@ use Rattle.rulebook.specs.Tools.{given}
 use Rattle.rulebook.specs.WellFormed.{wellFormed, outboxWords}
 use Rattle.rulebook.specs.Writers.{over}
 use Rattle.rulebook.proofs.ToolLaws.{given-on, given-off, by-test, true-not-false, both-and}
-use Rattle.record.specs.Layout.{recordWords, ledgerOf}
+use Rattle.record.specs.Layout.{isLong, Long, ledgerOf}
+use Rattle.record.proofs.Places.{long-true, true-long}
 use Rattle.record.proofs.Spelled.{words-ledger}
 use Rattle.soundness.specs.Sound.{soundWords}
 use Rattle.soundness.proofs.Laws.{sound-long, sound-formed}
@@ -43,24 +44,24 @@ tray-of f e a b c d =
     }
 
 module _ (ws out votes places : List ℕ) where
-  leaves-long : length ws ≡ recordWords → asServed (tray (ledgerOf ws) (length out) (length places) votes) out places ≡ trayLeaves ws out votes places
+  leaves-long : Long ws → asServed (tray (ledgerOf ws) (length out) (length places) votes) out places ≡ trayLeaves ws out votes places
   unfolding trayLeaves
   leaves-long e =
-      sym (given-on (eqb (length ws) recordWords) (asFound refusal.BadRecord ws out places)
-      (λ _. asServed (tray (ledgerOf ws) (length out) (length places) votes) out places) (eq-eqb (length ws) recordWords e))
+      sym (given-on (isLong ws) (asFound refusal.BadRecord ws out places)
+      (λ _. asServed (tray (ledgerOf ws) (length out) (length places) votes) out places) (true-long ws e))
 
-  leaves-short : eqb (length ws) recordWords ≡ false → asFound refusal.BadRecord ws out places ≡ trayLeaves ws out votes places
+  leaves-short : isLong ws ≡ false → asFound refusal.BadRecord ws out places ≡ trayLeaves ws out votes places
   unfolding trayLeaves
   leaves-short e =
-      sym (given-off (eqb (length ws) recordWords) (asFound refusal.BadRecord ws out places)
+      sym (given-off (isLong ws) (asFound refusal.BadRecord ws out places)
       (λ _. asServed (tray (ledgerOf ws) (length out) (length places) votes) out places) e)
 
   -- A refused tray leaves all as found.
-  served-none : (r : Refusal) → length ws ≡ recordWords → asServed (trayRefused (ledgerOf ws) r) out places ≡ asFound r ws out places
+  served-none : (r : Refusal) → Long ws → asServed (trayRefused (ledgerOf ws) r) out places ≡ asFound r ws out places
   unfolding trayRefused serve spelled over
   served-none r e = ap (λ (x : List ℕ). asFound r x out places) (words-ledger ws e)
 
-  refused-by : (r : Refusal) → length ws ≡ recordWords → tray (ledgerOf ws) (length out) (length places) votes ≡ trayRefused (ledgerOf ws) r
+  refused-by : (r : Refusal) → Long ws → tray (ledgerOf ws) (length out) (length places) votes ≡ trayRefused (ledgerOf ws) r
       → TrayOf ws out votes places (answer.Refused r) ws out places
   refused-by r e is =
       tray-of (asFound r ws out places) (sym (served-none r e) ∙ ap (λ (f : Tray). asServed f out places) (sym is) ∙ leaves-long e) refl refl refl refl
@@ -69,10 +70,10 @@ module _ (ws out votes places : List ℕ) where
   pub tray-unsound : soundWords ws ≡ false → TrayOf ws out votes places (answer.Refused refusal.BadRecord) ws out places
   unfolding soundWords tray
   tray-unsound e =
-      by-test (eqb (length ws) recordWords)
-      (λ t. let long = eqb-true (length ws) recordWords t in
+      by-test (isLong ws)
+      (λ t. let long = long-true ws t in
       refused-by refusal.BadRecord long
-      (given-off (wellFormed (ledgerOf ws)) (trayRefused (ledgerOf ws) refusal.BadRecord) _ (and-second (eqb (length ws) recordWords) (wellFormed (ledgerOf ws)) t e)))
+      (given-off (wellFormed (ledgerOf ws)) (trayRefused (ledgerOf ws) refusal.BadRecord) _ (and-second (isLong ws) (wellFormed (ledgerOf ws)) t e)))
       (λ t. tray-of (asFound refusal.BadRecord ws out places) (leaves-short t) refl refl refl refl)
 
   module _ (s : soundWords ws ≡ true) where

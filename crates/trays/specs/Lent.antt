@@ -4,7 +4,6 @@ use mathlib.Core.Bool.{true}
 use mathlib.Core.List.{List, _++_, reverse}
 use Prim.Native.Nat.{ℕ, _*_, _≤_}
 use lib.ListN.{length, drop}
-use lib.Dec.{eqb}
 use Rattle.rulebook.specs.declared.Vote.{Vote}
 use Rattle.rulebook.specs.declared.Input.the-variants as input
 use Rattle.rulebook.specs.declared.Refusal.{Refusal}
@@ -18,7 +17,7 @@ use Rattle.rulebook.specs.Rules.{Record, State, stateOf}
 use Rattle.rulebook.specs.Inputs.{Fed, voteVerdict, feed}
 use Rattle.rulebook.specs.WellFormed.{outboxWords}
 use Rattle.rulebook.specs.Writers.{over}
-use Rattle.record.specs.Layout.{recordWords, ledgerOf}
+use Rattle.record.specs.Layout.{isLong, ledgerOf}
 use Rattle.record.specs.Spelling.{wordsOf}
 use Rattle.soundness.specs.Sound.{soundWords}
 use Rattle.voter.specs.Outbox.{recordsIn}
@@ -51,7 +50,7 @@ asServed t out places =
 -- 17 for words of another length; else the tray of the ledger that they hold.
 unfoldable pub trayLeaves : List ℕ → List ℕ → List ℕ → List ℕ → Leaves
 trayLeaves ws out votes places =
-    given (eqb (length ws) recordWords) (asFound refusal.BadRecord ws out places)
+    given (isLong ws) (asFound refusal.BadRecord ws out places)
     (λ _. asServed (tray (ledgerOf ws) (length out) (length places) votes) out places)
 
 -- What a tray answers, and all memory afterwards.

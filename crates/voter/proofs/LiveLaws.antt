@@ -7,6 +7,7 @@ use lib.ListN.{length}
 use Rattle.rulebook.specs.Ledger.{Ledger}
 use Rattle.rulebook.specs.Rules.{State}
 use Rattle.record.specs.Layout.{ledgerOf}
+use Rattle.record.proofs.Places.{long-same}
 use Rattle.record.proofs.Reading.{ledger-shaped}
 use Rattle.settling.specs.Spare.{spare}
 use Rattle.settling.specs.Steps.{Placed, SameNode, Came}
@@ -45,13 +46,14 @@ module _ {ws out : List ℕ} {at : ℕ} (v : Live ws out at) where
       → Moved ws out at ws' left now q → Came (stateIn ws out at) q → Onward ws out at ws' left now q
   onward {ws' = ws'} {left = left} {now = now} e f m c =
       let mine : ledgerOf ws' .own ≡ ledgerOf ws .own = ap (λ (x : State). x .ledger .own) (m .is) ∙ c .same .own in
+      let stakes : ledgerOf ws' .stakes ≡ ledgerOf ws .stakes = ap (λ (x : State). x .ledger .stakes) (m .is) ∙ c .same .stakes in
       record {
         moved = m;
         live =
             record {
-              long = e ∙ v .long;
+              long = long-same ws ws' e (v .long);
               room = omega (arith, f, v .room);
-              own = omega (arith, mine, v .own);
+              own = omega (arith, mine, ap length stakes, v .own);
               budget =
                   omega (
                     arith,
@@ -69,7 +71,7 @@ module _ {ws out : List ℕ} {at : ℕ} (v : Live ws out at) where
               count = ap (λ (x : State). x .ledger .count) (m .is) ∙ c .same .count;
               total = ap (λ (x : State). x .ledger .total) (m .is) ∙ c .same .total;
               genesis = ap (λ (x : State). x .ledger .genesis) (m .is) ∙ c .same .genesis;
-              stakes = ap (λ (x : State). x .ledger .stakes) (m .is) ∙ c .same .stakes;
+              stakes = stakes;
             };
       }
 

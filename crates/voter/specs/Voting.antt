@@ -3,27 +3,28 @@ use mathlib.Core.Path.{_≡_}
 use mathlib.Core.List.{List}
 use Prim.Native.Nat.{ℕ, suc, _+_, _*_, _≤_, _<_}
 use lib.ListN.{length}
-use Rattle.rulebook.specs.Weights.{mostNodes, lastSlot}
+use Rattle.rulebook.specs.Weights.{lastSlot}
+use Rattle.rulebook.specs.Ledger.{places}
 use Rattle.rulebook.specs.Rules.{State}
 use Rattle.rulebook.specs.Run.{mostRecords}
 use Rattle.rulebook.specs.WellFormed.{outboxWords}
-use Rattle.record.specs.Layout.{recordWords, ledgerOf}
+use Rattle.record.specs.Layout.{Long, ledgerOf}
 use Rattle.settling.specs.Spare.{spare}
 use Rattle.settling.specs.Steps.{SameNode}
 use Rattle.voter.specs.Outbox.{Moved}
 
 -- An own vote can be cast in slot s: it has a cell, and its record has room.
 pub record Castable (ws out : List ℕ) (at s : ℕ) : Type 0 where
-  pub long : length ws ≡ recordWords
+  pub long : Long ws
   pub slot : s < suc lastSlot
-  pub own : ledgerOf ws .own < mostNodes
+  pub own : ledgerOf ws .own < places (ledgerOf ws)
   pub room : 3 * at + 2 < length out
 
 -- A call is under way: the words hold a ledger, and the outbox has room for all that can still be told.
 pub record Live (ws out : List ℕ) (at : ℕ) : Type 0 where
-  pub long : length ws ≡ recordWords
+  pub long : Long ws
   pub room : outboxWords ≤ length out
-  pub own : ledgerOf ws .own < mostNodes
+  pub own : ledgerOf ws .own < places (ledgerOf ws)
   pub budget : at + spare (ledgerOf ws) ≤ mostRecords
 
 -- Likewise, at one of the slots 1 to 16.

@@ -25,7 +25,7 @@ use Rattle.numbers.specs.Written.{Room, Written}
 use Rattle.numbers.proofs.Stores.{after}
 use Rattle.record.specs.Layout.{ledgerOf}
 use Rattle.soundness.specs.Sound.{soundWords}
-use Rattle.soundness.proofs.Laws.{sound-long, sound-head, sound-tabled}
+use Rattle.soundness.proofs.Laws.{sound-long, sound-head, sound-placed, sound-tabled}
 use Rattle.pool.specs.Weighing.{Weighing}
 use Rattle.signers.specs.Masks.{Naming}
 use Rattle.writers.specs.Writing.{unsound, certificateOn, proofOn}
@@ -33,7 +33,7 @@ use Rattle.writers.specs.Writing.{unsound, certificateOn, proofOn}
 -- ---- what the inner functions ask
 
 pub naming : (ws : List ℕ) (s : ℕ) → soundWords ws ≡ true → s < suc lastSlot → Naming ws s
-naming ws s e h = record { long = sound-long ws e; slot = h; few = sound-head ws e .few }
+naming ws s e h = record { long = sound-long ws e; slot = h; few = sound-head ws e .few; placed = sound-placed ws e }
 
 pub weighing : (ws : List ℕ) (s : ℕ) → soundWords ws ≡ true → s < suc lastSlot → Weighing ws s
 weighing ws s e h = record { long = sound-long ws e; slot = h; table = sound-tabled ws e }

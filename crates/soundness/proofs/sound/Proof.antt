@@ -2,46 +2,47 @@
 use mathlib.Core.Path.{_∙_, sym}
 use borrow.Author.Tests.{not-true, not-false}
 use borrow.Author.Needs.{needs}
+use Rattle.record.proofs.Places.{long-true}
 use Rattle.soundness.proofs.Laws.{short-unsound, head-unsound, blank-unsound, rows-decide}
 use Rattle.soundness.proofs.sound.Statement.{statement}
 use Rattle.soundness.proofs.sound.Tie as tie
 
-record-words-requires : tie.Need-record-words-requires
-record-words-requires c κs = search needs
+is-long-requires : tie.Need-is-long-requires
+is-long-requires c κs = search needs
 
 returns : tie.Need-returns
 returns c =
-    short-unsound (c .before .before .before .args .rec .now) _ (c .before .record-words .ensures) (c .if1 .taken)
+    short-unsound (c .before .before .before .args .rec .now) (sym (c .before .is-long .ensures) ∙ not-true _ (c .if1 .taken))
 
 head-fits-requires : tie.Need-head-fits-requires
 head-fits-requires c κs =
-    c .if1 .left ∙ c .before .record-words .ensures
+    long-true _ (sym (c .before .is-long .ensures) ∙ not-false _ (c .if1 .left))
 
 returns-2 : tie.Need-returns-2
 returns-2 c =
-    head-unsound (c .before .before .before .before .before .args .rec .now) _ (c .before .before .before .record-words .ensures) (c .before .before .if1 .left) (sym (c .before .head-fits .ensures) ∙ not-true _ (c .if2 .taken))
+    head-unsound (c .before .before .before .before .before .args .rec .now) (sym (c .before .before .before .is-long .ensures) ∙ not-false _ (c .before .before .if1 .left)) (sym (c .before .head-fits .ensures) ∙ not-true _ (c .if2 .taken))
 
 row-blank-requires : tie.Need-row-blank-requires
 row-blank-requires c κs =
-    c .before .before .if1 .left ∙ c .before .before .before .record-words .ensures
+    long-true _ (sym (c .before .before .before .is-long .ensures) ∙ not-false _ (c .before .before .if1 .left))
 
 returns-3 : tie.Need-returns-3
 returns-3 c =
-    blank-unsound (c .before .before .before .before .before .before .before .args .rec .now) _ (c .before .before .before .before .before .record-words .ensures) (c .before .before .before .before .if1 .left) (sym (c .before .before .before .head-fits .ensures) ∙ not-false _ (c .before .before .if2 .left)) (sym (c .before .row-blank .ensures) ∙ not-true _ (c .if3 .taken))
+    blank-unsound (c .before .before .before .before .before .before .before .args .rec .now) (sym (c .before .before .before .before .before .is-long .ensures) ∙ not-false _ (c .before .before .before .before .if1 .left)) (sym (c .before .before .before .head-fits .ensures) ∙ not-false _ (c .before .before .if2 .left)) (sym (c .before .row-blank .ensures) ∙ not-true _ (c .if3 .taken))
 
 rows-fit-requires : tie.Need-rows-fit-requires
 rows-fit-requires c κs =
-    c .before .before .before .before .if1 .left ∙ c .before .before .before .before .before .record-words .ensures
+    long-true _ (sym (c .before .before .before .before .before .is-long .ensures) ∙ not-false _ (c .before .before .before .before .if1 .left))
 
 returns-4 : tie.Need-returns-4
 returns-4 c =
-    rows-decide (c .before .before .before .before .before .before .before .before .args .rec .now) _ (c .before .before .before .before .before .before .record-words .ensures) (c .before .before .before .before .before .if1 .left) _ (sym (c .before .before .before .before .head-fits .ensures) ∙ not-false _ (c .before .before .before .if2 .left)) (sym (c .before .before .row-blank .ensures) ∙ not-false _ (c .before .if3 .left)) (c .rows-fit .ensures)
+    rows-decide (c .before .before .before .before .before .before .before .before .args .rec .now) (sym (c .before .before .before .before .before .before .is-long .ensures) ∙ not-false _ (c .before .before .before .before .before .if1 .left)) _ (sym (c .before .before .before .before .head-fits .ensures) ∙ not-false _ (c .before .before .before .if2 .left)) (sym (c .before .before .row-blank .ensures) ∙ not-false _ (c .before .if3 .left)) (c .rows-fit .ensures)
 
 pub sound-spec : {M : Type 1} → statement M
 sound-spec =
     tie.close
     (tie.spec
-    record-words-requires
+    is-long-requires
     returns
     head-fits-requires
     returns-2

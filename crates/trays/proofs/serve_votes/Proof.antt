@@ -1,9 +1,8 @@
 -- The loop over the votes: what the first leave stands in front of what the others will leave.
-use mathlib.Core.Path.{_≡_, refl, _∙_, sym}
+use mathlib.Core.Path.{_≡_, refl}
 use Prim.Native.Nat.{_-_}
 use native.Mathlib.Omega.{arith}
 use borrow.Author.Needs.{needs}
-use Rattle.soundness.proofs.Laws.{sound-long}
 use Rattle.trays.specs.Trays.{wholeVotes}
 use Rattle.trays.proofs.AllVotes.{Going, going-start, going-vote, going-more, going-end}
 use Rattle.trays.proofs.serve_votes.Statement.{statement}
@@ -41,7 +40,7 @@ loop-again : tie.Need-loop-again Inv-loop μ-loop
 loop-again c = (c .before .before .before .before .before .before .before .before .before .loop .inv .0, going-more (c .before .before .before .before .before .before .before .before .before .loop .inv .1) (c .before .before .before .before .before .vote-at .result) (omega (arith, c .before .before .before .before .before .before .before .before .before .loop .inv .0)) (c .before .before .before .before .before .before .before .before .before .before .before .before .before .before .pre .enough) (c .before .before .before .before .before .vote-at .ensures) (c .before .before .before .before .serve-vote .ensures) (c .before .before .before .before .serve-vote .kept .1 .0))
 
 same-length : tie.Need-same-length Inv-loop μ-loop
-same-length c = c .before .loop .inv .1 .serving .live .long ∙ sym (sound-long _ (c .before .before .before .before .before .before .pre .sound))
+same-length c = c .before .loop .inv .1 .size
 
 same-length-2 : tie.Need-same-length-2 Inv-loop μ-loop
 same-length-2 c = c .before .loop .inv .1 .boxes
