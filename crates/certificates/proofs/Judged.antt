@@ -2,10 +2,16 @@
 use mathlib.Core.Path.{_≡_, refl, sym, ap, ap₂, _∙_}
 use mathlib.Core.Bool.{Bool, true, false, not, _||_}
 use mathlib.Core.List.{List}
-use Prim.Native.Nat.{ℕ, _≤_}
+use Prim.Native.Nat.{ℕ, zero, suc, _^_, _≤_}
 use native.Mathlib.Omega.{arith}
-use lib.ListN.{length}
-use Rattle.rulebook.specs.declared.Certificate.{Certificate}
+use lib.ListN.{length, take}
+use lib.Dec.{leb}
+use borrow.Author.Tests.{le-leb, ne-eqb}
+use Rattle.rulebook.specs.declared.Found.{Found}
+use Rattle.rulebook.specs.declared.Found.the-variants as answer
+use Rattle.rulebook.specs.declared.Heading.{Heading}
+use Rattle.rulebook.specs.Certificates.{Certificate}
+use Rattle.rulebook.specs.Certificates as found
 use Rattle.rulebook.specs.declared.CertificateKind.{CertificateKind}
 use Rattle.rulebook.specs.declared.CertificateKind.the-variants as certificate
 use Rattle.rulebook.specs.declared.Refusal.{Refusal}
@@ -17,15 +23,18 @@ use Rattle.rulebook.specs.Weights.{slotOk, totalTo, reaches, missing}
 use Rattle.rulebook.specs.PaperNumbers.{certificateKind}
 use Rattle.rulebook.specs.Pool.{fifthsOf}
 use Rattle.rulebook.specs.Inputs.{refuseIf}
-use Rattle.rulebook.specs.Packets.{bit, countOf}
-use Rattle.rulebook.specs.Checker.{isOtherKind, blockMisfits, badSigners, signed, signedWeight, lacking, judgeWeight, acceptedOf, judged, judgeKind, judge}
+use Rattle.rulebook.specs.Ledger.{none}
+use Rattle.rulebook.specs.Packets.{bit, countOf, wordsIn, certificateOf}
+use Rattle.rulebook.specs.Checker.{isOtherKind, blockMisfits, badSigners, signed, signedWeight, lacking, judgeWeight, acceptedOf, judged, judgeKind, judge, oneOf}
 use Rattle.rulebook.proofs.WeightLaws.{none-missing, some-missing}
+use Rattle.rulebook.proofs.AcceptedLaws.{table-words}
+use Rattle.five_numbers.specs.Told.{Masks, foundAs}
 use Rattle.stakes.specs.declared.StakeTable.{StakeTable}
 use Rattle.stakes.specs.declared.Weighed.{Weighed}
 use Rattle.stakes.specs.Table.{Fit, weighed}
 use Rattle.certificates.specs.declared.Checked.{Checked}
 use Rattle.certificates.specs.declared.Checked.the-variants as checked
-use Rattle.certificates.specs.Told.{Heard, told, faultOf, unless, weighedIn}
+use Rattle.certificates.specs.Told.{Wide, told, toldOf, faultOf, unless, weighedIn}
 
 -- No kind needs more than five fifths.
 pub fifths-le : (k : CertificateKind) → fifthsOf k ≤ 5
@@ -79,27 +88,34 @@ unfolding lacking
 lacks-none ws k c m e z = none-missing (fifthsOf k) (totalTo ws (length ws)) (signedWeight ws c) m e z
 
 -- What is told of a certificate that was weighed.
-pub weighed-told : (ws : List ℕ) (t : StakeTable) (k : CertificateKind) (c : Certificate) → Heard ws t k c → (w : Weighed)
+pub weighed-told : (ws : List ℕ) (k : CertificateKind) (c : Certificate) → k ≡ certificateKind (c .kind) → (w : Weighed)
     → w ≡ weighed ws (length ws) (λ n. bit (c .maska) n || bit (c .maskb) n) → (next : ℕ)
     → reaches (fifthsOf k) (totalTo ws (length ws)) (signedWeight ws c) ≡ true
     → checked.Good (record { kind = k; slot = record { 0 = c .slot }; block = c .block; signers = w .signers; weight = w .weight }) next ≡ weighedIn ws k c next
 unfolding acceptedOf
-weighed-told ws t k c h w q next r =
+weighed-told ws k c e w q next r =
     ap₂ (λ (x : CertificateKind) (y : Weighed).
     checked.Good (record { kind = x; slot = record { 0 = c .slot }; block = c .block; signers = y .signers; weight = y .weight }) next)
-    (h .kind) (weighed-signed ws c w q)
+    e (weighed-signed ws c w q)
     ∙ sym (heavy-enough ws k c next r)
 
--- The tests of a certificate in their order, and the weighing last.
-fault-then : (ws : List ℕ) (c : Certificate) (next : ℕ) (a b d f : Bool) (last : Verdict)
-    → told ws (judged (refuseIf a refusal.BadKind (refuseIf b refusal.BadSlot (refuseIf d refusal.BadBlock (refuseIf f refusal.BadSigners last)))) c next)
-    ≡ unless (faultOf a b d f) (told ws (judged last c next))
+-- ---- the tests in their order
+
+-- A kind that is none of the five.
+pub other-kind : (ws : List ℕ) (k : CertificateKind) (c : Certificate) (next : ℕ) → k ≡ certificateKind (c .kind) → isOtherKind k ≡ true
+    → checked.Bad refusal.BadKind ≡ toldOf ws c next
+unfolding toldOf judge judgeKind refuseIf judged told
+other-kind ws k c next e o = rw (ap isOtherKind (sym e) ∙ o)
+
+-- The later tests, and the weighing last.
+fault-then : (ws : List ℕ) (c : Certificate) (next : ℕ) (b d f : Bool) (last : Verdict)
+    → told ws (judged (refuseIf b refusal.BadSlot (refuseIf d refusal.BadBlock (refuseIf f refusal.BadSigners last))) c next)
+    ≡ unless (faultOf b d f) (told ws (judged last c next))
 unfolding faultOf unless refuseIf judged told
-fault-then ws c next true b d f last = refl
-fault-then ws c next false true d f last = refl
-fault-then ws c next false false true f last = refl
-fault-then ws c next false false false true last = refl
-fault-then ws c next false false false false last = refl
+fault-then ws c next true d f last = refl
+fault-then ws c next false true f last = refl
+fault-then ws c next false false true last = refl
+fault-then ws c next false false false last = refl
 
 pub unless-fine : (v : Verdict) (x : Checked) → v ≡ verdict.Fine → unless v x ≡ x
 unfolding unless
@@ -109,16 +125,54 @@ pub unless-refused : (v : Verdict) (x : Checked) (r : Refusal) → v ≡ verdict
 unfolding unless
 unless-refused v x r e = rw e
 
-pub fault-same : (a b d f x y z w : Bool) → a ≡ x → b ≡ y → d ≡ z → f ≡ w → (v : Verdict) → v ≡ faultOf a (not b) d f → v ≡ faultOf x (not y) z w
-fault-same a b d f x y z w p q r s v e = e ∙ rw (p, q, r, s)
+pub fault-same : (b d f y z w : Bool) → b ≡ y → d ≡ z → f ≡ w → (v : Verdict) → v ≡ faultOf (not b) d f → v ≡ faultOf (not y) z w
+fault-same b d f y z w q r s v e = e ∙ rw (q, r, s)
 
-pub judge-is : (ws : List ℕ) (t : StakeTable) → Fit ws t → (k : CertificateKind) (c : Certificate) (next : ℕ) → k ≡ certificateKind (c .kind)
-    → (v : Verdict) → v ≡ faultOf (isOtherKind k) (not (slotOk (c .slot))) (blockMisfits k (c .block)) (badSigners (t .count) k c)
-    → told ws (judged (judge ws c) c next) ≡ unless v (weighedIn ws k c next)
-unfolding judge judgeKind weighedIn
-judge-is ws t f k c next e v h =
+pub judge-is : (ws : List ℕ) (t : StakeTable) → Fit ws t → (k : CertificateKind) (c : Certificate) (next : ℕ) → k ≡ certificateKind (c .kind) → isOtherKind k ≡ false
+    → (v : Verdict) → v ≡ faultOf (not (slotOk (c .slot))) (blockMisfits k (c .block)) (badSigners (t .count) k c)
+    → toldOf ws c next ≡ unless v (weighedIn ws k c next)
+unfolding toldOf judge judgeKind refuseIf weighedIn
+judge-is ws t f k c next e o v h =
     let last = judgeWeight ws k c in
     ap (λ (x : CertificateKind). told ws (judged (judgeKind ws x c) c next)) (sym e)
-    ∙ fault-then ws c next (isOtherKind k) (not (slotOk (c .slot))) (blockMisfits k (c .block)) (badSigners (length ws) k c) last
+    ∙ ap (λ (x : Bool). told ws (judged (refuseIf x refusal.BadKind (laterTests last)) c next)) o
+    ∙ fault-then ws c next (not (slotOk (c .slot))) (blockMisfits k (c .block)) (badSigners (length ws) k c) last
     ∙ ap (λ (x : Verdict). unless x (told ws (judged last c next)))
-    (ap (λ (n : ℕ). faultOf (isOtherKind k) (not (slotOk (c .slot))) (blockMisfits k (c .block)) (badSigners n k c)) (sym (f .count)) ∙ sym h)
+    (ap (λ (n : ℕ). faultOf (not (slotOk (c .slot))) (blockMisfits k (c .block)) (badSigners n k c)) (sym (f .count)) ∙ sym h)
+  where
+    laterTests : Verdict → Verdict
+    laterTests last = refuseIf (not (slotOk (c .slot))) refusal.BadSlot (refuseIf (blockMisfits k (c .block)) refusal.BadBlock (refuseIf (badSigners (length ws) k c) refusal.BadSigners last))
+
+-- ---- the masks' words
+
+-- Past 4 they are wide enough for the table.
+pub judge-wide : (ws : List ℕ) (t : StakeTable) → Fit ws t → (h : Heading) (a b : List ℕ) → Masks h a b → (k : CertificateKind) → k ≡ certificateKind (h .kind)
+    → isOtherKind k ≡ false → (count : ℕ) → count ≡ length ws → Wide count a b
+judge-wide ws t f h a b m k e o count n =
+    record {
+      long = omega (arith, n, table-words (length ws) (h .kind) (ap isOtherKind (sym e) ∙ o) (f .lent .few), m .longA);
+      same = m .longB ∙ sym (m .longA);
+    }
+
+-- A mask names a node exactly where it goes beyond a table without nodes.
+pub some-named : (m : ℕ) → leb (2 ^ 0) m ≡ not (none m)
+some-named zero = refl
+some-named (suc m) = le-leb 1 (suc m) (omega arith) ∙ sym (ap not (ne-eqb (suc m) 0 (λ e. omega arith)))
+
+-- ---- what was found
+
+module _ (ws x y : List ℕ) (f : Found) (c : found.Found) (e : foundAs f x y ≡ c) where
+  pub found-early : f ≡ answer.Early → checked.Bad refusal.BadLength ≡ told ws (oneOf ws c)
+  unfolding foundAs oneOf told
+  found-early q = ap (λ (z : Found). told ws (oneOf ws (foundAs z x y))) (sym q) ∙ ap (λ (z : found.Found). told ws (oneOf ws z)) e
+
+  pub found-malformed : f ≡ answer.Malformed → checked.Bad refusal.BadNumber ≡ told ws (oneOf ws c)
+  unfolding foundAs oneOf told
+  found-malformed q = ap (λ (z : Found). told ws (oneOf ws (foundAs z x y))) (sym q) ∙ ap (λ (z : found.Found). told ws (oneOf ws z)) e
+
+  pub found-whole : (h : Heading) (next w : ℕ) → f ≡ answer.Whole h next → w ≡ wordsIn (h .kind)
+      → toldOf ws (certificateOf h (take w x) (take w y)) next ≡ told ws (oneOf ws c)
+  unfolding foundAs oneOf toldOf
+  found-whole h next w q ew =
+      ap (λ (n : ℕ). toldOf ws (certificateOf h (take n x) (take n y)) next) ew
+      ∙ ap (λ (z : Found). told ws (oneOf ws (foundAs z x y))) (sym q) ∙ ap (λ (z : found.Found). told ws (oneOf ws z)) e

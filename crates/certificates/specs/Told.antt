@@ -2,35 +2,45 @@
 use mathlib.Core.Path.{_≡_}
 use mathlib.Core.Bool.{Bool}
 use mathlib.Core.List.{List}
-use Prim.Native.Nat.{ℕ}
-use Rattle.rulebook.specs.declared.Certificate.{Certificate}
+use Prim.Native.Nat.{ℕ, _*_, _≤_}
+use lib.ListN.{length}
+use Rattle.rulebook.specs.declared.Heading.{Heading}
+use Rattle.rulebook.specs.Certificates.{Certificate}
 use Rattle.rulebook.specs.declared.CertificateKind.{CertificateKind}
 use Rattle.rulebook.specs.declared.Refusal.the-variants as refusal
 use Rattle.rulebook.specs.declared.Verdict.{Verdict}
 use Rattle.rulebook.specs.declared.Verdict.the-variants as verdict
 use Rattle.rulebook.specs.PaperNumbers.{certificateKind}
 use Rattle.rulebook.specs.Inputs.{refuseIf}
-use Rattle.rulebook.specs.Checker.{One, good, bad, judgeWeight, acceptedOf, judged}
+use Rattle.rulebook.specs.Checker.{One, good, bad, judgeWeight, judge, acceptedOf, judged}
 use Rattle.stakes.specs.declared.StakeTable.{StakeTable}
 use Rattle.stakes.specs.Table.{Fit}
 use Rattle.certificates.specs.declared.Checked.{Checked}
 use Rattle.certificates.specs.declared.Checked.the-variants as checked
 
--- The table beside lent stakes is theirs, and a certificate's kind is known.
-pub record Heard (stakes : List ℕ) (t : StakeTable) (k : CertificateKind) (c : Certificate) : Type 0 where
+-- Masks of as many words, with a bit for each of so many nodes.
+pub record Wide (count : ℕ) (a b : List ℕ) : Type 0 where
+  pub long : count ≤ 64 * length a
+  pub same : length b ≡ length a
+
+-- The table beside lent stakes is theirs, a certificate's kind is known, and its masks have words for every node.
+pub record Heard (stakes : List ℕ) (t : StakeTable) (k : CertificateKind) (c : Heading) (a b : List ℕ) : Type 0 where
   pub fit : Fit stakes t
   pub kind : k ≡ certificateKind (c .kind)
+  pub wide : Wide (length stakes) a b
 
 -- What is told of one certificate.
 unfoldable pub told : List ℕ → One → Checked
 told stakes (good c next) = checked.Good (acceptedOf stakes c) next
 told stakes (bad r) = checked.Bad r
 
--- The first of 4, 3, 5, 14 that stands.
-unfoldable pub faultOf : Bool → Bool → Bool → Bool → Verdict
-faultOf badKind badSlot badBlock badMasks =
-    refuseIf badKind refusal.BadKind
-    (refuseIf badSlot refusal.BadSlot (refuseIf badBlock refusal.BadBlock (refuseIf badMasks refusal.BadSigners verdict.Fine)))
+unfoldable pub toldOf : List ℕ → Certificate → ℕ → Checked
+toldOf stakes c next = told stakes (judged (judge stakes c) c next)
+
+-- The first of 3, 5, 14 that stands.
+unfoldable pub faultOf : Bool → Bool → Bool → Verdict
+faultOf badSlot badBlock badMasks =
+    refuseIf badSlot refusal.BadSlot (refuseIf badBlock refusal.BadBlock (refuseIf badMasks refusal.BadSigners verdict.Fine))
 
 -- A fault decides; else what is found later.
 unfoldable pub unless : Verdict → Checked → Checked

@@ -1,18 +1,23 @@
 // One certificate of a packet, read and judged on lent stakes and their table.
 ghost use mathlib.Core.Path.{_≡_};
-ghost use Prim.Native.Nat.{_≤_};
-ghost use Rattle.rulebook.specs.Weights.{slotOk, mostNodes};
-ghost use Rattle.rulebook.specs.Checker.{withoutB, badSigners, judged, judge as Checker·judge, oneAt};
+ghost use Rattle.rulebook.specs.declared.Heading.{Heading};
+ghost use Rattle.rulebook.specs.Weights.{slotOk};
+ghost use Rattle.rulebook.specs.Packets.{certificateOf};
+ghost use Rattle.rulebook.specs.Checker.{withoutB, badSigners, oneAt};
 ghost use Rattle.stakes.specs.Table.{Fit};
-ghost use Rattle.certificates.specs.Told.{Heard, told, weighedIn, faultOf};
+ghost use Rattle.five_numbers.specs.Told.{Masks};
+ghost use Rattle.certificates.specs.Told.{Wide, Heard, told, toldOf, weighedIn, faultOf};
+use five_numbers::MOST_WORDS;
+use five_numbers::read_certificate;
+use five_numbers::words_in;
 use kinds::block_misfits;
 use kinds::is_other;
 use kinds::kind_of;
 use kinds::threshold_of;
 use rulebook::Accepted;
-use rulebook::Certificate;
 use rulebook::CertificateKind;
 use rulebook::Found;
+use rulebook::Heading;
 use rulebook::Refusal;
 use rulebook::Slot;
 use rulebook::Verdict;
@@ -46,15 +51,16 @@ fn without_b(k: CertificateKind) -> bool
 }
 
 // 14: a signer beyond the table, in both masks, or mask B used where 0 is due.
-fn bad_signers(count: usize, k: CertificateKind, c: Certificate) -> bool
-    requires { ⌜ count ≤ mostNodes ⌝ }
-    ensures { λ r. ⌜ r ≡ badSigners count k c ⌝ }
+fn bad_signers(count: usize, k: CertificateKind, a: &[u64], b: &[u64]) -> bool
+    requires { ⌜ Wide count (now a) (now b) ⌝ }
+    ensures { λ r. ⌜ ((c : Heading) → r ≡ badSigners count k (certificateOf c (now (a .entry)) (now (b .entry)))) ⌝ }
 {
-    let past_a = stakes::beyond(c.maska, count);
-    let past_b = stakes::beyond(c.maskb, count);
-    let both = stakes::overlap(c.maska, c.maskb);
+    let past_a = stakes::beyond(a, count);
+    let past_b = stakes::beyond(b, count);
+    let both = stakes::overlap(a, b);
     let no_b = without_b(k);
-    (past_a | past_b) | (both | (no_b & (c.maskb != 0)))
+    let some_b = stakes::beyond(b, 0);
+    (past_a | past_b) | (both | (no_b & some_b))
 }
 
 // 15 with what is missing, or what is told of the certificate: the signers are weighed once.
@@ -62,14 +68,16 @@ fn weigh_in(
     stakes: &[u64],
     t: StakeTable,
     k: CertificateKind,
-    c: Certificate,
+    c: Heading,
+    a: &[u64],
+    b: &[u64],
     next: usize,
 ) -> Checked
-    requires { ⌜ Heard (now stakes) t k c ⌝ }
-    ensures { λ r. ⌜ r ≡ weighedIn (now (stakes .entry)) k c next ⌝ }
+    requires { ⌜ Heard (now stakes) t k c (now a) (now b) ⌝ }
+    ensures { λ r. ⌜ r ≡ weighedIn (now (stakes .entry)) k (certificateOf c (now (a .entry)) (now (b .entry))) next ⌝ }
 {
     let total = t.total;
-    let w = stakes::weigh(stakes, c.maska, c.maskb);
+    let w = stakes::weigh(stakes, a, b);
     let weight = w.weight;
     let needed = threshold_of(k);
     let missing = needed.missing(weight, total);
@@ -89,13 +97,10 @@ fn weigh_in(
     )
 }
 
-// The first of 4, 3, 5, 14 that stands, where it is found wrong in kind, slot, block or masks.
-fn first_fault(kind: bool, slot: bool, block: bool, masks: bool) -> Verdict
-    ensures { λ r. ⌜ r ≡ faultOf kind slot block masks ⌝ }
+// The first of 3, 5, 14 that stands, where it is found wrong in slot, block or masks.
+fn first_fault(slot: bool, block: bool, masks: bool) -> Verdict
+    ensures { λ r. ⌜ r ≡ faultOf slot block masks ⌝ }
 {
-    if kind {
-        return Verdict::Refused(Refusal::BadKind);
-    }
     if slot {
         return Verdict::Refused(Refusal::BadSlot);
     }
@@ -108,32 +113,39 @@ fn first_fault(kind: bool, slot: bool, block: bool, masks: bool) -> Verdict
     Verdict::Fine
 }
 
-// 4, 3, 5, 14, 15, in this order, once the five numbers are read.
-fn judge(stakes: &[u64], t: StakeTable, c: Certificate, next: usize) -> Checked
-    requires { ⌜ Fit (now stakes) t ⌝ }
-    ensures { λ r. ⌜ r ≡ told (now (stakes .entry)) (judged (Checker·judge (now (stakes .entry)) c) c next) ⌝ }
+// 4, 3, 5, 14, 15, in this order, once the numbers are read; past 4 the masks have words for every node of the table.
+fn judge(stakes: &[u64], t: StakeTable, c: Heading, a: &[u64], b: &[u64], next: usize) -> Checked
+    requires { ⌜ (Fit (now stakes) t) × Masks c (now a) (now b) ⌝ }
+    ensures { λ r. ⌜ r ≡ toldOf (now (stakes .entry)) (certificateOf c (now (a .entry)) (now (b .entry))) next ⌝ }
 {
     let k = kind_of(c.kind);
-    let kind = is_other(k);
+    if is_other(k) {
+        return Checked::Bad(Refusal::BadKind);
+    }
     let slot = !slot_ok(c.slot);
     let block = block_misfits(k, c.block);
-    let masks = bad_signers(t.count, k, c);
-    let fault = first_fault(kind, slot, block, masks);
+    let masks = bad_signers(t.count, k, a, b);
+    let fault = first_fault(slot, block, masks);
     match fault {
         Verdict::Refused(r) => Checked::Bad(r),
-        Verdict::Fine => weigh_in(stakes, t, k, c, next),
+        Verdict::Fine => weigh_in(stakes, t, k, c, a, b, next),
     }
 }
 
-// The certificate at a place of the packet, read and judged.
+// The certificate at a place of the packet, read and judged; its masks stand in words of which as many are lent on as its kind says.
 pub fn one_at(stakes: &[u64], t: StakeTable, packet: &[u8], at: usize) -> Checked
     requires { ⌜ Fit (now stakes) t ⌝ }
     ensures { λ r. ⌜ r ≡ told (now (stakes .entry)) (oneAt (now (stakes .entry)) (now (packet .entry)) at) ⌝ }
 {
-    let found = five_numbers::read_certificate(packet, at);
+    let mut a = [0u64; MOST_WORDS];
+    let mut b = [0u64; MOST_WORDS];
+    let found = read_certificate(packet, at, &mut a, &mut b);
     match found {
         Found::Early => Checked::Bad(Refusal::BadLength),
         Found::Malformed => Checked::Bad(Refusal::BadNumber),
-        Found::Whole(c, next) => judge(stakes, t, c, next),
+        Found::Whole(c, next) => {
+            let words = words_in(c.kind);
+            judge(stakes, t, c, &a[..words], &b[..words], next)
+        }
     }
 }

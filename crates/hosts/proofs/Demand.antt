@@ -14,8 +14,7 @@ use Rattle.rulebook.specs.declared.CertificateKind.the-variants as certificate
 use Rattle.rulebook.specs.declared.CheckAnswer.{CheckAnswer}
 use Rattle.rulebook.specs.declared.CheckAnswer.the-variants as check
 use Rattle.rulebook.specs.declared.Slot.{Slot}
-use Rattle.rulebook.specs.declared.Verdict.{Verdict}
-use Rattle.rulebook.specs.declared.Verdict.the-variants.{Fine, Refused}
+use Rattle.rulebook.specs.declared.Verdict.the-variants.{Refused}
 use Rattle.rulebook.specs.declared.WriteAnswer.{WriteAnswer}
 use Rattle.rulebook.specs.declared.WriteAnswer.the-variants as write
 use Rattle.rulebook.specs.PaperNumbers.{certificateNumber, certificateKind, writePanel, checkPanel}
@@ -24,6 +23,7 @@ use Rattle.rulebook.specs.Ledger.{cellAt}
 use Rattle.rulebook.specs.Checker.{isOtherKind, checkCertificate, checkProof}
 use Rattle.rulebook.specs.Writers as writer
 use Rattle.rulebook.specs.Writers.{certificateVerdict, writeCertificate, Writes}
+use Rattle.rulebook.proofs.AcceptedLaws.{kind-back}
 use Rattle.rulebook.proofs.RuleLaws.{refuse-fine, wrote-fine}
 use Rattle.rulebook.proofs.ToolLaws.{given-on}
 use Rattle.record.specs.Layout.{ledgerOf}
@@ -91,16 +91,6 @@ host-mail-is-enough stakes genesis honest lives ring =
 
 -- ---- what is accepted
 
--- A kind's number stands for it.
-kind-of-number : (k : CertificateKind) → certificateKind (certificateNumber k) ≡ k
-unfolding certificateKind certificateNumber choose
-kind-of-number certificate.FastFinal = refl
-kind-of-number certificate.Notar = refl
-kind-of-number certificate.NotarFallback = refl
-kind-of-number certificate.Skip = refl
-kind-of-number certificate.Final = refl
-kind-of-number certificate.Other = refl
-
 -- A check that answers 0 accepts the kind, slot and block that its values name.
 zero-accepted : {answer : CheckAnswer} {kind slot block signers weight missing : ℕ} → Checked answer 0 (kind ∷ slot ∷ block ∷ signers ∷ weight ∷ []) missing
     → AcceptedAs answer (certificateKind kind) slot block
@@ -112,7 +102,7 @@ zero-accepted {answer} {kind} {slot} {block} {signers} {weight} {missing} c = go
         let k : certificateNumber (x .kind) ≡ kind = cc in
         let s : x .slot .0 ≡ slot = cc in
         let b : x .block ≡ block = cc in
-        record { what = x; accepted = refl; kindIs = sym (kind-of-number (x .kind)) ∙ ap certificateKind k; slotIs = s; blockIs = b }
+        record { what = x; accepted = refl; kindIs = sym (kind-back (x .kind)) ∙ ap certificateKind k; slotIs = s; blockIs = b }
     go (check.Refused r) e v = refusal-above r (sym e)
 
 same-slot : (x y : Slot) (s : ℕ) → x .0 ≡ s → y .0 ≡ s → x ≡ y

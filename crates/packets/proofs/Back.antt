@@ -2,7 +2,7 @@
 use mathlib.Core.Path.{_≡_, refl, sym, ap, ap₂, _∙_, subst}
 use mathlib.Core.Bool.{Bool, true, false, not, _&&_, _||_}
 use mathlib.Core.List.{List, [], _∷_, _++_, append-nil}
-use Prim.Native.Nat.{ℕ, _+_, _^_, _≤_, _<_}
+use Prim.Native.Nat.{ℕ, _+_, _*_, _^_, _≤_, _<_}
 use native.Mathlib.Nat.{zero-add}
 use native.Mathlib.Omega.{arith}
 use lib.ListN.{length, length-append}
@@ -11,30 +11,30 @@ use lib.Dec.{eqb, leb, ltb, lit<}
 use borrow.Author.Tests.{lt-leb, le-ltb, leb-true, not-false, eq-eqb}
 use Rattle.rulebook.specs.declared.Cell.{Cell}
 use Rattle.rulebook.specs.declared.Accepted.{Accepted}
-use Rattle.rulebook.specs.declared.Certificate.{Certificate}
+use Rattle.rulebook.specs.Certificates.{Certificate}
 use Rattle.rulebook.specs.declared.CertificateKind.{CertificateKind}
 use Rattle.rulebook.specs.declared.CertificateKind.the-variants as certificate
 use Rattle.rulebook.specs.declared.CheckAnswer.the-variants as check
-use Rattle.rulebook.specs.declared.Found.the-variants as found
+use Rattle.rulebook.specs.Certificates as found
 use Rattle.rulebook.specs.declared.Refusal.the-variants as refusal
-use Rattle.rulebook.specs.declared.Verdict.{Verdict}
 use Rattle.rulebook.specs.declared.Verdict.the-variants as verdict
 use Rattle.rulebook.specs.declared.Weight.{Weight}
 use Rattle.rulebook.specs.declared.WriteAnswer.the-variants as write
-use Rattle.rulebook.specs.Tools.{choose, part, sumTo, someTo}
+use Rattle.rulebook.specs.Tools.{part, sumTo, someTo}
 use Rattle.rulebook.specs.Weights.{lastSlot, mostNodes, stakeIn, weight, totalTo, reaches, slotOk, stakesFit}
 use Rattle.rulebook.specs.PaperNumbers.{certificateKind, certificateNumber}
 use Rattle.rulebook.specs.Ledger.{Ledger, none, cellAt}
 use Rattle.rulebook.specs.Pool.{hasFallback, counts, weigh, weighs, signersOf, fifthsOf, held}
 use Rattle.rulebook.specs.Rules.{isFinal}
 use Rattle.rulebook.specs.Inputs.{refuseIf}
-use Rattle.rulebook.specs.Packets.{certificateAt, certificateBytes, bit, maskOf, countOf}
+use Rattle.rulebook.specs.Packets.{wordsIn, certificateAt, certificateBytes, bit, maskOf, countOf}
 use Rattle.rulebook.specs.Checker.{good, isOtherKind, blockMisfits, withoutB, badSigners, signed, signedWeight, judgeWeight, judgeKind, judge, acceptedOf, judged, oneOf, oneAt, ended, singleOf, checkCertificate, secondOf, firstIn, proofOf, checkProof}
 use Rattle.rulebook.specs.Writers.{inA, inB, certificateFor, certificateVerdict, writeCertificate, proofVerdict, proofBytes, writeProof}
 use Rattle.rulebook.proofs.ToolLaws.{given-on, given-off, choose-on, choose-off, and-both, both-and, or-cases, by-test, true-not-false, sum-same, sum-const, part-off}
 use Rattle.rulebook.proofs.MaskLaws.{mask-lt, masks-apart, masks-weight, masks-count, count-same}
 use Rattle.rulebook.proofs.WeightLaws.{weight-same}
 use Rattle.rulebook.proofs.NumberLaws.{Fits64, certificate-in}
+use Rattle.rulebook.proofs.AcceptedLaws.{kind-back, kind-small, kind-words}
 use Rattle.packets.specs.Promises.{parts, TableIs, acceptedFor, proofParts, proofKind, CertificateBack, ProofBack}
 use Rattle.rulebook.proofs.RuleLaws.{refuse-fine, wrote-fine, wrote-bytes}
 use Rattle.packets.proofs.Spelling.{parts-one, parts-two}
@@ -101,25 +101,7 @@ mask-empty : (p : ℕ → Bool) (n : ℕ) → ((i : ℕ) → p i ≡ false) → 
 unfolding maskOf
 mask-empty p n f = omega (arith, sum-same n (λ i. part (p i) (2 ^ i)) (λ i. 0) (λ i h. part-off (p i) (2 ^ i) (f i)), sum-const n 0)
 
--- ---- kinds and tests
-
-kind-back : (k : CertificateKind) → isOtherKind k ≡ false → certificateKind (certificateNumber k) ≡ k
-unfolding isOtherKind certificateKind certificateNumber choose
-kind-back certificate.FastFinal t = refl
-kind-back certificate.Notar t = refl
-kind-back certificate.NotarFallback t = refl
-kind-back certificate.Skip t = refl
-kind-back certificate.Final t = refl
-kind-back certificate.Other t = let z : _≡_ {A = ℕ} 0 1 = cc in absurd (omega arith)
-
-kind-small : (k : CertificateKind) → certificateNumber k ≤ 5
-unfolding certificateNumber
-kind-small certificate.FastFinal = omega arith
-kind-small certificate.Notar = omega arith
-kind-small certificate.NotarFallback = omega arith
-kind-small certificate.Skip = omega arith
-kind-small certificate.Final = omega arith
-kind-small certificate.Other = omega arith
+-- ---- tests
 
 -- None of four tests stands.
 none-of : (a b c d : Bool) → a ≡ false → b ≡ false → c ≡ false → d ≡ false → ((a || b) || (c || d)) ≡ false
@@ -236,23 +218,23 @@ module _ (l : Ledger) (stakes : List ℕ) (t : TableIs l stakes) where
       fine : slotOk s ≡ true → blockMisfits k b ≡ false → held l k s b ≡ true → judge stakes cert ≡ verdict.Fine
       unfolding judge judgeKind judgeWeight
       fine so m h =
-          ap (λ (x : CertificateKind). judgeKind stakes x cert) (kind-back k z)
+          ap (λ (x : CertificateKind). judgeKind stakes x cert) (kind-back k)
           ∙ all-passed (isOtherKind k) (slotOk s) (blockMisfits k b) (badSigners size k cert) (reaches (fifthsOf k) (totalTo stakes size) (signedWeight stakes cert)) _ z so m signers-fine (heavy h)
 
       -- The answer is the true one.
       true-answer : acceptedOf stakes cert ≡ acceptedFor l k s b
       unfolding acceptedOf acceptedFor weigh
       true-answer =
-          ap (λ (x : CertificateKind). answer x (countOf (signed cert) size) (signedWeight stakes cert)) (kind-back k z)
+          ap (λ (x : CertificateKind). answer x (countOf (signed cert) size) (signedWeight stakes cert)) (kind-back k)
           ∙ ap₂ (answer k) (signed-count ∙ ap (countOf who) (sym (t .count))) (signed-weight ∙ sym (weight-is who))
         where
           answer : CertificateKind → ℕ → ℕ → Accepted
           answer x y w = record { kind = x; slot = record { 0 = s }; block = b; signers = y; weight = record { 0 = w } }
 
-    fits64 : b < 2 ^ 64 → slotOk s ≡ true → Fits64 cert
+    fits64 : isOtherKind k ≡ false → b < 2 ^ 64 → slotOk s ≡ true → Fits64 cert
     unfolding slotOk
-    fits64 h so =
-        let p : 2 ^ size ≤ 2 ^ 64 = pow-mono few in
+    fits64 z h so =
+        let p : 2 ^ size ≤ 2 ^ (64 * wordsIn (certificateNumber k)) = pow-mono (kind-words size k z few) in
         let q = leb-true s lastSlot (and-both (leb 1 s) (leb s lastSlot) so .1) in
         let big : 16 < 2 ^ 64 = lit< tt in
         record {
@@ -264,13 +246,13 @@ module _ (l : Ledger) (stakes : List ℕ) (t : TableIs l stakes) where
         }
 
     -- The certificate at the front of a packet.
-    reads : b < 2 ^ 64 → slotOk s ≡ true → (rest : List ℕ) → certificateAt (certificateBytes cert ++ rest) 0 ≡ found.Whole cert (length (certificateBytes cert))
-    reads h so rest =
-        certificate-in (certificateBytes cert ++ rest) [] cert rest 0 refl refl (fits64 h so) ∙ ap (found.Whole cert) (zero-add (length (certificateBytes cert)))
+    reads : isOtherKind k ≡ false → b < 2 ^ 64 → slotOk s ≡ true → (rest : List ℕ) → certificateAt (certificateBytes cert ++ rest) 0 ≡ found.Whole cert (length (certificateBytes cert))
+    reads z h so rest =
+        certificate-in (certificateBytes cert ++ rest) [] cert rest 0 refl refl (fits64 z h so) ∙ ap (found.Whole cert) (zero-add (length (certificateBytes cert)))
 
-    reads-alone : b < 2 ^ 64 → slotOk s ≡ true → certificateAt (certificateBytes cert) 0 ≡ found.Whole cert (length (certificateBytes cert))
-    reads-alone h so =
-        subst (λ (x : List ℕ). certificateAt x 0 ≡ found.Whole cert (length (certificateBytes cert))) (append-nil (certificateBytes cert)) (reads h so [])
+    reads-alone : isOtherKind k ≡ false → b < 2 ^ 64 → slotOk s ≡ true → certificateAt (certificateBytes cert) 0 ≡ found.Whole cert (length (certificateBytes cert))
+    reads-alone z h so =
+        subst (λ (x : List ℕ). certificateAt x 0 ≡ found.Whole cert (length (certificateBytes cert))) (append-nil (certificateBytes cert)) (reads z h so [])
 
 -- ---- the two writers
 
@@ -281,7 +263,7 @@ module _ (l : Ledger) (stakes : List ℕ) (t : TableIs l stakes) where
   certificate-on k s b h z so m hd =
       let c = cert l stakes t k s b in
       let bytes = certificateBytes c in
-      let r = reads-alone l stakes t k s b h so in
+      let r = reads-alone l stakes t k s b z h so in
       let good : (parts bytes ≡ c ∷ []) × (checkCertificate stakes bytes ≡ check.Accepted (acceptedFor l k s b)) =
       (parts-one bytes c r, accepts-one stakes bytes (t .fits) c (length bytes) r (fine l stakes t k s b z so m hd) refl ∙ ap check.Accepted (true-answer l stakes t k s b z)) in
       subst (λ (x : Certificate). (parts (certificateBytes x) ≡ x ∷ []) × (checkCertificate stakes (certificateBytes x) ≡ check.Accepted (acceptedFor l k s b)))
@@ -295,10 +277,10 @@ module _ (l : Ledger) (stakes : List ℕ) (t : TableIs l stakes) where
       let k = certificate.FastFinal in
       let c = cert l stakes t k s b in
       let bytes = certificateBytes c in
-      let r = reads-alone l stakes t k s b h so in
+      let r = reads-alone l stakes t k s b refl h so in
       let good : (parts bytes ≡ c ∷ []) × (checkProof stakes bytes ≡ check.Accepted (acceptedFor l k s b)) = (
         parts-one bytes c r,
-        accepts-fast stakes bytes (t .fits) c (length bytes) r (fine l stakes t k s b refl so m hd) (kind-back k refl) refl ∙ ap check.Accepted (true-answer l stakes t k s b refl),
+        accepts-fast stakes bytes (t .fits) c (length bytes) r (fine l stakes t k s b refl so m hd) (kind-back k) refl ∙ ap check.Accepted (true-answer l stakes t k s b refl),
       ) in
       subst (λ (x : Certificate). (parts (certificateBytes x) ≡ x ∷ []) × (checkProof stakes (certificateBytes x) ≡ check.Accepted (acceptedFor l k s b)))
       (sym (cert-is l stakes t k s b)) good
@@ -316,11 +298,11 @@ module _ (l : Ledger) (stakes : List ℕ) (t : TableIs l stakes) where
       let x = certificateBytes c in
       let y = certificateBytes d in
       let zero-lt : 0 < 2 ^ 64 = lit< tt in
-      let r = reads l stakes t k s b h so y in
-      let q = certificate-in (x ++ y) x d [] (length x) (ap (λ (z : List ℕ). x ++ z) (sym (append-nil y))) refl (fits64 l stakes t certificate.Final s 0 zero-lt so) in
+      let r = reads l stakes t k s b refl h so y in
+      let q = certificate-in (x ++ y) x d [] (length x) (ap (λ (z : List ℕ). x ++ z) (sym (append-nil y))) refl (fits64 l stakes t certificate.Final s 0 refl zero-lt so) in
       let good : (parts (x ++ y) ≡ c ∷ d ∷ []) × (checkProof stakes (x ++ y) ≡ check.Accepted (acceptedFor l k s b)) = (
         parts-two (x ++ y) c d (length x) (length x + length y) r q,
-        accepts-slow stakes (x ++ y) (t .fits) c d (length x) (length x + length y) r (fine l stakes t k s b refl so m hn) (kind-back k refl) q
+        accepts-slow stakes (x ++ y) (t .fits) c d (length x) (length x + length y) r (fine l stakes t k s b refl so m hn) (kind-back k) q
             (fine l stakes t certificate.Final s 0 refl so refl hf) refl refl (sym (length-append x y))
             ∙ ap check.Accepted (true-answer l stakes t k s b refl),
       ) in

@@ -6,7 +6,7 @@ use Prim.Native.Nat.{ℕ, _^_}
 use lib.ListN.{length}
 use lib.Dec.{leb}
 use Rattle.rulebook.specs.declared.Accepted.{Accepted}
-use Rattle.rulebook.specs.declared.Certificate.{Certificate}
+use Rattle.rulebook.specs.Certificates.{Certificate}
 use Rattle.rulebook.specs.declared.Refusal.the-variants as refusal
 use Rattle.rulebook.specs.declared.Verdict.the-variants as verdict
 use Rattle.rulebook.specs.Tools.{someTo}

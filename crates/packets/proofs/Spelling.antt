@@ -6,8 +6,8 @@ use native.Mathlib.Nat.{le-refl}
 use lib.ListN.{length, drop}
 use lib.Seq.{drop-length}
 use Rattle.rulebook.specs.declared.Accepted.{Accepted}
-use Rattle.rulebook.specs.declared.Certificate.{Certificate}
-use Rattle.rulebook.specs.declared.Found.the-variants as found
+use Rattle.rulebook.specs.Certificates.{Certificate}
+use Rattle.rulebook.specs.Certificates as found
 use Rattle.rulebook.specs.Packets.{certificateAt, certificateBytes}
 use Rattle.rulebook.proofs.NumberLaws.{certificate-read, certificate-whole}
 use Rattle.rulebook.proofs.AcceptedLaws.{Proven, one, two, accepted-single, accepted-proof, past-end}

@@ -5,12 +5,11 @@ use mathlib.Core.List.{List, [], _∷_}
 use Prim.Native.Nat.{ℕ, _+_, _^_, _<_}
 use lib.ListN.{length, take, getD}
 use Rattle.rulebook.specs.declared.Accepted.{Accepted}
-use Rattle.rulebook.specs.declared.Certificate.{Certificate}
+use Rattle.rulebook.specs.Certificates.{Certificate, Found}
 use Rattle.rulebook.specs.declared.CertificateKind.{CertificateKind}
 use Rattle.rulebook.specs.declared.CertificateKind.the-variants as certificate
 use Rattle.rulebook.specs.declared.CheckAnswer.the-variants as check
-use Rattle.rulebook.specs.declared.Found.{Found}
-use Rattle.rulebook.specs.declared.Found.the-variants as found
+use Rattle.rulebook.specs.Certificates as found
 use Rattle.rulebook.specs.declared.WriteAnswer.the-variants as write
 use Rattle.rulebook.specs.Tools.{given, choose}
 use Rattle.rulebook.specs.Weights.{stakeIn, weight, totalTo, stakesFit}

@@ -5,10 +5,10 @@ use mathlib.Core.List.{List}
 use Prim.Native.Nat.{ℕ, _+_, _*_, _≤_, _<_}
 use lib.ListN.{length}
 use lib.Dec.{eqb, leb}
-use Rattle.rulebook.specs.declared.Certificate.{Certificate}
+use Rattle.rulebook.specs.Certificates.{Certificate}
 use Rattle.rulebook.specs.declared.CertificateKind.{CertificateKind}
 use Rattle.rulebook.specs.declared.CheckAnswer.{CheckAnswer}
-use Rattle.rulebook.specs.declared.Found.the-variants as found
+use Rattle.rulebook.specs.Certificates as found
 use Rattle.rulebook.specs.declared.Verdict.the-variants.{Fine}
 use Rattle.rulebook.specs.Tools.{choose}
 use Rattle.rulebook.specs.Weights.{totalTo, slotOk}

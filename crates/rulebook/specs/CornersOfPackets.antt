@@ -1,11 +1,11 @@
 -- Computed cases of packets: the checker's numbers in their order, what it counts, and numbers of up to 64 bits.
 use mathlib.Core.Bool.{Bool, true, false, _&&_}
 use mathlib.Core.List.{List, [], _∷_, _++_}
-use Prim.Native.Nat.{ℕ, _-_, _^_}
+use Prim.Native.Nat.{ℕ, _+_, _-_, _*_, _^_}
 use lib.ListN.{replicate}
 use lib.Dec.{T}
 use Rattle.rulebook.specs.PaperNumbers.{readingPanel, checkPanel}
-use Rattle.rulebook.specs.Packets.{numberBytes, numberFrom}
+use Rattle.rulebook.specs.Packets.{numberBytes, numberFrom, maskAt, maskBytes, joined}
 use Rattle.rulebook.specs.Checker.{checkCertificate, checkProof}
 use Rattle.rulebook.specs.Scripts.{equal, all}
 use Rattle.rulebook.specs.Bench.{shown}
@@ -76,6 +76,15 @@ tenBytes =
     ∷ equal (reads (nine ++ (0 ∷ []))) (13 ∷ 0 ∷ 0 ∷ []) ∷ equal (reads nine) (12 ∷ 0 ∷ 0 ∷ [])
     ∷ equal (reads (replicate 9 128 ++ (1 ∷ []))) (0 ∷ (2 ^ 63) ∷ 10 ∷ []) ∷ equal (reads (replicate 8 255 ++ (127 ∷ []))) (0 ∷ (2 ^ 63 - 1) ∷ 9 ∷ []) ∷ [])
 
-cornersOfPackets : T (all (checkOrder ∷ blockOfKind ∷ masks ∷ weights ∷ proofOrder ∷ counted ∷ tenBytes ∷ []))
+-- A mask of two words: "lowest nodes first", node 63 the last of the first word, node 64 the first of the second; 12 and 13 as met.
+abbrev twoWords : Bool
+twoWords =
+    let reads : List ℕ → List ℕ = (λ bytes. shown (readingPanel (maskAt 2 bytes 0))) in
+    all (equal (maskBytes 2 (2 ^ 63)) (replicate 9 128 ++ (1 ∷ 0 ∷ [])) ∷ equal (maskBytes 2 (2 ^ 64)) (0 ∷ 1 ∷ []) ∷ equal (maskBytes 2 (2 ^ 65 + 5)) (5 ∷ 2 ∷ [])
+    ∷ equal (reads (5 ∷ 2 ∷ 9 ∷ [])) (0 ∷ (2 ^ 65 + 5) ∷ 2 ∷ []) ∷ equal (reads (replicate 9 128 ++ (1 ∷ 1 ∷ []))) (0 ∷ (2 ^ 63 + 2 ^ 64) ∷ 11 ∷ [])
+    ∷ equal (reads (5 ∷ [])) (12 ∷ 0 ∷ 0 ∷ []) ∷ equal (reads (5 ∷ 128 ∷ 0 ∷ [])) (13 ∷ 0 ∷ 0 ∷ [])
+    ∷ equal (joined (5 ∷ 2 ∷ []) ∷ []) ((2 ^ 65 + 5) ∷ []) ∷ [])
+
+cornersOfPackets : T (all (checkOrder ∷ blockOfKind ∷ masks ∷ weights ∷ proofOrder ∷ counted ∷ tenBytes ∷ twoWords ∷ []))
 unfolding rules
 cornersOfPackets = tt

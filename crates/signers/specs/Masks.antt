@@ -2,7 +2,8 @@
 use mathlib.Core.Path.{_≡_}
 use mathlib.Core.Bool.{Bool}
 use mathlib.Core.List.{List}
-use Prim.Native.Nat.{ℕ, suc, _≤_, _<_}
+use Prim.Native.Nat.{ℕ, suc, _*_, _≤_, _<_}
+use lib.ListN.{length}
 use Rattle.rulebook.specs.declared.Cell.{Cell}
 use Rattle.rulebook.specs.declared.CertificateKind.{CertificateKind}
 use Rattle.rulebook.specs.Weights.{mostNodes, lastSlot}
@@ -24,9 +25,16 @@ pub record Signing (ws : List ℕ) (nodes s : ℕ) : Type 0 where
   pub few : nodes ≤ mostNodes
   pub placed : nodes ≤ places (ledgerOf ws)
 
--- Likewise for all nodes that the record counts.
-pub record Naming (ws : List ℕ) (s : ℕ) : Type 0 where
+-- A mask has words for so many nodes, and no more of them than there can be nodes.
+pub record Wide (nodes : ℕ) (mask : List ℕ) : Type 0 where
+  pub long : nodes ≤ 64 * length mask
+  pub few : length mask ≤ mostNodes
+
+-- Both for all nodes that the record counts.
+pub record Naming (ws : List ℕ) (s : ℕ) (a b : List ℕ) : Type 0 where
   pub long : Long ws
   pub slot : s < suc lastSlot
   pub few : ledgerOf ws .count ≤ mostNodes
   pub placed : ledgerOf ws .count ≤ places (ledgerOf ws)
+  pub wideA : Wide (ledgerOf ws .count) a
+  pub wideB : Wide (ledgerOf ws .count) b

@@ -1,20 +1,20 @@
-// The signers that a record has stored, as masks, and the certificate that names them.
+// The signers that a record has stored, as masks in lent words, and the certificate that names them.
 ghost use mathlib.Core.Path.{_≡_};
+ghost use Prim.Native.Nat.{_+_, _-_, min};
 ghost use Rattle.rulebook.specs.Ledger.{cellAt};
-ghost use Rattle.rulebook.specs.Packets.{maskOf};
+ghost use Rattle.rulebook.specs.Packets.{maskOf, joined, certificateOf};
 ghost use Rattle.rulebook.specs.Writers.{inA, inB, certificateFor};
 ghost use Rattle.record.specs.Layout.{ledgerOf};
-ghost use Rattle.signers.specs.Masks.{inMask, Signing, Naming};
+ghost use Rattle.signers.specs.Masks.{inMask, Signing, Wide, Naming};
 use cells::has_fallback;
 use kinds::kind_number;
 use record::count;
 use record::load_cell;
 use rulebook::Cell;
-use rulebook::Certificate;
 use rulebook::CertificateKind;
+use rulebook::Heading;
 use rulebook::Node;
 use rulebook::Slot;
-use stakes::with_bit;
 
 // The two masks of a certificate.
 pub enum Mask {
@@ -60,32 +60,79 @@ fn in_mask(which: Mask, kind: CertificateKind, b: u64, c: Cell) -> bool
     }
 }
 
-// A mask of the signers stored in a slot, node by node.
-fn signers_in(rec: &[u64], nodes: usize, which: Mask, kind: CertificateKind, s: Slot, b: u64) -> u64
-    requires { ⌜ Signing (now rec) nodes (s .0) ⌝ }
-    ensures { λ r. ⌜ r ≡ maskOf (λ n. inMask which kind b (cellAt (ledgerOf (now (rec .entry))) (s .0) n)) nodes ⌝ }
+// How many of so many nodes stand in a word, from a node on.
+fn nodes_from(nodes: usize, from: usize) -> usize
+    ensures { λ r. ⌜ r ≡ min 64 (nodes - from) ⌝ }
 {
-    let mut mask: u64 = 0;
-    for n in 0..nodes {
-        let c = load_cell(rec, s, Node(n));
-        if in_mask(which, kind, b, c) {
-            mask = with_bit(mask, Node(n));
-        }
+    if nodes <= from {
+        return 0;
     }
-    mask
+    if 64 <= nodes - from {
+        return 64;
+    }
+    nodes - from
 }
 
-// The certificate that names all stored signers.
-pub fn certificate_for(rec: &[u64], kind: CertificateKind, s: Slot, b: u64) -> Certificate
-    requires { ⌜ Naming (now rec) (s .0) ⌝ }
-    ensures { λ r. ⌜ r ≡ certificateFor (ledgerOf (now (rec .entry))) kind (s .0) b ⌝ }
+// A word of a mask: the signers stored in a slot, from a node on, node by node.
+fn signers_from(
+    rec: &[u64],
+    nodes: usize,
+    from: usize,
+    which: Mask,
+    kind: CertificateKind,
+    s: Slot,
+    b: u64,
+) -> u64
+    requires { ⌜ Signing (now rec) nodes (s .0) ⌝ }
+    ensures { λ r. ⌜ r ≡ maskOf (λ j. inMask which kind b (cellAt (ledgerOf (now (rec .entry))) (s .0) (from + j))) (min 64 (nodes - from)) ⌝ }
+{
+    let upto = nodes_from(nodes, from);
+    let mut word: u64 = 0;
+    for j in 0..upto {
+        let c = load_cell(rec, s, Node(from + j));
+        if in_mask(which, kind, b, c) {
+            word = word | (1 << j);
+        }
+    }
+    word
+}
+
+// A mask of the signers stored in a slot, word by word into lent words.
+fn signers_in(
+    rec: &[u64],
+    nodes: usize,
+    which: Mask,
+    kind: CertificateKind,
+    s: Slot,
+    b: u64,
+    mask: &mut [u64],
+)
+    requires { ⌜ (Signing (now rec) nodes (s .0)) × Wide nodes (now mask) ⌝ }
+    ensures { λ _. ⌜ joined (now (mask .exit)) ≡ maskOf (λ n. inMask which kind b (cellAt (ledgerOf (now (rec .entry))) (s .0) n)) nodes ⌝ }
+{
+    for i in 0..mask.len() {
+        mask[i] = signers_from(rec, nodes, 64 * i, which, kind, s, b);
+    }
+}
+
+// The certificate that names all stored signers: its heading, and its masks in lent words.
+pub fn certificate_for(
+    rec: &[u64],
+    kind: CertificateKind,
+    s: Slot,
+    block: u64,
+    a: &mut [u64],
+    b: &mut [u64],
+) -> Heading
+    requires { ⌜ Naming (now rec) (s .0) (now a) (now b) ⌝ }
+    ensures { λ r. ⌜ certificateOf r (now (a .exit)) (now (b .exit)) ≡ certificateFor (ledgerOf (now (rec .entry))) kind (s .0) block ⌝ }
 {
     let nodes = count(rec);
-    Certificate {
+    signers_in(rec, nodes, Mask::A, kind, s, block, a);
+    signers_in(rec, nodes, Mask::B, kind, s, block, b);
+    Heading {
         kind: kind_number(kind),
         slot: s.0 as u64,
-        block: b,
-        maska: signers_in(rec, nodes, Mask::A, kind, s, b),
-        maskb: signers_in(rec, nodes, Mask::B, kind, s, b),
+        block,
     }
 }

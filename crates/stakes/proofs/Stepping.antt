@@ -1,22 +1,28 @@
--- From set bit to set bit: what stepping over a word adds is what walking its places adds, over any width. Assumes nothing.
+-- From set bit to set bit: what stepping over a word adds is what walking its places adds, over any width; and word by word over a
+-- table. Assumes nothing.
 use mathlib.Core.Path.{_≡_, refl, sym, ap, ap₂, _∙_}
-use mathlib.Core.List.{List, [], _∷_}
-use mathlib.Core.Bool.{Bool, _||_}
+use mathlib.Core.List.{List}
+use mathlib.Core.Bool.{Bool, false, _&&_, _||_}
 use mathlib.Core.Logic.{_⊎_, inl, inr}
-use Prim.Native.Nat.{ℕ, zero, suc, _+_, _-_, _*_, _/_, _%_, _^_, _<_, _≤_, suc-le-suc, zero-le}
+use Prim.Native.Nat.{ℕ, zero, suc, _+_, _-_, _*_, _/_, _%_, _^_, _<_, _≤_, suc-le-suc, zero-le, min}
 use native.Mathlib.Omega.{arith}
-use native.Mathlib.Nat.{mod-lt, pow-suc, div-one}
+use native.Mathlib.Nat.{mod-lt, pow-suc, div-one, lt-of-lt-of-le}
 use native.Mathlib.Decide.{le-ind}
 use lib.Count.{trailingZeros, under}
 use lib.Bits.{bitAnd, bitOr, and-step, and-self, and-le-r}
-use lib.Pow.{shr-shr}
-use lib.ListN.{length}
-use lib.Dec.{lit<, eqb}
+use lib.Pow.{shr-shr, pow-mono}
+use lib.ListN.{length, getD, take, drop, length-drop}
+use lib.Seq.{getD-drop, take-length}
+use lib.Dec.{lit<, ltb, leb, eqb}
+use borrow.Author.Tests.{lt-ltb, le-ltb, ltb-true, ltb-false, leb-true, leb-false}
 use Rattle.rulebook.specs.Tools.{part, sumTo}
 use Rattle.rulebook.specs.Weights.{mostStake, stakeIn, weight, totalTo}
-use Rattle.rulebook.specs.Packets.{bit, countOf}
-use Rattle.rulebook.proofs.ToolLaws.{part-le, part-on, part-off, sum-same, sum-le, sum-const}
-use Rattle.rulebook.proofs.MaskLaws.{zero-bit, past-bit, mask-lt, mask-bit, or-count, or-weight}
+use Rattle.rulebook.specs.Packets.{bit, maskOf, countOf, joined}
+use Rattle.rulebook.proofs.ToolLaws.{by-test, part-le, part-on, part-off, sum-same, sum-le, sum-const, sum-mono}
+use Rattle.rulebook.proofs.MaskLaws.{zero-bit, past-bit, mask-lt, mask-bit, or-bit, count-le}
+use Rattle.rulebook.proofs.WeightLaws.{weight-total}
+use Rattle.rulebook.proofs.WordLaws.{Words, word-bit, past-words, sum-split}
+use Rattle.stakes.specs.declared.Weighed.{Weighed}
 use Rattle.stakes.specs.Table.{Lent, weighed}
 use Rattle.stakes.specs.Masks.{firstNodes, WordIn}
 use Rattle.stakes.proofs.Laws.{among-first}
@@ -157,47 +163,132 @@ module _ (ss : List ℕ) (word signers weighs left : ℕ) (s : Stepped ss word s
       let b : named 64 (stakeIn ss) left ≡ 0 = ap (named 64 (stakeIn ss)) z ∙ named-none 64 (stakeIn ss) in
       ap₂ (λ (x y : ℕ). record { signers = x; weight = record { 0 = y } }) (omega (arith, s .count, a)) (omega (arith, s .sum, b))
 
--- ---- the word of a whole table
+-- ---- word by word over a table
 
 -- Nothing is added past c.
 sum-past : (f : ℕ → ℕ) (c n : ℕ) → c ≤ n → ((i : ℕ) → c ≤ i → f i ≡ 0) → sumTo n f ≡ sumTo c f
 unfolding sumTo
 sum-past f c n l h = le-ind (λ (k : ℕ). sumTo k f ≡ sumTo c f) refl (λ k q e. omega (arith, h k q)) n l
 
--- There is no stake past the end.
-past-end : (ss : List ℕ) (n : ℕ) → length ss ≤ n → stakeIn ss n ≡ 0
-past-end [] n h = refl
-past-end (x ∷ ss) zero h = absurd (omega arith)
-past-end (x ∷ ss) (suc n) h = past-end ss n (omega arith)
+-- No more than the whole table, wherever one stops.
+total-most : (ss : List ℕ) (n : ℕ) → totalTo ss n ≤ totalTo ss (length ss)
+unfolding totalTo
+total-most ss n =
+    by-test (leb n (length ss))
+    (λ e. sum-mono n (length ss) (stakeIn ss) (leb-true n (length ss) e))
+    (λ e. omega (arith, leb-false n (length ss) e, sum-past (stakeIn ss) (length ss) n (omega (arith, leb-false n (length ss) e)) (past-words ss)))
 
--- The nodes of lent stakes that either of two masks names.
-module _ (ss : List ℕ) (k : Lent ss) (a b : ℕ) where
-  abbrev word : ℕ
-  word = bitAnd (bitOr a b) (firstNodes (length ss))
+-- The part of the stakes from a word's first node on.
+part-tail : (ss : List ℕ) (from i : ℕ) → from ≡ 64 * i → take (length ss - from) (drop from ss) ≡ drop (64 * i) ss
+part-tail ss from i e = ap (λ (n : ℕ). take n (drop from ss)) (sym (length-drop from ss)) ∙ take-length (drop from ss) ∙ ap (λ (n : ℕ). drop n ss) e
 
-  word-lt : word < 2 ^ length ss
-  word-lt = rw (among-first (bitOr a b) (length ss) (k .few)) (mask-lt (bit (bitOr a b)) (length ss))
+-- Two masks over lent stakes, and the words of them that are weighed.
+module _ (ss xs ys : List ℕ) (k : Lent ss) (hx : Words xs) (hy : Words ys) where
+  -- A node of the table that signed.
+  abbrev who : ℕ → Bool
+  who n = ltb n (length ss) && (bit (joined xs) n || bit (joined ys) n)
 
-  word-bit : (i : ℕ) → i < length ss → bit word i ≡ bit (bitOr a b) i
-  word-bit i l = rw (among-first (bitOr a b) (length ss) (k .few)) (mask-bit (bit (bitOr a b)) (length ss) i l)
+  who-past : (n : ℕ) → length ss ≤ n → who n ≡ false
+  who-past n l = rw (le-ltb n (length ss) l)
 
-  -- They can be weighed,
-  pub table-word : WordIn ss word
+  who-in : (n : ℕ) → n < length ss → who n ≡ (bit (joined xs) n || bit (joined ys) n)
+  who-in n l = rw (lt-ltb n (length ss) l)
+
+  -- Word i, cut off at the table's end.
+  abbrev cut : ℕ → ℕ
+  cut i = bitAnd (bitOr (getD xs i 0) (getD ys i 0)) (firstNodes (length ss - 64 * i))
+
+  cut-is : (i : ℕ) → cut i ≡ maskOf (bit (bitOr (getD xs i 0) (getD ys i 0))) (min (length ss - 64 * i) 64)
+  cut-is i = among-first (bitOr (getD xs i 0) (getD ys i 0)) (length ss - 64 * i)
+
+  cut-lt : (i n : ℕ) → min (length ss - 64 * i) 64 ≤ n → cut i < 2 ^ n
+  cut-lt i n l = rw (cut-is i) (lt-of-lt-of-le (mask-lt (bit (bitOr (getD xs i 0) (getD ys i 0))) (min (length ss - 64 * i) 64)) (pow-mono l))
+
+  -- It names the table's nodes that signed, from node 64 i on.
+  cut-who : (i j : ℕ) → j < 64 → bit (cut i) j ≡ who (64 * i + j)
+  cut-who i j l =
+      by-test (ltb (64 * i + j) (length ss))
+      (λ e. let h : 64 * i + j < length ss = ltb-true (64 * i + j) (length ss) e in
+      rw (cut-is i) (mask-bit (bit (bitOr (getD xs i 0) (getD ys i 0))) (min (length ss - 64 * i) 64) j (omega arith))
+      ∙ or-bit (getD xs i 0) (getD ys i 0) j ∙ ap₂ (λ (x y : Bool). x || y) (sym (word-bit xs hx i j l)) (sym (word-bit ys hy i j l))
+      ∙ sym (who-in (64 * i + j) h))
+      (λ e. let h : length ss ≤ 64 * i + j = ltb-false (64 * i + j) (length ss) e in
+      past-bit (cut i) (min (length ss - 64 * i) 64) j (cut-lt i (min (length ss - 64 * i) 64) (omega arith)) (omega arith) ∙ sym (who-past (64 * i + j) h))
+
+  -- What weighing it asks.
+  cut-in : (i : ℕ) → WordIn (drop (64 * i) ss) (cut i)
   unfolding totalTo
-  table-word =
+  cut-in i =
       record {
-        named = word-lt;
-        light = omega (arith, sum-past (stakeIn ss) (length ss) 64 (k .few) (past-end ss), k .light);
+        named = cut-lt i (length (drop (64 * i) ss)) (omega (arith, length-drop (64 * i) ss));
+        light = omega (
+          arith,
+          sum-split (64 * i) 64 (stakeIn ss),
+          sum-same 64 (stakeIn (drop (64 * i) ss)) (λ j. stakeIn ss (64 * i + j)) (λ j l. getD-drop (64 * i) ss j 0),
+          total-most ss (64 * i + 64),
+          k .light,
+        );
       }
 
-  named-word : (g : ℕ → ℕ) → sumTo 64 (λ n. part (bit word n) (g n)) ≡ sumTo (length ss) (λ n. part (bit (bitOr a b) n) (g n))
-  named-word g =
-      sum-past (λ n. part (bit word n) (g n)) (length ss) 64 (k .few) (λ i l. part-off (bit word i) (g i) (past-bit word (length ss) i word-lt l))
-      ∙ sum-same (length ss) (λ n. part (bit word n) (g n)) (λ n. part (bit (bitOr a b) n) (g n)) (λ i l. ap (λ (q : Bool). part q (g i)) (word-bit i l))
+  -- The same of the word as it is made and the stakes as they are lent.
+  module _ (from i nodes : ℕ) (e : from ≡ 64 * i) (f : nodes ≡ firstNodes (length ss - from)) where
+    made-cut : bitAnd (bitOr (getD xs i 0) (getD ys i 0)) nodes ≡ cut i
+    made-cut = ap (bitAnd (bitOr (getD xs i 0) (getD ys i 0))) (f ∙ ap (λ (n : ℕ). firstNodes (length ss - n)) e)
 
-  -- and weigh over the word's places what the two masks weigh over the stakes.
-  pub table-signed : weighed ss 64 (bit word) ≡ weighed ss (length ss) (λ n. bit a n || bit b n)
+    pub word-in : WordIn (take (length ss - from) (drop from ss)) (bitAnd (bitOr (getD xs i 0) (getD ys i 0)) nodes)
+    word-in = rw (part-tail ss from i e, made-cut) (cut-in i)
+
+    pub word-weighed : (here : Weighed) → here ≡ weighed (take (length ss - from) (drop from ss)) 64 (bit (bitAnd (bitOr (getD xs i 0) (getD ys i 0)) nodes))
+        → here ≡ weighed (drop (64 * i) ss) 64 (bit (cut i))
+    word-weighed here w = w ∙ ap₂ (λ (x : List ℕ) (y : ℕ). weighed x 64 (bit y)) (part-tail ss from i e) made-cut
+
+  -- The nodes of the first i words are weighed.
+  pub record Summed (signers weighs i : ℕ) : Type 0 where
+    pub count : signers ≡ countOf who (64 * i)
+    pub sum : weighs ≡ weight ss (64 * i) who
+
+  pub summed-none : Summed 0 0 0
+  unfolding countOf weight sumTo
+  summed-none = record { count = refl; sum = refl }
+
+  module _ (signers weighs i : ℕ) (m : Summed signers weighs i) (here : Weighed) (w : here ≡ weighed (drop (64 * i) ss) 64 (bit (cut i))) where
+    pub summed-more : Summed (signers + here .signers) (weighs + here .weight .0) (i + 1)
+    unfolding weighed countOf weight
+    summed-more =
+        let n : 64 * (i + 1) ≡ 64 * i + 64 = omega arith in
+        let a : here .signers ≡ sumTo 64 (λ j. part (bit (cut i) j) 1) = ap (λ (x : Weighed). x .signers) w in
+        let b : here .weight .0 ≡ sumTo 64 (λ j. part (bit (cut i) j) (stakeIn (drop (64 * i) ss) j)) = ap (λ (x : Weighed). x .weight .0) w in
+        record {
+          count = rw n (omega (
+            arith,
+            m .count,
+            a,
+            sum-split (64 * i) 64 (λ n. part (who n) 1),
+            sum-same 64 (λ j. part (bit (cut i) j) 1) (λ j. part (who (64 * i + j)) 1) (λ j l. ap (λ (t : Bool). part t 1) (cut-who i j l)),
+          ));
+          sum = rw n (omega (
+            arith,
+            m .sum,
+            b,
+            sum-split (64 * i) 64 (λ n. part (who n) (stakeIn ss n)),
+            sum-same 64 (λ j. part (bit (cut i) j) (stakeIn (drop (64 * i) ss) j)) (λ j. part (who (64 * i + j)) (stakeIn ss (64 * i + j)))
+                (λ j l. ap₂ part (cut-who i j l) (getD-drop (64 * i) ss j 0)),
+          ));
+        }
+
+    -- There is room for it.
+    pub summed-few : signers + here .signers ≤ 64 * (i + 1)
+    summed-few = omega (arith, summed-more .count, count-le (64 * (i + 1)) who)
+
+    pub summed-light : weighs + here .weight .0 ≤ mostStake
+    summed-light = omega (arith, summed-more .sum, weight-total ss (64 * (i + 1)) who, total-most ss (64 * (i + 1)), k .light)
+
+  pub summed-done : (signers weighs i : ℕ) → Summed signers weighs i → length ss ≤ 64 * i
+      → record { signers = signers; weight = record { 0 = weighs } } ≡ weighed ss (length ss) (λ n. bit (joined xs) n || bit (joined ys) n)
   unfolding weighed countOf weight
-  table-signed =
+  summed-done signers weighs i m l =
       ap₂ (λ (x y : ℕ). record { signers = x; weight = record { 0 = y } })
-      (named-word (λ _. 1) ∙ or-count (length ss) a b) (named-word (stakeIn ss) ∙ or-weight ss (length ss) a b)
+      (m .count ∙ sum-past (λ n. part (who n) 1) (length ss) (64 * i) l (λ n q. part-off (who n) 1 (who-past n q))
+      ∙ sum-same (length ss) (λ n. part (who n) 1) (λ n. part (bit (joined xs) n || bit (joined ys) n) 1) (λ n q. ap (λ (t : Bool). part t 1) (who-in n q)))
+      (m .sum ∙ sum-past (λ n. part (who n) (stakeIn ss n)) (length ss) (64 * i) l (λ n q. part-off (who n) (stakeIn ss n) (who-past n q))
+      ∙ sum-same (length ss) (λ n. part (who n) (stakeIn ss n)) (λ n. part (bit (joined xs) n || bit (joined ys) n) (stakeIn ss n)) (λ n q. ap (λ (t : Bool). part t (stakeIn ss n)) (who-in n q)))

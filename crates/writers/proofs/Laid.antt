@@ -1,12 +1,13 @@
 -- What the writers ask of the functions that they call, and that the bytes laid are the answer. Assumes nothing.
-use mathlib.Core.Path.{_≡_, refl, sym, ap, _∙_, subst}
+use mathlib.Core.Path.{_≡_, refl, sym, ap, ap₂, _∙_, subst}
 use mathlib.Core.Bool.{true, false}
 use mathlib.Core.List.{List, _++_}
 use Prim.Native.Nat.{ℕ, suc, _≤_, _<_}
 use native.Mathlib.Omega.{arith}
-use lib.ListN.{length, length-append}
-use lib.Dec.{lit<}
-use Rattle.rulebook.specs.declared.Certificate.{Certificate}
+use lib.ListN.{length, take, length-append}
+use lib.Seq.{take-at}
+use Rattle.rulebook.specs.Certificates.{Certificate}
+use Rattle.rulebook.specs.declared.Heading.{Heading}
 use Rattle.rulebook.specs.declared.CertificateKind.{CertificateKind}
 use Rattle.rulebook.specs.declared.CertificateKind.the-variants as certificate
 use Rattle.rulebook.specs.declared.Refusal.the-variants as refusal
@@ -17,10 +18,14 @@ use Rattle.rulebook.specs.Weights.{lastSlot}
 use Rattle.rulebook.specs.Ledger.{Ledger}
 use Rattle.rulebook.specs.Pool.{held}
 use Rattle.rulebook.specs.PaperNumbers.{certificateNumber}
-use Rattle.rulebook.specs.Packets.{certificateBytes}
+use Rattle.rulebook.specs.Checker.{isOtherKind}
+use Rattle.rulebook.specs.Packets.{wordsIn, certificateOf, certificateBytes}
 use Rattle.rulebook.specs.Writers.{Wrote, certificateFor, wroteOn, certificateVerdict, writeCertificate, proofVerdict, proofBytes, writeProof, over, Writes}
 use Rattle.rulebook.proofs.ToolLaws.{given-on, given-off, by-test}
 use Rattle.rulebook.proofs.NumberLaws.{certificate-few}
+use Rattle.rulebook.proofs.AcceptedLaws.{kind-small, kind-words}
+use Rattle.five_numbers.specs.Told.{Masks}
+use Rattle.five_numbers.proofs.Whole.{words-few}
 use Rattle.numbers.specs.Written.{Room, Written}
 use Rattle.numbers.proofs.Stores.{after}
 use Rattle.record.specs.Layout.{ledgerOf}
@@ -32,27 +37,30 @@ use Rattle.writers.specs.Writing.{unsound, certificateOn, proofOn}
 
 -- ---- what the inner functions ask
 
-pub naming : (ws : List ℕ) (s : ℕ) → soundWords ws ≡ true → s < suc lastSlot → Naming ws s
-naming ws s e h = record { long = sound-long ws e; slot = h; few = sound-head ws e .few; placed = sound-placed ws e }
+-- Masks of as many words as the kind says have words for every node.
+pub naming : (ws : List ℕ) (s : ℕ) (a b : List ℕ) (k : CertificateKind) (w : ℕ) → soundWords ws ≡ true → s < suc lastSlot → isOtherKind k ≡ false
+    → w ≡ wordsIn (certificateNumber k) → length a ≡ w → length b ≡ w → Naming ws s a b
+naming ws s a b k w e h o n p q =
+    let wide = kind-words (ledgerOf ws .count) k o (sound-head ws e .few) in
+    let most = words-few w (certificateNumber k) n in
+    record {
+      long = sound-long ws e;
+      slot = h;
+      few = sound-head ws e .few;
+      placed = sound-placed ws e;
+      wideA = record { long = omega (arith, wide, n, p); few = omega (arith, most, p) };
+      wideB = record { long = omega (arith, wide, n, q); few = omega (arith, most, q) };
+    }
 
 pub weighing : (ws : List ℕ) (s : ℕ) → soundWords ws ≡ true → s < suc lastSlot → Weighing ws s
 weighing ws s e h = record { long = sound-long ws e; slot = h; table = sound-tabled ws e }
 
 -- ---- lengths
 
-kind-few : (k : CertificateKind) → certificateNumber k < 128
-unfolding certificateNumber
-kind-few certificate.FastFinal = lit< tt
-kind-few certificate.Notar = lit< tt
-kind-few certificate.NotarFallback = lit< tt
-kind-few certificate.Skip = lit< tt
-kind-few certificate.Final = lit< tt
-kind-few certificate.Other = lit< tt
-
 -- A certificate that is written has at most 32 bytes, whatever it names.
 pub certificate-short : (l : Ledger) (k : CertificateKind) (s b : ℕ) → s < suc lastSlot → length (certificateBytes (certificateFor l k s b)) ≤ 32
-unfolding certificateFor
-certificate-short l k s b h = certificate-few (certificateFor l k s b) (kind-few k) (omega arith)
+unfolding certificateFor wordsIn
+certificate-short l k s b h = certificate-few (certificateFor l k s b) (omega (arith, kind-small k)) (omega arith)
 
 -- The bytes of a proof, by the form that is held.
 pub proof-fast : (l : Ledger) (s b : ℕ) → held l certificate.FastFinal s b ≡ true
@@ -84,44 +92,49 @@ proof-short l s b h =
 
 -- ---- laying
 
+-- Words that were lent from the front are there again.
+pub front-enough : (w : ℕ) (xs more : List ℕ) → length xs ≡ w → w ≤ length (xs ++ more)
+front-enough w xs more e = omega (arith, e, length-append xs more)
+
+-- The words that were lent for the masks stand at the front of those that are given back.
+module _ (l : Ledger) (k : CertificateKind) (s b : ℕ) (h : Heading) (w : ℕ) (xs ys : List ℕ) (e : certificateOf h xs ys ≡ certificateFor l k s b) (p : length xs ≡ w)
+    (q : length ys ≡ w) (more rest : List ℕ) where
+  pub given-back : certificateOf h (take w (xs ++ more)) (take w (ys ++ rest)) ≡ certificateFor l k s b
+  given-back = ap₂ (λ (x y : List ℕ). certificateOf h x y) (take-at xs more w p) (take-at ys rest w q) ∙ e
+
+  pub given-masks : w ≡ wordsIn (certificateNumber k) → Masks h (take w (xs ++ more)) (take w (ys ++ rest))
+  unfolding certificateFor
+  given-masks n =
+      let kind : h .kind ≡ certificateNumber k = ap (λ (c : Certificate). c .kind) e in
+      let words : w ≡ wordsIn (h .kind) = n ∙ ap wordsIn (sym kind) in
+      record { longA = ap length (take-at xs more w p) ∙ p ∙ words; longB = ap length (take-at ys rest w q) ∙ q ∙ words }
+
+-- The same certificate is written.
+pub laid-same : {buffer left : List ℕ} {at n : ℕ} {c d : Certificate} → c ≡ d → Written buffer at (certificateBytes c) left n → Written buffer at (certificateBytes d) left n
+laid-same {buffer} {left} {at} {n} e w = subst (λ (x : Certificate). Written buffer at (certificateBytes x) left n) e w
+
 -- There is room for a certificate at the front.
-pub room-front : (l : Ledger) (k : CertificateKind) (s b : ℕ) (buffer : List ℕ) {c : Certificate} → c ≡ certificateFor l k s b → s < suc lastSlot → 32 ≤ length buffer
-    → Room buffer 0 (certificateBytes c)
-room-front l k s b buffer e h r =
-    record { ends = omega (arith, ap (λ (x : Certificate). length (certificateBytes x)) e, certificate-short l k s b h) }
+pub room-front : (l : Ledger) (k : CertificateKind) (s b : ℕ) (buffer : List ℕ) → s < suc lastSlot → 32 ≤ length buffer
+    → Room buffer 0 (certificateBytes (certificateFor l k s b))
+room-front l k s b buffer h r = record { ends = omega (arith, certificate-short l k s b h) }
 
 -- There is room for the second after the first.
-pub room-next : (l : Ledger) (s b : ℕ) (buffer mid : List ℕ) {c d : Certificate} {p : ℕ} → c ≡ certificateFor l certificate.Notar s b → d ≡ certificateFor l certificate.Final s 0
-    → s < suc lastSlot → 64 ≤ length buffer → length mid ≡ length buffer → Written buffer 0 (certificateBytes c) mid p → Room mid p (certificateBytes d)
-room-next l s b buffer mid e f h r k w =
-    record {
-      ends =
-          omega (
-            arith,
-            w .next-is,
-            ap (λ (x : Certificate). length (certificateBytes x)) e,
-            ap (λ (x : Certificate). length (certificateBytes x)) f,
-            certificate-short l certificate.Notar s b h,
-            certificate-short l certificate.Final s 0 h,
-          );
-    }
+pub room-next : (l : Ledger) (s b : ℕ) (buffer mid : List ℕ) (p : ℕ) → s < suc lastSlot → 64 ≤ length buffer → length mid ≡ length buffer
+    → Written buffer 0 (certificateBytes (certificateFor l certificate.Notar s b)) mid p → Room mid p (certificateBytes (certificateFor l certificate.Final s 0))
+room-next l s b buffer mid p h r k w =
+    record { ends = omega (arith, w .next-is, certificate-short l certificate.Notar s b h, certificate-short l certificate.Final s 0 h) }
 
 -- A kind 1 certificate is the proof where it is held.
-pub laid-fast : (l : Ledger) (s b : ℕ) {buffer left : List ℕ} {n : ℕ} {c : Certificate} → held l certificate.FastFinal s b ≡ true → c ≡ certificateFor l certificate.FastFinal s b
-    → Written buffer 0 (certificateBytes c) left n → Written buffer 0 (proofBytes l s b) left n
-laid-fast l s b {buffer} {left} {n} e f w =
-    subst (λ (x : List ℕ). Written buffer 0 x left n) (ap certificateBytes f ∙ sym (proof-fast l s b e)) w
+pub laid-fast : (l : Ledger) (s b : ℕ) {buffer left : List ℕ} {n : ℕ} → held l certificate.FastFinal s b ≡ true
+    → Written buffer 0 (certificateBytes (certificateFor l certificate.FastFinal s b)) left n → Written buffer 0 (proofBytes l s b) left n
+laid-fast l s b {buffer} {left} {n} e w = subst (λ (x : List ℕ). Written buffer 0 x left n) (sym (proof-fast l s b e)) w
 
 -- Else the two others, one after the other.
-pub laid-slow : (l : Ledger) (s b : ℕ) {buffer mid left : List ℕ} {p n : ℕ} {c d : Certificate} → held l certificate.FastFinal s b ≡ false
-    → c ≡ certificateFor l certificate.Notar s b → d ≡ certificateFor l certificate.Final s 0 → s < suc lastSlot → 64 ≤ length buffer
-    → Written buffer 0 (certificateBytes c) mid p → Written mid p (certificateBytes d) left n → Written buffer 0 (proofBytes l s b) left n
-laid-slow l s b {buffer} {mid} {left} {p} {n} {c} {d} e f g h r w v =
-    let m : certificateBytes c ++ certificateBytes d ≡ certificateBytes (certificateFor l certificate.Notar s b) ++ certificateBytes (certificateFor l certificate.Final s 0) =
-    rw (f, g) refl
-    in
-    subst (λ (x : List ℕ). Written buffer 0 x left n) (m ∙ sym (proof-slow l s b e))
-    (after (omega (arith, ap length m, two-short l s b h)) w v)
+pub laid-slow : (l : Ledger) (s b : ℕ) {buffer mid left : List ℕ} {p n : ℕ} → held l certificate.FastFinal s b ≡ false → s < suc lastSlot → 64 ≤ length buffer
+    → Written buffer 0 (certificateBytes (certificateFor l certificate.Notar s b)) mid p → Written mid p (certificateBytes (certificateFor l certificate.Final s 0)) left n
+    → Written buffer 0 (proofBytes l s b) left n
+laid-slow l s b {buffer} {mid} {left} {p} {n} e h r w v =
+    subst (λ (x : List ℕ). Written buffer 0 x left n) (sym (proof-slow l s b e)) (after (omega (arith, two-short l s b h)) w v)
 
 -- ---- the two operations
 

@@ -1,6 +1,6 @@
 -- The writers on a node's words and lent bytes: their answers and all memory afterwards, for every input.
 use mathlib.Core.Path.{_≡_}
-use mathlib.Core.Bool.{true}
+use mathlib.Core.Bool.{true, false}
 use mathlib.Core.List.{List, []}
 use Prim.Native.Nat.{ℕ, suc, _≤_, _<_}
 use lib.ListN.{length}
@@ -9,7 +9,10 @@ use Rattle.rulebook.specs.declared.Refusal.the-variants as refusal
 use Rattle.rulebook.specs.declared.WriteAnswer.the-variants as write
 use Rattle.rulebook.specs.Tools.{given}
 use Rattle.rulebook.specs.Weights.{lastSlot}
-use Rattle.rulebook.specs.Writers.{Wrote, writeCertificate, writeProof}
+use Rattle.rulebook.specs.Packets.{certificateBytes}
+use Rattle.rulebook.specs.Checker.{isOtherKind}
+use Rattle.rulebook.specs.Writers.{Wrote, certificateFor, writeCertificate, writeProof}
+use Rattle.numbers.specs.Written.{Room}
 use Rattle.record.specs.Layout.{ledgerOf}
 use Rattle.soundness.specs.Sound.{soundWords}
 
@@ -24,8 +27,15 @@ certificateOn ws room k s b = given (soundWords ws) unsound (λ _. writeCertific
 unfoldable pub proofOn : List ℕ → ℕ → ℕ → ℕ → Wrote
 proofOn ws room s b = given (soundWords ws) unsound (λ _. writeProof (ledgerOf ws) room s b)
 
+-- The words are sound, the kind is one of the five, the slot has a row, and the buffer has room for the certificate from a place on.
+pub record Laying (ws buffer : List ℕ) (at : ℕ) (k : CertificateKind) (s b : ℕ) : Type 0 where
+  pub sound : soundWords ws ≡ true
+  pub kind : isOtherKind k ≡ false
+  pub slot : s < suc lastSlot
+  pub room : Room buffer at (certificateBytes (certificateFor (ledgerOf ws) k s b))
+
 -- The words are sound, the slot has a row, and the buffer has room for a proof.
-pub record Laying (ws buffer : List ℕ) (s : ℕ) : Type 0 where
+pub record Proving (ws buffer : List ℕ) (s : ℕ) : Type 0 where
   pub sound : soundWords ws ≡ true
   pub slot : s < suc lastSlot
   pub room : 64 ≤ length buffer

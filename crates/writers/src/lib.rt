@@ -2,14 +2,18 @@
 ghost use mathlib.Core.Path.{_≡_};
 ghost use mathlib.Core.Bool.{true};
 ghost use lib.ListN.{length};
-ghost use Rattle.rulebook.specs.Writers.{certificateVerdict, proofVerdict, proofBytes, Writes};
+ghost use Rattle.rulebook.specs.Packets.{certificateBytes};
+ghost use Rattle.rulebook.specs.Writers.{certificateFor, certificateVerdict, proofVerdict, proofBytes, Writes};
 ghost use Rattle.record.specs.Layout.{ledgerOf};
 ghost use Rattle.soundness.specs.Sound.{soundWords};
 ghost use Rattle.numbers.specs.Written.{Written};
-ghost use Rattle.writers.specs.Writing.{certificateOn, proofOn, Laying};
+ghost use Rattle.writers.specs.Writing.{certificateOn, proofOn, Laying, Proving};
 use candidates::is_final;
+use five_numbers::MOST_WORDS;
+use five_numbers::words_in;
 use kinds::block_misfits;
 use kinds::is_other;
+use kinds::kind_number;
 use kinds::slot_ok;
 use pool::held;
 use rulebook::CertificateKind;
@@ -63,19 +67,35 @@ fn judge_proof(rec: &[u64], room: usize, s: Slot, b: u64) -> Verdict
     Verdict::Fine
 }
 
+// Writes the certificate of a kind from a place of the buffer on and answers the place after it; its masks stand in words between.
+fn lay_certificate(
+    rec: &[u64],
+    buffer: &mut [u8],
+    at: usize,
+    kind: CertificateKind,
+    s: Slot,
+    b: u64,
+) -> usize
+    requires { ⌜ Laying (now rec) (now buffer) at kind (s .0) b ⌝ }
+    ensures { λ r. ⌜ Written (now (buffer .entry)) at (certificateBytes (certificateFor (ledgerOf (now (rec .entry))) kind (s .0) b)) (now (buffer .exit)) r ⌝ }
+{
+    let mut x = [0u64; MOST_WORDS];
+    let mut y = [0u64; MOST_WORDS];
+    let words = words_in(kind_number(kind));
+    let c = certificate_for(rec, kind, s, b, &mut x[..words], &mut y[..words]);
+    five_numbers::write_certificate(buffer, at, c, &x[..words], &y[..words])
+}
+
 // Writes a proof from the buffer's front: kind 1 where it is held, else kind 2 and then kind 5.
 fn lay_proof(rec: &[u64], buffer: &mut [u8], s: Slot, b: u64) -> usize
-    requires { ⌜ Laying (now rec) (now buffer) (s .0) ⌝ }
+    requires { ⌜ Proving (now rec) (now buffer) (s .0) ⌝ }
     ensures { λ r. ⌜ Written (now (buffer .entry)) 0 (proofBytes (ledgerOf (now (rec .entry))) (s .0) b) (now (buffer .exit)) r ⌝ }
 {
     if held(rec, CertificateKind::FastFinal, s, b) {
-        let fast = certificate_for(rec, CertificateKind::FastFinal, s, b);
-        return five_numbers::write_certificate(buffer, 0, fast);
+        return lay_certificate(rec, buffer, 0, CertificateKind::FastFinal, s, b);
     }
-    let notar = certificate_for(rec, CertificateKind::Notar, s, b);
-    let last = certificate_for(rec, CertificateKind::Final, s, 0);
-    let next = five_numbers::write_certificate(buffer, 0, notar);
-    five_numbers::write_certificate(buffer, next, last)
+    let next = lay_certificate(rec, buffer, 0, CertificateKind::Notar, s, b);
+    lay_certificate(rec, buffer, next, CertificateKind::Final, s, 0)
 }
 
 // Writes the certificate of a kind for a slot and a block, where it is held.
@@ -95,8 +115,7 @@ pub fn write_certificate(
     match v {
         Verdict::Refused(r) => WriteAnswer::Refused(r),
         Verdict::Fine => {
-            let c = certificate_for(rec, kind, slot, block);
-            WriteAnswer::Written(five_numbers::write_certificate(buffer, 0, c))
+            WriteAnswer::Written(lay_certificate(rec, buffer, 0, kind, slot, block))
         }
     }
 }

@@ -1,25 +1,23 @@
--- The tests in their order; a fault decides, else the weight.
-use Rattle.certificates.proofs.Judged.{fault-same, judge-is, unless-fine, unless-refused}
-use mathlib.Core.Path.{sym, _∙_}
-use Prim.Native.Nat.{_-_}
+-- The kind first; then a fault decides, else the weight.
+use mathlib.Core.Path.{sym, _∙_, refl}
+use lib.ListN.{length}
+use denote.Ref.{now}
 use borrow.Author.Needs.{needs}
+use Rattle.rulebook.specs.Packets.{certificateOf}
+use Rattle.certificates.proofs.Judged.{other-kind, fault-same, judge-is, judge-wide, unless-fine, unless-refused}
 use Rattle.certificates.proofs.judge.Statement.{statement}
 use Rattle.certificates.proofs.judge.Tie as tie
-use Rattle.certificates.proofs.judge.Reads as reads
-use Rattle.certificates.proofs.judge.Lts as lts
-use Rattle.certificates.proofs.bad_signers.Reads as bad-signers-reads
-use Rattle.kinds.proofs.block_misfits.Reads as block-misfits-reads
-use Rattle.certificates.proofs.first_fault.Reads as first-fault-reads
-use Rattle.kinds.proofs.is_other.Reads as is-other-reads
-use Rattle.kinds.proofs.kind_of.Reads as kind-of-reads
-use Rattle.certificates.proofs.slot_ok.Reads as slot-ok-reads
-use Rattle.certificates.proofs.weigh_in.Reads as weigh-in-reads
 
 kind-of-requires : tie.Need-kind-of-requires
 kind-of-requires c κs = search needs
 
 is-other-requires : tie.Need-is-other-requires
 is-other-requires c κs = search needs
+
+returns : tie.Need-returns
+returns c =
+    let s = c .before .before .before .before .before .before .args in
+    other-kind (now (s .stakes)) _ (certificateOf (s .c) (now (s .a)) (now (s .b))) (s .next) (c .before .before .kind-of .ensures) (sym (c .before .is-other .ensures) ∙ c .if1 .taken)
 
 slot-ok-requires : tie.Need-slot-ok-requires
 slot-ok-requires c κs = search needs
@@ -28,7 +26,10 @@ block-misfits-requires : tie.Need-block-misfits-requires
 block-misfits-requires c κs = search needs
 
 bad-signers-requires : tie.Need-bad-signers-requires
-bad-signers-requires c κs = search needs
+bad-signers-requires c κs =
+    let start = c .before .before .before .before .before .before .before .before in
+    let s = start .args in
+    judge-wide (now (s .stakes)) (s .t) (start .pre .0) (s .c) (now (s .a)) (now (s .b)) (start .pre .1) _ (c .before .before .before .before .kind-of .ensures) (sym (c .before .before .before .is-other .ensures) ∙ c .before .before .if1 .left) (s .t .count) (start .pre .0 .count)
 
 first-fault-requires : tie.Need-first-fault-requires
 first-fault-requires c κs = search needs
@@ -40,15 +41,29 @@ enum-told : tie.Need-enum-told
 enum-told c = search needs
 
 weigh-in-requires : tie.Need-weigh-in-requires
-weigh-in-requires c κs = search needs
-
-returns : tie.Need-returns
-returns c =
-    sym (judge-is _ _ (c .before .before .before .before .before .before .before .before .before .before .pre) _ _ _ (c .before .before .before .before .before .before .before .before .kind-of .ensures) _ (fault-same _ _ _ _ _ _ _ _ (c .before .before .before .before .before .before .before .is-other .ensures) (c .before .before .before .before .before .before .slot-ok .ensures) (c .before .before .before .before .before .block-misfits .ensures) (c .before .before .before .before .bad-signers .ensures) _ (c .before .before .before .first-fault .ensures)) ∙ unless-refused _ _ _ (c .before .fault .given .1))
+weigh-in-requires c κs =
+    let start = c .before .before .before .before .before .before .before .before .before .before .before .before in
+    let s = start .args in
+    let wide = judge-wide (now (s .stakes)) (s .t) (start .pre .0) (s .c) (now (s .a)) (now (s .b)) (start .pre .1) _ (c .before .before .before .before .before .before .before .before .kind-of .ensures) (sym (c .before .before .before .before .before .before .before .is-other .ensures) ∙ c .before .before .before .before .before .before .if1 .left) (length (now (s .stakes))) refl in
+    record { fit = start .pre .0; kind = c .before .before .before .before .before .before .before .before .kind-of .ensures; wide = wide }
 
 returns-2 : tie.Need-returns-2
 returns-2 c =
-    c .weigh-in .ensures ∙ sym (judge-is _ _ (c .before .before .before .before .before .before .before .before .before .before .pre) _ _ _ (c .before .before .before .before .before .before .before .before .kind-of .ensures) _ (fault-same _ _ _ _ _ _ _ _ (c .before .before .before .before .before .before .before .is-other .ensures) (c .before .before .before .before .before .before .slot-ok .ensures) (c .before .before .before .before .before .block-misfits .ensures) (c .before .before .before .before .bad-signers .ensures) _ (c .before .before .before .first-fault .ensures)) ∙ unless-fine _ _ (c .before .enum-told .given .1))
+    let start = c .before .before .before .before .before .before .before .before .before .before .before .before .before in
+    let s = start .args in
+    let known = sym (c .before .before .before .before .before .before .before .before .is-other .ensures) ∙ c .before .before .before .before .before .before .before .if1 .left in
+    let faults = fault-same _ _ _ _ _ _ (c .before .before .before .before .before .before .slot-ok .ensures) (c .before .before .before .before .before .block-misfits .ensures) (c .before .before .before .before .bad-signers .ensures (s .c)) _ (c .before .before .before .first-fault .ensures) in
+    let told = judge-is (now (s .stakes)) (s .t) (start .pre .0) _ (certificateOf (s .c) (now (s .a)) (now (s .b))) (s .next) (c .before .before .before .before .before .before .before .before .before .kind-of .ensures) known _ faults in
+    sym (told ∙ unless-refused _ _ _ (c .before .fault .given .1))
+
+returns-3 : tie.Need-returns-3
+returns-3 c =
+    let start = c .before .before .before .before .before .before .before .before .before .before .before .before .before in
+    let s = start .args in
+    let known = sym (c .before .before .before .before .before .before .before .before .is-other .ensures) ∙ c .before .before .before .before .before .before .before .if1 .left in
+    let faults = fault-same _ _ _ _ _ _ (c .before .before .before .before .before .before .slot-ok .ensures) (c .before .before .before .before .before .block-misfits .ensures) (c .before .before .before .before .bad-signers .ensures (s .c)) _ (c .before .before .before .first-fault .ensures) in
+    let told = judge-is (now (s .stakes)) (s .t) (start .pre .0) _ (certificateOf (s .c) (now (s .a)) (now (s .b))) (s .next) (c .before .before .before .before .before .before .before .before .before .kind-of .ensures) known _ faults in
+    c .weigh-in .ensures ∙ sym (told ∙ unless-fine _ _ (c .before .enum-told .given .1))
 
 pub judge-spec : {M : Type 1} → statement M
 judge-spec =
@@ -56,6 +71,7 @@ judge-spec =
     (tie.spec
     kind-of-requires
     is-other-requires
+    returns
     slot-ok-requires
     block-misfits-requires
     bad-signers-requires
@@ -63,5 +79,5 @@ judge-spec =
     enum-known-fault
     enum-told
     weigh-in-requires
-    returns
-    returns-2)
+    returns-2
+    returns-3)

@@ -1,28 +1,35 @@
--- Five numbers written one after the other are one run of bytes.
-use borrow.Author.Needs.{needs}
+-- Three numbers and two masks written one after the other are one run of bytes.
 use native.Mathlib.Omega.{arith}
-use Rattle.five_numbers.proofs.Five.{five}
-use Rattle.rulebook.proofs.NumberLaws.{certificate-length}
+use denote.Ref.{now}
+use borrow.Author.Needs.{needs}
+use Rattle.five_numbers.proofs.Five.{five-long, five}
 use Rattle.five_numbers.proofs.write_certificate.Statement.{statement}
 use Rattle.five_numbers.proofs.write_certificate.Tie as tie
-use Rattle.five_numbers.proofs.write_certificate.Reads as reads
-use Rattle.five_numbers.proofs.write_certificate.Lts as lts
-use Rattle.numbers.proofs.write_number.Reads as write-number-reads
 
 write-number-requires : tie.Need-write-number-requires
-write-number-requires c κs = omega (arith, certificate-length (c .before .before .args .c))
+write-number-requires c κs =
+    let start = c .before .before .before .before in
+    omega (arith, five-long (start .args .c) (now (start .args .a)) (now (start .args .b)) (start .pre .0))
 
 write-number-requires-2 : tie.Need-write-number-requires-2
-write-number-requires-2 c κs = omega (arith, certificate-length (c .before .before .before .before .before .before .args .c))
+write-number-requires-2 c κs =
+    let start = c .before .before .before .before .before .before .before .before in
+    omega (arith, five-long (start .args .c) (now (start .args .a)) (now (start .args .b)) (start .pre .0))
 
 write-number-requires-3 : tie.Need-write-number-requires-3
-write-number-requires-3 c κs = omega (arith, certificate-length (c .before .before .before .before .before .before .before .before .before .before .args .c))
+write-number-requires-3 c κs =
+    let start = c .before .before .before .before .before .before .before .before .before .before .before .before in
+    omega (arith, five-long (start .args .c) (now (start .args .a)) (now (start .args .b)) (start .pre .0))
 
-write-number-requires-4 : tie.Need-write-number-requires-4
-write-number-requires-4 c κs = omega (arith, certificate-length (c .before .before .before .before .before .before .before .before .before .before .before .before .before .before .args .c))
+write-mask-requires : tie.Need-write-mask-requires
+write-mask-requires c κs =
+    let start = c .before .before .before .before .before .before .before .before .before .before .before .before .before .before .before .before in
+    omega (arith, five-long (start .args .c) (now (start .args .a)) (now (start .args .b)) (start .pre .0))
 
-write-number-requires-5 : tie.Need-write-number-requires-5
-write-number-requires-5 c κs = omega (arith, certificate-length (c .before .before .before .before .before .before .before .before .before .before .before .before .before .before .before .before .before .before .args .c))
+write-mask-requires-2 : tie.Need-write-mask-requires-2
+write-mask-requires-2 c κs =
+    let start = c .before .before .before .before .before .before .before .before .before .before .before .before .before .before .before .before .before .before .before .before in
+    omega (arith, five-long (start .args .c) (now (start .args .a)) (now (start .args .b)) (start .pre .0))
 
 same-length : tie.Need-same-length
 same-length c = search needs
@@ -34,8 +41,9 @@ returns c =
     let w3 = w4 .before .before .before .before in
     let w2 = w3 .before .before .before .before in
     let w1 = w2 .before .before .before .before in
-    five (w1 .before .before .before .args .c) (w1 .before .before .before .pre .ends) (w1 .write-number .ensures) (w2 .write-number2 .ensures) (w3 .write-number3 .ensures)
-    (w4 .write-number4 .ensures) (w5 .write-number5 .ensures)
+    let start = w1 .before .before .before .before .before in
+    five (start .args .c) (now (start .args .a)) (now (start .args .b)) (start .pre .0) (start .pre .1 .ends) (w1 .write-number .ensures) (w2 .write-number2 .ensures)
+    (w3 .write-number3 .ensures) (w4 .write-mask .ensures) (w5 .write-mask2 .ensures)
 
 pub write-certificate-spec : {M : Type 1} → statement M
 write-certificate-spec =
@@ -44,7 +52,7 @@ write-certificate-spec =
     write-number-requires
     write-number-requires-2
     write-number-requires-3
-    write-number-requires-4
-    write-number-requires-5
+    write-mask-requires
+    write-mask-requires-2
     same-length
     returns)
