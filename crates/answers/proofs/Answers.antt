@@ -8,7 +8,7 @@ use Rattle.rulebook.specs.declared.Input.{Input}
 use Rattle.rulebook.specs.declared.WriteAnswer.{WriteAnswer}
 use Rattle.rulebook.specs.declared.ReadAnswer.{ReadAnswer}
 use Rattle.rulebook.specs.declared.CheckAnswer.{CheckAnswer}
-use Rattle.rulebook.specs.PaperNumbers.{startPanel, stepPanel, writePanel, readPanel, checkPanel, checkMissing}
+use Rattle.rulebook.specs.PaperNumbers.{startPanel, stepPanel, writePanel, readPanel, checkNumber, checkValues, checkMissing}
 use Rattle.rulebook.specs.Writers as writer
 use Rattle.rulebook.specs.Writers.{Writes}
 use Rattle.node.specs.Stepping.{StepOf, stepLeaves}
@@ -62,11 +62,11 @@ message-read b a n vs s e d =
       valued = d ∙ ap (λ (x : ReadAnswer). readPanel x .values) s;
     }
 
-pub checked : (b a : CheckAnswer) (n : ℕ) (vs : List ℕ) (m : ℕ) → a ≡ b → n ≡ checkPanel a .number → vs ≡ checkPanel a .values → m ≡ checkMissing a
-    → Checked b n vs m
-checked b a n vs m s e d f =
+pub checked : (count : ℕ) (b a : CheckAnswer) (n : ℕ) (vs : List ℕ) (m : ℕ) → a ≡ b → n ≡ checkNumber a → vs ≡ checkValues count a
+    → m ≡ checkMissing a → Checked count b n vs m
+checked count b a n vs m s e d f =
     record {
-      numbered = e ∙ ap (λ (x : CheckAnswer). checkPanel x .number) s;
-      valued = d ∙ ap (λ (x : CheckAnswer). checkPanel x .values) s;
+      numbered = e ∙ ap checkNumber s;
+      valued = d ∙ ap (checkValues count) s;
       lacked = f ∙ ap checkMissing s;
     }

@@ -41,6 +41,6 @@ pub message-read-one : {answer : ReadAnswer} {n n' : ℕ} {values values' : List
 message-read-one a b = (a .numbered ∙ sym (b .numbered), a .valued ∙ sym (b .valued))
 
 -- qr_check_certificate, qr_check_proof.
-pub checked-one : {answer : CheckAnswer} {n n' missing missing' : ℕ} {values values' : List ℕ} → Checked answer n values missing → Checked answer n' values' missing'
+pub checked-one : {count : ℕ} {answer : CheckAnswer} {n n' missing missing' : ℕ} {values values' : List ℕ} → Checked count answer n values missing → Checked count answer n' values' missing'
     → (n ≡ n') × (values ≡ values') × (missing ≡ missing')
 checked-one a b = (a .numbered ∙ sym (b .numbered), a .valued ∙ sym (b .valued), a .lacked ∙ sym (b .lacked))

@@ -7,7 +7,7 @@ use Rattle.rulebook.specs.declared.CheckAnswer.{CheckAnswer}
 use Rattle.rulebook.specs.declared.Input.{Input}
 use Rattle.rulebook.specs.declared.ReadAnswer.{ReadAnswer}
 use Rattle.rulebook.specs.declared.Vote.{Vote}
-use Rattle.rulebook.specs.PaperNumbers.{voteNumber, certificateNumber, startPanel, stepPanel, writePanel, readPanel, checkPanel, checkMissing}
+use Rattle.rulebook.specs.PaperNumbers.{voteNumber, numberIn, startPanel, stepPanel, writePanel, readPanel, checkNumber, checkValues, checkMissing}
 use Rattle.rulebook.specs.Writers.{over}
 use Rattle.rulebook.specs.Writers as written
 pub use Rattle.inputs.specs.Inputs.{voteInput, blockInput, timeoutInput}
@@ -23,9 +23,9 @@ Beside v values = v ∷ [] ≡ values
 abbrev pub voteValues : Vote → List ℕ
 voteValues v = voteNumber (v .kind) ∷ v .node .0 ∷ v .slot .0 ∷ v .block ∷ []
 
--- "An accepted check answers kind, slot, block, signer count and weight".
-abbrev pub acceptedValues : Accepted → List ℕ
-acceptedValues a = certificateNumber (a .kind) ∷ a .slot .0 ∷ a .block ∷ a .signers ∷ a .weight .0 ∷ []
+-- "An accepted check answers kind, slot, block, signer count and weight", under a table of so many nodes.
+abbrev pub acceptedValues : ℕ → Accepted → List ℕ
+acceptedValues count a = numberIn count (a .kind) ∷ a .slot .0 ∷ a .block ∷ a .signers ∷ a .weight .0 ∷ []
 
 -- Start: its number, and all the record's words.
 pub record Started (ws stakes : List ℕ) (own genesis number : ℕ) (left : List ℕ) : Type 0 where
@@ -58,8 +58,8 @@ pub record MessageRead (answer : ReadAnswer) (number : ℕ) (values : List ℕ) 
   pub numbered : number ≡ readPanel answer .number
   pub valued : values ≡ readPanel answer .values
 
--- A check: its number, its five values, and what is missing beside 15.
-pub record Checked (answer : CheckAnswer) (number : ℕ) (values : List ℕ) (missing : ℕ) : Type 0 where
-  pub numbered : number ≡ checkPanel answer .number
-  pub valued : values ≡ checkPanel answer .values
+-- A check under a table of so many nodes: its number, its five values, and what is missing beside 15.
+pub record Checked (count : ℕ) (answer : CheckAnswer) (number : ℕ) (values : List ℕ) (missing : ℕ) : Type 0 where
+  pub numbered : number ≡ checkNumber answer
+  pub valued : values ≡ checkValues count answer
   pub lacked : missing ≡ checkMissing answer

@@ -1,8 +1,8 @@
 // What the operations answer, as numbers and values on the panel: the definitions of the paper's numbers say which.
 ghost use mathlib.Core.Path.{_≡_};
-ghost use Rattle.rulebook.specs.PaperNumbers.{startPanel, stepPanel, writePanel, readPanel, checkPanel, checkMissing};
+ghost use Rattle.rulebook.specs.PaperNumbers.{startPanel, stepPanel, writePanel, readPanel, checkNumber, checkValues, checkMissing};
 ghost use Rattle.answers.specs.Face.{Beside, voteValues, acceptedValues};
-use kinds::kind_number;
+use kinds::number_in;
 use kinds::refusal_missing;
 use kinds::refusal_number;
 use kinds::vote_number;
@@ -97,7 +97,7 @@ fn vote_values(v: Vote) -> [u64; 4]
 
 // What the checker answers, as a number.
 pub fn check_number(a: CheckAnswer) -> u64
-    ensures { λ r. ⌜ r ≡ checkPanel a .number ⌝ }
+    ensures { λ r. ⌜ r ≡ checkNumber a ⌝ }
 {
     match a {
         CheckAnswer::Accepted(_) => 0,
@@ -105,12 +105,12 @@ pub fn check_number(a: CheckAnswer) -> u64
     }
 }
 
-// Kind, slot, block, signer count and weight of what was checked, zeros beside a refusal.
-pub fn check_values(a: CheckAnswer) -> [u64; 5]
-    ensures { λ r. ⌜ r ≡ checkPanel a .values ⌝ }
+// Kind, slot, block, signer count and weight of what was checked under a table of so many nodes, zeros beside a refusal.
+pub fn check_values(count: usize, a: CheckAnswer) -> [u64; 5]
+    ensures { λ r. ⌜ r ≡ checkValues count a ⌝ }
 {
     match a {
-        CheckAnswer::Accepted(x) => accepted_values(x),
+        CheckAnswer::Accepted(x) => accepted_values(count, x),
         CheckAnswer::Refused(_) => [0, 0, 0, 0, 0],
     }
 }
@@ -126,11 +126,11 @@ pub fn check_missing(a: CheckAnswer) -> Weight
 }
 
 // The five values of an accepted check.
-fn accepted_values(x: Accepted) -> [u64; 5]
-    ensures { λ r. ⌜ r ≡ acceptedValues x ⌝ }
+fn accepted_values(count: usize, x: Accepted) -> [u64; 5]
+    ensures { λ r. ⌜ r ≡ acceptedValues count x ⌝ }
 {
     let k = x.kind;
     let s = x.slot;
     let w = x.weight;
-    [kind_number(k), s.0 as u64, x.block, x.signers, w.0]
+    [number_in(count, k), s.0 as u64, x.block, x.signers, w.0]
 }

@@ -13,26 +13,47 @@ use rulebook::Cell;
 use rulebook::CertificateKind;
 use rulebook::Node;
 use rulebook::Slot;
+use rulebook::Weight;
 use rulebook::Who;
 use shown::armed_in;
 use shown::block_after;
+use shown::block_from;
 use shown::cell_of;
 use shown::fallback_after;
 use shown::final_of;
 use shown::genesis_of;
+use shown::heavy_after;
 use shown::held_in;
 use shown::is_blank;
 use shown::kept_of;
+use shown::light_blocks;
 use shown::missing_in;
 use shown::next_for;
 use shown::nodes_of;
 use shown::own_of;
 use shown::percent;
+use shown::stored_in;
 use shown::timed_out_in;
 use shown::total_of;
 use shown::touched;
+use shown::voter_from;
 use shown::weight_of;
 use soundness::sound;
+
+// A page of a slot's blocks, and of its votes.
+const BLOCKS_ON_A_PAGE: usize = 20;
+
+const VOTERS_ON_A_PAGE: usize = 64;
+
+// Rings above so many nodes are shown in sum. In others every block is told: four a node at most.
+const SMALL_RING: usize = 64;
+
+const MOST_BLOCKS: usize = 256;
+
+// Whether a ring is shown in sum.
+fn is_large(rec: &[u64]) -> bool {
+    nodes_of(rec) > SMALL_RING
+}
 
 // A line alone, and whether it was written.
 fn alone(page: &mut [u8], text: &[u8]) -> bool {
@@ -85,18 +106,64 @@ fn cell_lines(page: &mut [u8], at: usize, c: Cell, s: Slot, n: Node) -> usize {
     vote_line(page, t, c.finalvote != 0, s, n, 5, 0)
 }
 
-// The votes of a slot, by node.
-fn slot_lines(page: &mut [u8], at: usize, rec: &[u64], s: Slot) -> usize {
-    let nodes = nodes_of(rec);
-    let mut next = at;
-    for n in 0..nodes {
-        next = cell_lines(page, next, cell_of(rec, s, Node(n)), s, Node(n));
+// Where further nodes' votes are told, where a page did not hold them all.
+fn more_votes(page: &mut [u8], at: usize, rec: &[u64], s: Slot, next: Node) -> usize {
+    if next.0 >= nodes_of(rec) {
+        return at;
     }
-    next
+    let p = put_named(page, at, b"more: votes ", s.0 as u64);
+    let q = put_named(page, p, b" ", next.0 as u64);
+    end_line(page, q)
 }
 
-// Every stored vote, in the order of slot, node, kind and block; 17 where the words are no record. Answers whether every line
-// was written.
+// The votes of a slot, by node: a page of the nodes from one on that have some.
+fn voter_lines(page: &mut [u8], at: usize, rec: &[u64], s: Slot, from: Node) -> usize {
+    let nodes = nodes_of(rec);
+    let mut next = at;
+    let mut n = voter_from(rec, s, from);
+    let mut turns = VOTERS_ON_A_PAGE;
+    while turns > 0 {
+        if n.0 >= nodes {
+            return next;
+        }
+        next = cell_lines(page, next, cell_of(rec, s, n), s, n);
+        n = voter_from(rec, s, Node(n.0 + 1));
+        turns -= 1;
+    }
+    more_votes(page, next, rec, s, n)
+}
+
+// How many votes of a slot are stored, by how many nodes, what these weigh, and how to get the votes, where there are any.
+fn stored_line(page: &mut [u8], at: usize, rec: &[u64], s: Slot) -> usize {
+    let stored = stored_in(rec, s);
+    if stored.nodes == 0 {
+        return at;
+    }
+    let p = put_named(page, at, b"slot ", s.0 as u64);
+    let q = put_named(page, p, b" votes ", stored.votes);
+    let r = put_named(page, q, b" nodes ", stored.nodes);
+    let t = stored_weight(page, r, rec, stored.weight);
+    let u = put_named(page, t, b": votes ", s.0 as u64);
+    let v = put_text(page, u, b" 0");
+    end_line(page, v)
+}
+
+// The weight of the nodes whose votes are stored.
+fn stored_weight(page: &mut [u8], at: usize, rec: &[u64], w: Weight) -> usize {
+    let p = put_text(page, at, b" weight");
+    put_share(page, p, w, percent(w, total_of(rec)))
+}
+
+// The votes of a slot, or in a large ring what they are in sum.
+fn slot_lines(page: &mut [u8], at: usize, rec: &[u64], s: Slot) -> usize {
+    if is_large(rec) {
+        return stored_line(page, at, rec, s);
+    }
+    voter_lines(page, at, rec, s, Node(0))
+}
+
+// Every stored vote, in the order of slot, node, kind and block, in a large ring a line a slot; 17 where the words are no record.
+// Answers whether every line was written.
 pub fn votes(page: &mut [u8], rec: &[u64]) -> bool {
     if !sound(rec) {
         return alone(page, b"17");
@@ -106,6 +173,21 @@ pub fn votes(page: &mut [u8], rec: &[u64]) -> bool {
         at = slot_lines(page, at, rec, Slot(s));
     }
     at < page.len()
+}
+
+// A page of a slot's votes, from a node on; 17 where the words are no record, 3 where there is no such slot, 2 where there is no
+// such node. Answers whether every line was written.
+pub fn slot_votes(page: &mut [u8], rec: &[u64], s: Slot, from: Node) -> bool {
+    if !sound(rec) {
+        return alone(page, b"17");
+    }
+    if !slot_ok(s) {
+        return alone(page, b"3");
+    }
+    if from.0 >= nodes_of(rec) {
+        return alone(page, b"2");
+    }
+    voter_lines(page, 0, rec, s, from) < page.len()
 }
 
 // ---- the board
@@ -268,11 +350,21 @@ fn block_line(page: &mut [u8], at: usize, rec: &[u64], s: Slot, b: u64) -> usize
     held_line(page, next, rec, s, b)
 }
 
-// The blocks that votes name, lowest first: at most four a node.
-fn block_lines(page: &mut [u8], at: usize, rec: &[u64], s: Slot) -> usize {
+// Where further blocks are told, where a page did not hold them all.
+fn more_blocks(page: &mut [u8], at: usize, s: Slot, next: u64) -> usize {
+    if next == 0 {
+        return at;
+    }
+    let p = put_named(page, at, b"  more: board ", s.0 as u64);
+    let q = put_named(page, p, b" ", next);
+    end_line(page, q)
+}
+
+// The blocks that votes name from a number on, lowest first, so many of them.
+fn block_lines(page: &mut [u8], at: usize, rec: &[u64], s: Slot, from: u64, most: usize) -> usize {
     let mut next = at;
-    let mut b = block_after(rec, s, 0);
-    let mut turns: usize = 256;
+    let mut b = block_from(rec, s, from);
+    let mut turns = most;
     while turns > 0 {
         if b == 0 {
             return next;
@@ -281,7 +373,44 @@ fn block_lines(page: &mut [u8], at: usize, rec: &[u64], s: Slot) -> usize {
         b = block_after(rec, s, b);
         turns -= 1;
     }
+    more_blocks(page, next, s, b)
+}
+
+// The blocks that a fifth of the stake stands behind, lowest first: a node names four at most, so there are twenty at most.
+fn heavy_lines(page: &mut [u8], at: usize, rec: &[u64], s: Slot) -> usize {
+    let mut next = at;
+    let mut b = heavy_after(rec, s, 0);
+    let mut turns = BLOCKS_ON_A_PAGE;
+    while turns > 0 {
+        if b == 0 {
+            return next;
+        }
+        next = block_line(page, next, rec, s, b);
+        b = heavy_after(rec, s, b);
+        turns -= 1;
+    }
     next
+}
+
+// How many blocks are lighter, and how to get them, where there are any.
+fn light_line(page: &mut [u8], at: usize, rec: &[u64], s: Slot) -> usize {
+    let lighter = light_blocks(rec, s);
+    if lighter == 0 {
+        return at;
+    }
+    let p = put_named(page, at, b"  lighter blocks ", lighter);
+    let q = put_named(page, p, b": board ", s.0 as u64);
+    let r = put_text(page, q, b" 1");
+    end_line(page, r)
+}
+
+// The blocks that votes name, in a large ring the heavy ones alone.
+fn blocks_board(page: &mut [u8], at: usize, rec: &[u64], s: Slot) -> usize {
+    if is_large(rec) {
+        let next = heavy_lines(page, at, rec, s);
+        return light_line(page, next, rec, s);
+    }
+    block_lines(page, at, rec, s, 1, MOST_BLOCKS)
 }
 
 // A certificate that is held, on a line of its own.
@@ -346,7 +475,7 @@ fn slot_board(page: &mut [u8], at: usize, rec: &[u64], s: Slot) -> usize {
 // What the votes of a slot weigh.
 fn votes_board(page: &mut [u8], at: usize, rec: &[u64], s: Slot) -> usize {
     let p = skip_line(page, at, rec, s);
-    let q = block_lines(page, p, rec, s);
+    let q = blocks_board(page, p, rec, s);
     let r = final_line(page, q, rec, s);
     certificate_lines(page, r, rec, s)
 }
@@ -419,4 +548,15 @@ pub fn slot(page: &mut [u8], rec: &[u64], s: Slot) -> bool {
         return alone(page, b"3");
     }
     slot_board(page, 0, rec, s) < page.len()
+}
+
+// A page of a slot's blocks, from a number on; 17 and 3 likewise. Answers whether every line was written.
+pub fn slot_blocks(page: &mut [u8], rec: &[u64], s: Slot, from: u64) -> bool {
+    if !sound(rec) {
+        return alone(page, b"17");
+    }
+    if !slot_ok(s) {
+        return alone(page, b"3");
+    }
+    block_lines(page, 0, rec, s, from, BLOCKS_ON_A_PAGE) < page.len()
 }

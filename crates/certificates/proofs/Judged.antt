@@ -20,15 +20,15 @@ use Rattle.rulebook.specs.declared.Verdict.{Verdict}
 use Rattle.rulebook.specs.declared.Verdict.the-variants as verdict
 use Rattle.rulebook.specs.declared.Weight.{Weight}
 use Rattle.rulebook.specs.Weights.{slotOk, totalTo, reaches, missing}
-use Rattle.rulebook.specs.PaperNumbers.{certificateKind}
+use Rattle.rulebook.specs.PaperNumbers.{kindIn}
 use Rattle.rulebook.specs.Pool.{fifthsOf}
 use Rattle.rulebook.specs.Inputs.{refuseIf}
 use Rattle.rulebook.specs.Ledger.{none}
 use Rattle.rulebook.specs.Packets.{bit, countOf, wordsIn, certificateOf}
 use Rattle.rulebook.specs.Checker.{isOtherKind, blockMisfits, badSigners, signed, signedWeight, lacking, judgeWeight, acceptedOf, judged, judgeKind, judge, oneOf}
 use Rattle.rulebook.proofs.WeightLaws.{none-missing, some-missing}
-use Rattle.rulebook.proofs.AcceptedLaws.{table-words}
-use Rattle.five_numbers.specs.Told.{Masks, foundAs}
+use Rattle.rulebook.proofs.KindLaws.{table-words}
+use Rattle.certificate_numbers.specs.Told.{Masks, foundAs}
 use Rattle.stakes.specs.declared.StakeTable.{StakeTable}
 use Rattle.stakes.specs.declared.Weighed.{Weighed}
 use Rattle.stakes.specs.Table.{Fit, weighed}
@@ -88,7 +88,7 @@ unfolding lacking
 lacks-none ws k c m e z = none-missing (fifthsOf k) (totalTo ws (length ws)) (signedWeight ws c) m e z
 
 -- What is told of a certificate that was weighed.
-pub weighed-told : (ws : List ℕ) (k : CertificateKind) (c : Certificate) → k ≡ certificateKind (c .kind) → (w : Weighed)
+pub weighed-told : (ws : List ℕ) (k : CertificateKind) (c : Certificate) → k ≡ kindIn (length ws) (c .kind) → (w : Weighed)
     → w ≡ weighed ws (length ws) (λ n. bit (c .maska) n || bit (c .maskb) n) → (next : ℕ)
     → reaches (fifthsOf k) (totalTo ws (length ws)) (signedWeight ws c) ≡ true
     → checked.Good (record { kind = k; slot = record { 0 = c .slot }; block = c .block; signers = w .signers; weight = w .weight }) next ≡ weighedIn ws k c next
@@ -101,8 +101,12 @@ weighed-told ws k c e w q next r =
 
 -- ---- the tests in their order
 
--- A kind that is none of the five.
-pub other-kind : (ws : List ℕ) (k : CertificateKind) (c : Certificate) (next : ℕ) → k ≡ certificateKind (c .kind) → isOtherKind k ≡ true
+-- The kind by the table's count is the kind by the lent stakes.
+pub kind-heard : (ws : List ℕ) (t : StakeTable) → Fit ws t → (k : CertificateKind) (n : ℕ) → k ≡ kindIn (t .count) n → k ≡ kindIn (length ws) n
+kind-heard ws t f k n e = e ∙ ap (λ (x : ℕ). kindIn x n) (f .count)
+
+-- A kind that is none of the table's five.
+pub other-kind : (ws : List ℕ) (k : CertificateKind) (c : Certificate) (next : ℕ) → k ≡ kindIn (length ws) (c .kind) → isOtherKind k ≡ true
     → checked.Bad refusal.BadKind ≡ toldOf ws c next
 unfolding toldOf judge judgeKind refuseIf judged told
 other-kind ws k c next e o = rw (ap isOtherKind (sym e) ∙ o)
@@ -128,7 +132,7 @@ unless-refused v x r e = rw e
 pub fault-same : (b d f y z w : Bool) → b ≡ y → d ≡ z → f ≡ w → (v : Verdict) → v ≡ faultOf (not b) d f → v ≡ faultOf (not y) z w
 fault-same b d f y z w q r s v e = e ∙ rw (q, r, s)
 
-pub judge-is : (ws : List ℕ) (t : StakeTable) → Fit ws t → (k : CertificateKind) (c : Certificate) (next : ℕ) → k ≡ certificateKind (c .kind) → isOtherKind k ≡ false
+pub judge-is : (ws : List ℕ) (t : StakeTable) → Fit ws t → (k : CertificateKind) (c : Certificate) (next : ℕ) → k ≡ kindIn (length ws) (c .kind) → isOtherKind k ≡ false
     → (v : Verdict) → v ≡ faultOf (not (slotOk (c .slot))) (blockMisfits k (c .block)) (badSigners (t .count) k c)
     → toldOf ws c next ≡ unless v (weighedIn ws k c next)
 unfolding toldOf judge judgeKind refuseIf weighedIn
@@ -146,7 +150,7 @@ judge-is ws t f k c next e o v h =
 -- ---- the masks' words
 
 -- Past 4 they are wide enough for the table.
-pub judge-wide : (ws : List ℕ) (t : StakeTable) → Fit ws t → (h : Heading) (a b : List ℕ) → Masks h a b → (k : CertificateKind) → k ≡ certificateKind (h .kind)
+pub judge-wide : (ws : List ℕ) (t : StakeTable) → Fit ws t → (h : Heading) (a b : List ℕ) → Masks h a b → (k : CertificateKind) → k ≡ kindIn (length ws) (h .kind)
     → isOtherKind k ≡ false → (count : ℕ) → count ≡ length ws → Wide count a b
 judge-wide ws t f h a b m k e o count n =
     record {

@@ -10,7 +10,7 @@ use Rattle.rulebook.specs.declared.CertificateKind.{CertificateKind}
 use Rattle.rulebook.specs.declared.Refusal.the-variants as refusal
 use Rattle.rulebook.specs.declared.Verdict.{Verdict}
 use Rattle.rulebook.specs.declared.Verdict.the-variants as verdict
-use Rattle.rulebook.specs.PaperNumbers.{certificateKind}
+use Rattle.rulebook.specs.PaperNumbers.{kindIn}
 use Rattle.rulebook.specs.Inputs.{refuseIf}
 use Rattle.rulebook.specs.Checker.{One, good, bad, judgeWeight, judge, acceptedOf, judged}
 use Rattle.stakes.specs.declared.StakeTable.{StakeTable}
@@ -26,7 +26,7 @@ pub record Wide (count : ℕ) (a b : List ℕ) : Type 0 where
 -- The table beside lent stakes is theirs, a certificate's kind is known, and its masks have words for every node.
 pub record Heard (stakes : List ℕ) (t : StakeTable) (k : CertificateKind) (c : Heading) (a b : List ℕ) : Type 0 where
   pub fit : Fit stakes t
-  pub kind : k ≡ certificateKind (c .kind)
+  pub kind : k ≡ kindIn (length stakes) (c .kind)
   pub wide : Wide (length stakes) a b
 
 -- What is told of one certificate.

@@ -5,14 +5,14 @@ ghost use Rattle.rulebook.specs.Weights.{slotOk};
 ghost use Rattle.rulebook.specs.Packets.{certificateOf};
 ghost use Rattle.rulebook.specs.Checker.{withoutB, badSigners, oneAt};
 ghost use Rattle.stakes.specs.Table.{Fit};
-ghost use Rattle.five_numbers.specs.Told.{Masks};
+ghost use Rattle.certificate_numbers.specs.Told.{Masks};
 ghost use Rattle.certificates.specs.Told.{Wide, Heard, told, toldOf, weighedIn, faultOf};
-use five_numbers::MOST_WORDS;
-use five_numbers::read_certificate;
-use five_numbers::words_in;
+use certificate_numbers::MOST_WORDS;
+use certificate_numbers::read_certificate;
+use certificate_numbers::words_in;
 use kinds::block_misfits;
 use kinds::is_other;
-use kinds::kind_of;
+use kinds::kind_in;
 use kinds::threshold_of;
 use rulebook::Accepted;
 use rulebook::CertificateKind;
@@ -118,7 +118,7 @@ fn judge(stakes: &[u64], t: StakeTable, c: Heading, a: &[u64], b: &[u64], next: 
     requires { ⌜ (Fit (now stakes) t) × Masks c (now a) (now b) ⌝ }
     ensures { λ r. ⌜ r ≡ toldOf (now (stakes .entry)) (certificateOf c (now (a .entry)) (now (b .entry))) next ⌝ }
 {
-    let k = kind_of(c.kind);
+    let k = kind_in(t.count, c.kind);
     if is_other(k) {
         return Checked::Bad(Refusal::BadKind);
     }

@@ -2,21 +2,21 @@
 use mathlib.Core.Path.{_≡_, refl, sym, ap, _∙_}
 use mathlib.Core.Bool.{Bool, true, false}
 use mathlib.Core.List.{List}
-use Prim.Native.Nat.{ℕ}
+use Prim.Native.Nat.{ℕ, _+_, _-_}
 use native.Mathlib.Omega.{arith}
 use lib.ListN.{length}
 use lib.Dec.{eqb}
-use borrow.Author.Tests.{ne-eqb, eqb-true}
+use borrow.Author.Tests.{eq-eqb, ne-eqb, eqb-true, eqb-false}
 use Rattle.rulebook.specs.Certificates.{Certificate}
 use Rattle.rulebook.specs.declared.CertificateKind.{CertificateKind}
 use Rattle.rulebook.specs.declared.CertificateKind.the-variants as certificate
 use Rattle.rulebook.specs.declared.CheckAnswer.the-variants as check
 use Rattle.rulebook.specs.declared.Refusal.the-variants as refusal
 use Rattle.rulebook.specs.Tools.{choose}
-use Rattle.rulebook.specs.Weights.{stakesFit}
-use Rattle.rulebook.specs.PaperNumbers.{certificateKind}
+use Rattle.rulebook.specs.Weights.{stakesFit, family}
+use Rattle.rulebook.specs.PaperNumbers.{certificateKind, certificateNumber, kindIn, numberIn}
 use Rattle.rulebook.specs.Checker.{One, good, bad, acceptedOf, oneAt, ended, singleOf, secondOf, firstIn, proofOf, checkCertificate, checkProof}
-use Rattle.rulebook.proofs.ToolLaws.{given-on}
+use Rattle.rulebook.proofs.ToolLaws.{given-on, by-test}
 use Rattle.stakes.specs.declared.Made.{Made}
 use Rattle.stakes.specs.Table.{madeOf}
 use Rattle.stakes.proofs.Laws.{made-fits}
@@ -24,10 +24,10 @@ use Rattle.certificates.specs.declared.Checked.{Checked}
 use Rattle.certificates.specs.Told.{told}
 use Rattle.checker.specs.InPacket.{finished, alone, isFinalKind, followed, continued, proven}
 
--- Kind 5 is the number 5.
-pub kind-final : (n : ℕ) → isFinalKind (certificateKind n) ≡ eqb n 5
+-- Of the numbers 1 to 5 it is 5.
+old-final : (n : ℕ) → isFinalKind (certificateKind n) ≡ eqb n 5
 unfolding certificateKind choose isFinalKind
-kind-final n = one (eqb n 1) refl
+old-final n = one (eqb n 1) refl
   where
     last : (e : Bool) → isFinalKind (choose e certificate.Final certificate.Other) ≡ e
     last true = refl
@@ -55,6 +55,17 @@ kind-final n = one (eqb n 1) refl
     one true q = apart 1 q (λ z. omega arith)
     one false q = two (eqb n 2) refl
 
+above-final : (n f : ℕ) → eqb (n - f) 5 ≡ eqb n (5 + f)
+above-final n f =
+    by-test (eqb (n - f) 5)
+    (λ e. e ∙ sym (eq-eqb n (5 + f) (omega (arith, eqb-true (n - f) 5 e))))
+    (λ e. e ∙ sym (ne-eqb n (5 + f) (λ z. eqb-false (n - f) 5 e (omega (arith, z)))))
+
+-- A number stands for kind 5 of a table exactly where it is that kind's.
+kind-final : (count n : ℕ) → isFinalKind (kindIn count n) ≡ eqb n (numberIn count certificate.Final)
+unfolding kindIn numberIn certificateNumber
+kind-final count n = old-final (n - family count) ∙ above-final n (family count)
+
 -- A table is made exactly where the stakes fit.
 pub made-test : (ws : List ℕ) (m : Made) → m ≡ madeOf ws → stakesFit ws (length ws) ≡ m .fits
 made-test ws m q = sym (made-fits ws) ∙ ap (λ (x : Made). x .fits) (sym q)
@@ -68,7 +79,7 @@ alone-is ws packet (bad r) = refl
 -- The second certificate of a proof.
 second-is : (ws packet : List ℕ) (c : Certificate) (o : One) → secondOf ws packet c o ≡ followed (acceptedOf ws c) (length packet) (told ws o)
 unfolding secondOf ended followed told finished acceptedOf
-second-is ws packet c (good d next) = rw (kind-final (d .kind))
+second-is ws packet c (good d next) = rw (kind-final (length ws) (d .kind))
 second-is ws packet c (bad r) = refl
 
 first-is : (ws packet : List ℕ) (k : CertificateKind) (c : Certificate) (next : ℕ) → firstIn ws packet k c next ≡ continued ws packet k (acceptedOf ws c) next
@@ -83,7 +94,7 @@ first-is ws packet certificate.Other c next = refl
 -- A packet that is to be a proof.
 pub proven-is : (ws packet : List ℕ) (o : One) → proofOf ws packet o ≡ proven ws packet (told ws o)
 unfolding proofOf proven told acceptedOf
-proven-is ws packet (good c next) = first-is ws packet (certificateKind (c .kind)) c next
+proven-is ws packet (good c next) = first-is ws packet (kindIn (length ws) (c .kind)) c next
 proven-is ws packet (bad r) = refl
 
 -- ---- the whole answer, from what is told of the first certificate

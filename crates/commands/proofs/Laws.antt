@@ -59,10 +59,10 @@ module _ (line : List ℕ) (at : ℕ) (w : Word) (h : WordIn line at w) where
   pub no-packet : w .to ≤ w .from → false ≡ packetAndStakes line at
   unfolding packetAndStakes
   no-packet k =
-      sym (ap (λ (t : Bool). packet-test t (hexOf (wordOf line at) 2048 .good))
+      sym (ap (λ (t : Bool). packet-test t (hexOf (wordOf line at) 32768 .good))
       (le-ltb (wordFrom line at) (wordTo line at) (omega (arith, word-to line at w h, word-from line at w h))))
 
-  module _ (k : w .from < w .to) (hex : Hex) (room : ℕ) (e : room ≡ 2048) (q : hex ≡ hexOf (take (w .to - w .from) (drop (w .from) line)) room) where
+  module _ (k : w .from < w .to) (hex : Hex) (room : ℕ) (e : room ≡ 32768) (q : hex ≡ hexOf (take (w .to - w .from) (drop (w .from) line)) room) where
     packet-is : packet-test true (hex .good) ≡ packetAndStakes line at
     unfolding packetAndStakes
     packet-is =

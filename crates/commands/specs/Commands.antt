@@ -97,10 +97,10 @@ atLeast line at many = let n = numbersOf line at [] .answer in n .good && leb ma
 abbrev pub wordOf : List ℕ → ℕ → List ℕ
 wordOf line at = take (wordTo line at - wordFrom line at) (drop (wordFrom line at) line)
 
--- A packet in hex, of at most 2048 bytes, and then numbers.
+-- A packet in hex, of at most 32,768 bytes, which no line exceeds, and then numbers.
 unfoldable pub packetAndStakes : List ℕ → ℕ → Bool
 packetAndStakes line at =
-    ltb (wordFrom line at) (wordTo line at) && (hexOf (wordOf line at) 2048 .good && atLeast line (wordTo line at) 0)
+    ltb (wordFrom line at) (wordTo line at) && (hexOf (wordOf line at) 32768 .good && atLeast line (wordTo line at) 0)
 
 -- A count, then a message in hex as a packet is, and nothing more.
 unfoldable pub countAndMessage : List ℕ → ℕ → Bool
@@ -122,8 +122,8 @@ argumentsFit command.Check line at = packetAndStakes line at
 argumentsFit command.CheckProof line at = packetAndStakes line at
 argumentsFit command.Pack line at = exactly line at 5
 argumentsFit command.Unpack line at = countAndMessage line at
-argumentsFit command.Board line at = exactly line at 0 || exactly line at 1
-argumentsFit command.Votes line at = exactly line at 0
+argumentsFit command.Board line at = exactly line at 0 || (exactly line at 1 || exactly line at 2)
+argumentsFit command.Votes line at = exactly line at 0 || exactly line at 2
 argumentsFit command.Why line at = exactly line at 1
 argumentsFit command.Help line at = exactly line at 0
 argumentsFit command.Quit line at = exactly line at 0

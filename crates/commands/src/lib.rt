@@ -139,7 +139,7 @@ fn at_least(line: &[u8], at: usize, many: usize) -> bool
     n.good & (many <= n.count)
 }
 
-// Whether the rest of a line is a packet in hex, of at most 2048 bytes, and then numbers.
+// Whether the rest of a line is a packet in hex, of at most 32,768 bytes, and then numbers.
 fn packet_and_stakes(line: &[u8], at: usize) -> bool
     ensures { λ r. ⌜ r ≡ packetAndStakes (now (line .entry)) at ⌝ }
 {
@@ -149,7 +149,7 @@ fn packet_and_stakes(line: &[u8], at: usize) -> bool
     if to <= from {
         return false;
     }
-    let mut bytes = [0u8; 2048];
+    let mut bytes = [0u8; 32768];
     let hex = read_hex(&line[from..to], &mut bytes);
     if !hex.good {
         return false;
@@ -157,7 +157,7 @@ fn packet_and_stakes(line: &[u8], at: usize) -> bool
     at_least(line, to, 0)
 }
 
-// Whether the rest of a line is a count, a message in hex, of at most 2048 bytes, and nothing more.
+// Whether the rest of a line is a count, a message in hex, of at most 32,768 bytes, and nothing more.
 fn count_and_message(line: &[u8], at: usize) -> bool
     ensures { λ r. ⌜ r ≡ countAndMessage (now (line .entry)) at ⌝ }
 {
@@ -187,8 +187,8 @@ fn arguments_fit(c: Command, line: &[u8], at: usize) -> bool
         Command::CheckProof => packet_and_stakes(line, at),
         Command::Pack => exactly(line, at, 5),
         Command::Unpack => count_and_message(line, at),
-        Command::Board => exactly(line, at, 0) | exactly(line, at, 1),
-        Command::Votes => exactly(line, at, 0),
+        Command::Board => exactly(line, at, 0) | (exactly(line, at, 1) | exactly(line, at, 2)),
+        Command::Votes => exactly(line, at, 0) | exactly(line, at, 2),
         Command::Why => exactly(line, at, 1),
         Command::Help => exactly(line, at, 0),
         Command::Quit => exactly(line, at, 0),

@@ -15,7 +15,8 @@ use Rattle.rulebook.specs.Writers.{Wrote, writeCertificate, writeProof, Writes}
 use Rattle.rulebook.proofs.ToolLaws.{given-on}
 use Rattle.record.specs.Layout.{ledgerOf}
 use Rattle.soundness.specs.Sound.{soundWords}
-use Rattle.writers.specs.Writing.{unsound, certificateOn, proofOn}
+use Rattle.rulebook.specs.PaperNumbers.{kindIn}
+use Rattle.writers.specs.Writing.{unsound, kindOn, certificateOn, proofOn}
 use Rattle.readback.proofs.Words.{packet-is, certificate-length, proof-length}
 use Rattle.safety.specs.Slot.{Test, Ballot}
 use Rattle.safety.specs.Ballots.{has, recordFor}
@@ -23,7 +24,7 @@ use Rattle.safety.specs.Ring.{afterAll, castBy, Ring, GenuinePacket}
 use Rattle.safety.specs.Promises.{AcceptedAs}
 use Rattle.safety.proofs.Packets.{packet-more}
 use Rattle.safety.proofs.Promises.{packets-safe, proofs-agree, mail-is-enough}
-use Rattle.safety.proofs.Written.{written-certificate-accepted, written-proof-accepted}
+use Rattle.safety.proofs.Written.{count-is, written-certificate-accepted, written-proof-accepted}
 use Rattle.histories.specs.Calls.{Life, Lived, leftBy, inputsOf}
 use Rattle.histories.specs.Ring.{toldBallot, CodeRing, CodeSafe, CodeProofsAgree, CodeMailIsEnough, CodeFedSafe, CodeCertificateAccepted, CodeProofAccepted}
 use Rattle.histories.proofs.Lives.{started, lived}
@@ -47,8 +48,8 @@ module _ (stakes : List ℕ) (genesis : ℕ → ℕ) (honest : Test) (lives : �
   ledger-is n h = lived stakes n (genesis n) (lives n) (all n h) .ledger
 
   -- A packet that is genuine by what was told is genuine by what was cast.
-  genuine : (packet : List ℕ) → GenuinePacket honest (toldBallot lives) packet → GenuinePacket honest (castBy stakes genesis honest fed) packet
-  genuine = packet-more honest (toldBallot lives) (castBy stakes genesis honest fed) told-cast
+  genuine : (packet : List ℕ) → GenuinePacket (length stakes) honest (toldBallot lives) packet → GenuinePacket (length stakes) honest (castBy stakes genesis honest fed) packet
+  genuine = packet-more (length stakes) honest (toldBallot lives) (castBy stakes genesis honest fed) told-cast
 
 -- The calls are a ring of the safety theorem.
 pub ring-of-calls : (stakes : List ℕ) (genesis : ℕ → ℕ) (honest : Test) (lives : ℕ → Life) → CodeRing stakes genesis honest lives
@@ -108,11 +109,12 @@ module _ (stakes : List ℕ) (own genesis : ℕ) (life : Life) (h : Lived stakes
   abbrev now : Ledger
   now = afterAll (fresh stakes own genesis) (inputsOf (life .calls))
 
-  pub certificate-on : (room : ℕ) (k : CertificateKind) (s b : ℕ) → certificateOn (leftBy life) room k s b ≡ writeCertificate now room k s b
+  pub certificate-on : (room kind s b : ℕ) → certificateOn (leftBy life) room kind s b ≡ writeCertificate now room (kindIn (length stakes) kind) s b
   unfolding certificateOn
-  certificate-on room k s b =
-      given-on (soundWords (leftBy life)) unsound (λ _. writeCertificate (ledgerOf (leftBy life)) room k s b) (lived stakes own genesis life h .sound)
-      ∙ ap (λ (l : Ledger). writeCertificate l room k s b) (lived stakes own genesis life h .ledger)
+  certificate-on room kind s b =
+      given-on (soundWords (leftBy life)) unsound (λ _. writeCertificate (ledgerOf (leftBy life)) room (kindOn (leftBy life) kind) s b) (lived stakes own genesis life h .sound)
+      ∙ ap (λ (l : Ledger). writeCertificate l room (kindIn (l .count) kind) s b) (lived stakes own genesis life h .ledger)
+      ∙ ap (λ (n : ℕ). writeCertificate now room (kindIn n kind) s b) (count-is stakes own genesis (started stakes own genesis life h .0) (inputsOf (life .calls)))
 
   pub proof-on : (room s b : ℕ) → proofOn (leftBy life) room s b ≡ writeProof now room s b
   unfolding proofOn
@@ -121,11 +123,12 @@ module _ (stakes : List ℕ) (own genesis : ℕ) (life : Life) (h : Lived stakes
       ∙ ap (λ (l : Ledger). writeProof l room s b) (lived stakes own genesis life h .ledger)
 
 pub code-certificate-accepted : CodeCertificateAccepted
-code-certificate-accepted stakes own genesis life h buffer after k s b n written answer small w e c =
+code-certificate-accepted stakes own genesis life h buffer after kind s b n written answer small w e c =
     let room = length buffer in
-    let on = certificate-on stakes own genesis life h room k s b in
+    let k = kindIn (length stakes) kind in
+    let on = certificate-on stakes own genesis life h room kind s b in
     let f = sym (w .answered) ∙ e in
-    let p = front n w (certificate-length (leftBy life) room k s b n f) in
+    let p = front n w (certificate-length (leftBy life) room kind s b n f) in
     subst (λ (x : CheckAnswer). AcceptedAs x k s b) (sym (c ∙ ap (checkCertificate stakes) (p ∙ ap (λ (x : Wrote). x .bytes) on)))
     (written-certificate-accepted stakes own genesis (started stakes own genesis life h .0) (inputsOf (life .calls)) room k s b n small
     (ap (λ (x : Wrote). x .answer) (sym on) ∙ f))

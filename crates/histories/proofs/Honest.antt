@@ -4,6 +4,7 @@ use mathlib.Core.List.{List, [], _∷_, _++_, append-assoc}
 use Prim.Native.Nat.{ℕ}
 use lib.ListN.{length}
 use Rattle.rulebook.specs.declared.Input.{Input}
+use Rattle.rulebook.specs.PaperNumbers.{kindIn}
 use Rattle.rulebook.specs.Writers.{Wrote}
 use Rattle.readback.proofs.Words.{certificate-length, proof-length}
 use Rattle.safety.specs.Ring.{castBy, GenuinePacket}
@@ -38,20 +39,20 @@ code-written-genuine stakes genesis honest lives ring =
     let fed : ℕ → List Input = λ n. inputsOf (lives n .calls) in
     let r = ring-of-calls stakes genesis honest lives ring in
     let all = ring .nodes .lived in
-    let told : (packet : List ℕ) → GenuinePacket honest (castBy stakes genesis honest fed) packet → GenuinePacket honest (toldBallot lives) packet =
-    packet-more honest (castBy stakes genesis honest fed) (toldBallot lives) (cast-told stakes genesis honest lives all)
+    let told : (packet : List ℕ) → GenuinePacket (length stakes) honest (castBy stakes genesis honest fed) packet → GenuinePacket (length stakes) honest (toldBallot lives) packet =
+    packet-more (length stakes) honest (castBy stakes genesis honest fed) (toldBallot lives) (cast-told stakes genesis honest lives all)
     in (
-      (λ n h before later e buffer after k s b size written small w x.
-          let on = certificate-on stakes n (genesis n) (upTo (lives n) before) (lived-before stakes n (genesis n) (lives n) (all n h) before later e) (length buffer) k s b in
+      (λ n h before later e buffer after kind s b size written small w x.
+          let on = certificate-on stakes n (genesis n) (upTo (lives n) before) (lived-before stakes n (genesis n) (lives n) (all n h) before later e) (length buffer) kind s b in
           let f = sym (w .answered) ∙ x in
-          subst (GenuinePacket honest (toldBallot lives))
-          (sym (front size w (certificate-length (leftBy (upTo (lives n) before)) (length buffer) k s b size f) ∙ ap (λ (y : Wrote). y .bytes) on))
-          (told _ (written-certificate-genuine stakes genesis honest fed r n h (inputsOf before) (inputsOf later) (ap inputsOf e ∙ inputs-split before later) (length buffer) k s b size small
+          subst (GenuinePacket (length stakes) honest (toldBallot lives))
+          (sym (front size w (certificate-length (leftBy (upTo (lives n) before)) (length buffer) kind s b size f) ∙ ap (λ (y : Wrote). y .bytes) on))
+          (told _ (written-certificate-genuine stakes genesis honest fed r n h (inputsOf before) (inputsOf later) (ap inputsOf e ∙ inputs-split before later) (length buffer) (kindIn (length stakes) kind) s b size small
           (ap (λ (y : Wrote). y .answer) (sym on) ∙ f)))),
       (λ n h before later e buffer after s b size written small w x.
           let on = proof-on stakes n (genesis n) (upTo (lives n) before) (lived-before stakes n (genesis n) (lives n) (all n h) before later e) (length buffer) s b in
           let f = sym (w .answered) ∙ x in
-          subst (GenuinePacket honest (toldBallot lives))
+          subst (GenuinePacket (length stakes) honest (toldBallot lives))
           (sym (front size w (proof-length (leftBy (upTo (lives n) before)) (length buffer) s b size f) ∙ ap (λ (y : Wrote). y .bytes) on))
           (told _ (written-proof-genuine stakes genesis honest fed r n h (inputsOf before) (inputsOf later) (ap inputsOf e ∙ inputs-split before later) (length buffer) s b size small
           (ap (λ (y : Wrote). y .answer) (sym on) ∙ f)))),

@@ -16,6 +16,7 @@ use Rattle.rulebook.specs.Ledger.{cellAt}
 use Rattle.rulebook.specs.Checker.{checkCertificate, checkProof}
 use Rattle.rulebook.specs.Writers.{Writes}
 use Rattle.record.specs.Layout.{ledgerOf}
+use Rattle.rulebook.specs.PaperNumbers.{kindIn}
 use Rattle.writers.specs.Writing.{certificateOn, proofOn}
 use Rattle.safety.specs.Slot.{Test, Ballot}
 use Rattle.safety.specs.Ballots.{has, recordFor}
@@ -56,7 +57,7 @@ module _ (stakes : List ℕ) (genesis : ℕ → ℕ) (honest : Test) (lives : �
   abbrev pub NoRival : Type 0
   NoRival =
       (proof packet : List ℕ) (answer other : CheckAnswer) (a d : Accepted)
-      → GenuinePacket honest (toldBallot lives) proof → GenuinePacket honest (toldBallot lives) packet
+      → GenuinePacket (length stakes) honest (toldBallot lives) proof → GenuinePacket (length stakes) honest (toldBallot lives) packet
       → answer ≡ checkProof stakes proof → other ≡ checkCertificate stakes packet
       → answer ≡ check.Accepted a → other ≡ check.Accepted d → d .slot ≡ a .slot → Agrees (d .kind) (d .block) (a .block)
 
@@ -64,7 +65,7 @@ module _ (stakes : List ℕ) (genesis : ℕ → ℕ) (honest : Test) (lives : �
   abbrev pub OneBlock : Type 0
   OneBlock =
       (proof rival : List ℕ) (answer other : CheckAnswer) (a d : Accepted)
-      → GenuinePacket honest (toldBallot lives) proof → GenuinePacket honest (toldBallot lives) rival
+      → GenuinePacket (length stakes) honest (toldBallot lives) proof → GenuinePacket (length stakes) honest (toldBallot lives) rival
       → answer ≡ checkProof stakes proof → other ≡ checkProof stakes rival
       → answer ≡ check.Accepted a → other ≡ check.Accepted d → d .slot ≡ a .slot → d .block ≡ a .block
 
@@ -103,9 +104,9 @@ CodeRingMet =
 abbrev pub CodeCertificateAccepted : Type 0
 CodeCertificateAccepted =
     (stakes : List ℕ) (own genesis : ℕ) (life : Life) → Lived stakes own genesis life
-    → (buffer after : List ℕ) (k : CertificateKind) (s b n : ℕ) (written : WriteAnswer) (answer : CheckAnswer) → b < 2 ^ 64
-    → Writes (certificateOn (leftBy life) (length buffer) k s b) buffer written after → written ≡ write.Written n
-    → answer ≡ checkCertificate stakes (take n after) → AcceptedAs answer k s b
+    → (buffer after : List ℕ) (kind s b n : ℕ) (written : WriteAnswer) (answer : CheckAnswer) → b < 2 ^ 64
+    → Writes (certificateOn (leftBy life) (length buffer) kind s b) buffer written after → written ≡ write.Written n
+    → answer ≡ checkCertificate stakes (take n after) → AcceptedAs answer (kindIn (length stakes) kind) s b
 
 -- Likewise the proof writer's.
 abbrev pub CodeProofAccepted : Type 0
@@ -128,15 +129,15 @@ module _ (stakes : List ℕ) (genesis : ℕ → ℕ) (honest : Test) (lives : �
       (n : ℕ) → T (honest n) → (before later : List Call) → lives n .calls ≡ before ++ later
       → (buffer after : List ℕ) (s b size : ℕ) (written : WriteAnswer) → b < 2 ^ 64
       → Writes (proofOn (leftBy (upTo (lives n) before)) (length buffer) s b) buffer written after → written ≡ write.Written size
-      → GenuinePacket honest (toldBallot lives) (take size after)
+      → GenuinePacket (length stakes) honest (toldBallot lives) (take size after)
 
   -- Likewise the certificate writer's.
   abbrev pub CertificateGenuine : Type 0
   CertificateGenuine =
       (n : ℕ) → T (honest n) → (before later : List Call) → lives n .calls ≡ before ++ later
-      → (buffer after : List ℕ) (k : CertificateKind) (s b size : ℕ) (written : WriteAnswer) → b < 2 ^ 64
-      → Writes (certificateOn (leftBy (upTo (lives n) before)) (length buffer) k s b) buffer written after → written ≡ write.Written size
-      → GenuinePacket honest (toldBallot lives) (take size after)
+      → (buffer after : List ℕ) (kind s b size : ℕ) (written : WriteAnswer) → b < 2 ^ 64
+      → Writes (certificateOn (leftBy (upTo (lives n) before)) (length buffer) kind s b) buffer written after → written ≡ write.Written size
+      → GenuinePacket (length stakes) honest (toldBallot lives) (take size after)
 
 abbrev pub CodeWrittenGenuine : Type 0
 CodeWrittenGenuine =

@@ -1,43 +1,36 @@
 -- Demand 3 on the promises of the C face, proved.
 use mathlib.Core.Path.{_≡_, refl, sym, ap, _∙_, subst}
-use mathlib.Core.Bool.{Bool, true, false}
+use mathlib.Core.Bool.{false}
 use mathlib.Core.List.{List, [], _∷_}
 use Prim.Native.Nat.{ℕ}
-use native.Mathlib.Omega.{arith}
-use lib.Dec.{T, eqb}
+use lib.Dec.{T}
 use lib.ListN.{length, take}
-use borrow.Author.Tests.{eqb-true}
 use Rattle.rulebook.specs.declared.Accepted.{Accepted}
 use Rattle.rulebook.specs.declared.Input.{Input}
 use Rattle.rulebook.specs.declared.CertificateKind.{CertificateKind}
-use Rattle.rulebook.specs.declared.CertificateKind.the-variants as certificate
 use Rattle.rulebook.specs.declared.CheckAnswer.{CheckAnswer}
 use Rattle.rulebook.specs.declared.CheckAnswer.the-variants as check
 use Rattle.rulebook.specs.declared.Slot.{Slot}
 use Rattle.rulebook.specs.declared.Verdict.the-variants.{Refused}
 use Rattle.rulebook.specs.declared.WriteAnswer.{WriteAnswer}
 use Rattle.rulebook.specs.declared.WriteAnswer.the-variants as write
-use Rattle.rulebook.specs.PaperNumbers.{certificateNumber, certificateKind, writePanel, checkPanel}
-use Rattle.rulebook.specs.Tools.{choose}
+use Rattle.rulebook.specs.PaperNumbers.{kindIn, numberIn, writePanel, checkNumber, checkValues}
 use Rattle.rulebook.specs.Ledger.{cellAt}
 use Rattle.rulebook.specs.Checker.{isOtherKind, checkCertificate, checkProof}
 use Rattle.rulebook.specs.Writers as writer
 use Rattle.rulebook.specs.Writers.{certificateVerdict, writeCertificate, Writes}
-use Rattle.rulebook.proofs.AcceptedLaws.{kind-back}
+use Rattle.rulebook.proofs.KindLaws.{kind-back, number-back}
 use Rattle.rulebook.proofs.RuleLaws.{refuse-fine, wrote-fine}
-use Rattle.rulebook.proofs.ToolLaws.{given-on}
 use Rattle.record.specs.Layout.{ledgerOf}
-use Rattle.soundness.specs.Sound.{soundWords}
-use Rattle.writers.specs.Writing.{unsound, certificateOn, proofOn}
-use Rattle.readback.proofs.Words.{certificate-sound}
+use Rattle.writers.specs.Writing.{certificateOn, proofOn}
 use Rattle.safety.specs.Slot.{Test, Ballot}
 use Rattle.safety.specs.Ballots.{has, recordFor}
 use Rattle.safety.specs.Ring.{broughtBy, GenuinePacket}
 use Rattle.safety.specs.Promises.{AcceptedAs}
 use Rattle.safety.proofs.Packets.{packet-more}
-use Rattle.histories.specs.Calls.{Life, leftBy}
+use Rattle.histories.specs.Calls.{Life, Lived, leftBy}
 use Rattle.histories.specs.Ring as code
-use Rattle.histories.proofs.Demand.{code-safe, code-proofs-agree, code-mail-is-enough, code-certificate-accepted, code-proof-accepted}
+use Rattle.histories.proofs.Demand.{code-safe, code-proofs-agree, code-mail-is-enough, certificate-on, code-certificate-accepted, code-proof-accepted}
 use Rattle.answers.specs.Face.{Beside, acceptedValues, Wrote, Checked}
 use Rattle.hosts.specs.Calls.{HostLife, HostLived, wordsLeft}
 use Rattle.hosts.specs.Ring.{toldBallot, countedBallot, HostRing, HostSafe, HostProofsAgree, HostMailIsEnough, HostFedSafe, NamedAs, HostCertificateAccepted, HostProofAccepted}
@@ -56,8 +49,8 @@ module _ (stakes : List ℕ) (genesis : ℕ → ℕ) (honest : Test) (lives : �
   counted-same n m s v = ap (λ (ws : List ℕ). has (cellAt (ledgerOf ws) s m) v) (last-is (lives n .words) (lives n .calls))
 
   -- A packet that is genuine by what the C calls told is genuine by what the calls of the step told.
-  genuine : (packet : List ℕ) → GenuinePacket honest (toldBallot lives) packet → GenuinePacket honest (code.toldBallot plain) packet
-  genuine = packet-more honest (toldBallot lives) (code.toldBallot plain) (λ n s v h. subst T (sym (told-same n s v h)))
+  genuine : (packet : List ℕ) → GenuinePacket (length stakes) honest (toldBallot lives) packet → GenuinePacket (length stakes) honest (code.toldBallot plain) packet
+  genuine = packet-more (length stakes) honest (toldBallot lives) (code.toldBallot plain) (λ n s v h. subst T (sym (told-same n s v h)))
 
 -- The C calls are a ring of the code.
 module _ (stakes : List ℕ) (genesis : ℕ → ℕ) (honest : Test) (lives : ℕ → HostLife) where
@@ -92,17 +85,18 @@ host-mail-is-enough stakes genesis honest lives ring =
 -- ---- what is accepted
 
 -- A check that answers 0 accepts the kind, slot and block that its values name.
-zero-accepted : {answer : CheckAnswer} {kind slot block signers weight missing : ℕ} → Checked answer 0 (kind ∷ slot ∷ block ∷ signers ∷ weight ∷ []) missing
-    → AcceptedAs answer (certificateKind kind) slot block
-unfolding checkPanel
-zero-accepted {answer} {kind} {slot} {block} {signers} {weight} {missing} c = go answer (c .numbered) (c .valued)
+zero-accepted : {count : ℕ} {answer : CheckAnswer} {kind slot block signers weight missing : ℕ} → Checked count answer 0 (kind ∷ slot ∷ block ∷ signers ∷ weight ∷ []) missing
+    → AcceptedAs answer (kindIn count kind) slot block
+unfolding checkNumber checkValues
+zero-accepted {count} {answer} {kind} {slot} {block} {signers} {weight} {missing} c = go answer (c .numbered) (c .valued)
   where
-    go : (a : CheckAnswer) → 0 ≡ checkPanel a .number → kind ∷ slot ∷ block ∷ signers ∷ weight ∷ [] ≡ checkPanel a .values → AcceptedAs a (certificateKind kind) slot block
+    go : (a : CheckAnswer) → 0 ≡ checkNumber a → kind ∷ slot ∷ block ∷ signers ∷ weight ∷ [] ≡ checkValues count a
+        → AcceptedAs a (kindIn count kind) slot block
     go (check.Accepted x) e v =
-        let k : certificateNumber (x .kind) ≡ kind = cc in
+        let k : numberIn count (x .kind) ≡ kind = cc in
         let s : x .slot .0 ≡ slot = cc in
         let b : x .block ≡ block = cc in
-        record { what = x; accepted = refl; kindIs = sym (kind-back (x .kind)) ∙ ap certificateKind k; slotIs = s; blockIs = b }
+        record { what = x; accepted = refl; kindIs = sym (kind-back count (x .kind)) ∙ ap (kindIn count) k; slotIs = s; blockIs = b }
     go (check.Refused r) e v = refusal-above r (sym e)
 
 same-slot : (x y : Slot) (s : ℕ) → x .0 ≡ s → y .0 ≡ s → x ≡ y
@@ -147,60 +141,42 @@ zero-written w buffer after count r = (record { answered = refl; bytes = r .byte
     go (write.Refused x) e b = refusal-above x (sym e)
 
 -- What a check answers where its answer accepts.
-named : (answer : CheckAnswer) (number : ℕ) (values : List ℕ) (missing : ℕ) (k : CertificateKind) (slot block : ℕ) → Checked answer number values missing → AcceptedAs answer k slot block
-    → NamedAs number values (certificateNumber k) slot block
-unfolding checkPanel
-named answer number values missing k slot block c a =
+named : (count : ℕ) (answer : CheckAnswer) (number : ℕ) (values : List ℕ) (missing : ℕ) (k : CertificateKind) (slot block : ℕ)
+    → Checked count answer number values missing → AcceptedAs answer k slot block → NamedAs number values (numberIn count k) slot block
+unfolding checkNumber checkValues
+named count answer number values missing k slot block c a =
     let w = a .what in
-    let v : values ≡ acceptedValues w = c .valued ∙ ap (λ (x : CheckAnswer). checkPanel x .values) (a .accepted) in
+    let v : values ≡ acceptedValues count w = c .valued ∙ ap (checkValues count) (a .accepted) in
     record {
-      accepts = c .numbered ∙ ap (λ (x : CheckAnswer). checkPanel x .number) (a .accepted);
+      accepts = c .numbered ∙ ap checkNumber (a .accepted);
       signers = w .signers;
       weight = w .weight .0;
-      names = v ∙ (λ i. certificateNumber (a .kindIs i) ∷ a .slotIs i ∷ a .blockIs i ∷ w .signers ∷ w .weight .0 ∷ []);
+      names = v ∙ (λ i. numberIn count (a .kindIs i) ∷ a .slotIs i ∷ a .blockIs i ∷ w .signers ∷ w .weight .0 ∷ []);
     }
 
 -- The words at the end of a life.
 left-is : (life : HostLife) → leftBy (lifeOf life) ≡ wordsLeft life
 left-is life = last-is (life .words) (life .calls)
 
-no-other : {X : Type 0} → true ≡ false → X
-no-other e = let z : _≡_ {A = ℕ} 0 1 = cc in absurd (omega arith)
-
--- A number that stands for a kind is that kind's number.
-pick : (n j : ℕ) (k rest : CertificateKind) → certificateNumber k ≡ j → (isOtherKind rest ≡ false → certificateNumber rest ≡ n)
-    → isOtherKind (choose (eqb n j) k rest) ≡ false → certificateNumber (choose (eqb n j) k rest) ≡ n
-unfolding choose
-pick n j k rest e f = go (eqb n j) refl
-  where
-    go : (t : Bool) → eqb n j ≡ t → isOtherKind (choose t k rest) ≡ false → certificateNumber (choose t k rest) ≡ n
-    go true q o = e ∙ sym (eqb-true n j q)
-    go false q o = f o
-
-number-of-kind : (n : ℕ) → isOtherKind (certificateKind n) ≡ false → certificateNumber (certificateKind n) ≡ n
-unfolding certificateKind certificateNumber isOtherKind
-number-of-kind n =
-    pick n 1 certificate.FastFinal _ refl
-    (pick n 2 certificate.Notar _ refl
-    (pick n 3 certificate.NotarFallback _ refl (pick n 4 certificate.Skip _ refl (pick n 5 certificate.Final certificate.Other refl no-other))))
-
 -- What is written is of a kind.
-kind-written : (ws : List ℕ) (room : ℕ) (k : CertificateKind) (s b n : ℕ) → certificateOn ws room k s b .answer ≡ write.Written n → isOtherKind k ≡ false
-unfolding certificateOn writeCertificate certificateVerdict
-kind-written ws room k s b n e =
-    let on = given-on (soundWords ws) unsound (λ _. writeCertificate (ledgerOf ws) room k s b) (certificate-sound ws room k s b n e) in
-    let v = wrote-fine (certificateVerdict (ledgerOf ws) room k s b) _ n (ap (λ (w : writer.Wrote). w .answer) (sym on) ∙ e) in
+kind-written : (stakes : List ℕ) (own genesis : ℕ) (life : Life) → Lived stakes own genesis life → (room kind s b n : ℕ)
+    → certificateOn (leftBy life) room kind s b .answer ≡ write.Written n → isOtherKind (kindIn (length stakes) kind) ≡ false
+unfolding writeCertificate certificateVerdict
+kind-written stakes own genesis life h room kind s b n e =
+    let on = certificate-on stakes own genesis life h room kind s b in
+    let v = wrote-fine _ _ n (ap (λ (w : writer.Wrote). w .answer) (sym on) ∙ e) in
     refuse-fine _ _ _ (refuse-fine _ _ _ v .1) .0
 
 pub host-certificate-accepted : HostCertificateAccepted
 host-certificate-accepted stakes own genesis life h buffer after values kind slot block written number missing small w c =
-    let k = certificateKind kind in
     let ws = leftBy (lifeOf life) in
-    let on = certificateOn ws (length buffer) k slot block in
-    let z = zero-written on buffer after written (subst (λ (x : List ℕ). Wrote (certificateOn x (length buffer) k slot block) buffer 0 written after) (sym (left-is life)) w) in
-    let a = code-certificate-accepted stakes own genesis (lifeOf life) (lived-is stakes own genesis life h) buffer after k slot block written (on .answer) (checkCertificate stakes (take written after)) small (z .0) (z .1) refl in
-    subst (λ (x : ℕ). NamedAs number values x slot block) (number-of-kind kind (kind-written ws (length buffer) k slot block written (z .1)))
-    (named (checkCertificate stakes (take written after)) number values missing k slot block c a)
+    let on = certificateOn ws (length buffer) kind slot block in
+    let lived = lived-is stakes own genesis life h in
+    let z = zero-written on buffer after written (subst (λ (x : List ℕ). Wrote (certificateOn x (length buffer) kind slot block) buffer 0 written after) (sym (left-is life)) w) in
+    let a = code-certificate-accepted stakes own genesis (lifeOf life) lived buffer after kind slot block written (on .answer) (checkCertificate stakes (take written after)) small (z .0) (z .1) refl in
+    subst (λ (x : ℕ). NamedAs number values x slot block)
+    (number-back (length stakes) kind (kind-written stakes own genesis (lifeOf life) lived (length buffer) kind slot block written (z .1)))
+    (named (length stakes) (checkCertificate stakes (take written after)) number values missing (kindIn (length stakes) kind) slot block c a)
 
 pub host-proof-accepted : HostProofAccepted
 host-proof-accepted stakes own genesis life h buffer after values slot block written number missing small w c =
@@ -208,4 +184,4 @@ host-proof-accepted stakes own genesis life h buffer after values slot block wri
     let on = proofOn ws (length buffer) slot block in
     let z = zero-written on buffer after written (subst (λ (x : List ℕ). Wrote (proofOn x (length buffer) slot block) buffer 0 written after) (sym (left-is life)) w) in
     let a = code-proof-accepted stakes own genesis (lifeOf life) (lived-is stakes own genesis life h) buffer after slot block written (on .answer) (checkProof stakes (take written after)) small (z .0) (z .1) refl in
-    (certificateNumber (a .0), named (checkProof stakes (take written after)) number values missing (a .0) slot block c (a .1))
+    (numberIn (length stakes) (a .0), named (length stakes) (checkProof stakes (take written after)) number values missing (a .0) slot block c (a .1))

@@ -7,7 +7,7 @@ use Prim.Native.Nat.{ℕ, _<_, _^_}
 use lib.Dec.{T}
 use lib.ListN.{length, take}
 use Rattle.rulebook.specs.declared.Input.{Input}
-use Rattle.rulebook.specs.PaperNumbers.{certificateKind}
+use Rattle.rulebook.specs.PaperNumbers.{kindIn}
 use Rattle.rulebook.specs.Ledger.{cellAt}
 use Rattle.rulebook.specs.Checker.{checkCertificate, checkProof}
 use Rattle.record.specs.Layout.{ledgerOf}
@@ -50,18 +50,18 @@ module _ (stakes : List ℕ) (genesis : ℕ → ℕ) (honest : Test) (lives : �
   abbrev pub NoRival : Type 0
   NoRival =
       (proof packet : List ℕ) (kind slot block signers weight missing kind′ block′ signers′ weight′ missing′ : ℕ)
-      → GenuinePacket honest (toldBallot lives) proof → GenuinePacket honest (toldBallot lives) packet
-      → Checked (checkProof stakes proof) 0 (kind ∷ slot ∷ block ∷ signers ∷ weight ∷ []) missing
-      → Checked (checkCertificate stakes packet) 0 (kind′ ∷ slot ∷ block′ ∷ signers′ ∷ weight′ ∷ []) missing′
-      → Agrees (certificateKind kind′) block′ block
+      → GenuinePacket (length stakes) honest (toldBallot lives) proof → GenuinePacket (length stakes) honest (toldBallot lives) packet
+      → Checked (length stakes) (checkProof stakes proof) 0 (kind ∷ slot ∷ block ∷ signers ∷ weight ∷ []) missing
+      → Checked (length stakes) (checkCertificate stakes packet) 0 (kind′ ∷ slot ∷ block′ ∷ signers′ ∷ weight′ ∷ []) missing′
+      → Agrees (kindIn (length stakes) kind′) block′ block
 
   -- Where qr_check_proof answers 0 to two packets for one slot, it names one block.
   abbrev pub OneBlock : Type 0
   OneBlock =
       (proof rival : List ℕ) (kind slot block signers weight missing kind′ block′ signers′ weight′ missing′ : ℕ)
-      → GenuinePacket honest (toldBallot lives) proof → GenuinePacket honest (toldBallot lives) rival
-      → Checked (checkProof stakes proof) 0 (kind ∷ slot ∷ block ∷ signers ∷ weight ∷ []) missing
-      → Checked (checkProof stakes rival) 0 (kind′ ∷ slot ∷ block′ ∷ signers′ ∷ weight′ ∷ []) missing′
+      → GenuinePacket (length stakes) honest (toldBallot lives) proof → GenuinePacket (length stakes) honest (toldBallot lives) rival
+      → Checked (length stakes) (checkProof stakes proof) 0 (kind ∷ slot ∷ block ∷ signers ∷ weight ∷ []) missing
+      → Checked (length stakes) (checkProof stakes rival) 0 (kind′ ∷ slot ∷ block′ ∷ signers′ ∷ weight′ ∷ []) missing′
       → block′ ≡ block
 
 -- SAFETY over the C face.
@@ -108,8 +108,8 @@ abbrev pub HostCertificateAccepted : Type 0
 HostCertificateAccepted =
     (stakes : List ℕ) (own genesis : ℕ) (life : HostLife) → HostLived stakes own genesis life
     → (buffer after values : List ℕ) (kind slot block written number missing : ℕ) → block < 2 ^ 64
-    → Wrote (certificateOn (wordsLeft life) (length buffer) (certificateKind kind) slot block) buffer 0 written after
-    → Checked (checkCertificate stakes (take written after)) number values missing → NamedAs number values kind slot block
+    → Wrote (certificateOn (wordsLeft life) (length buffer) kind slot block) buffer 0 written after
+    → Checked (length stakes) (checkCertificate stakes (take written after)) number values missing → NamedAs number values kind slot block
 
 -- Likewise qr_write_proof and qr_check_proof.
 abbrev pub HostProofAccepted : Type 0
@@ -117,7 +117,7 @@ HostProofAccepted =
     (stakes : List ℕ) (own genesis : ℕ) (life : HostLife) → HostLived stakes own genesis life
     → (buffer after values : List ℕ) (slot block written number missing : ℕ) → block < 2 ^ 64
     → Wrote (proofOn (wordsLeft life) (length buffer) slot block) buffer 0 written after
-    → Checked (checkProof stakes (take written after)) number values missing → (kind : ℕ) × NamedAs number values kind slot block
+    → Checked (length stakes) (checkProof stakes (take written after)) number values missing → (kind : ℕ) × NamedAs number values kind slot block
 
 -- What qr_write_certificate and qr_write_proof, answering 0, wrote to the buffer's front at any moment of an honest node's life is genuine, so
 -- that the promises hold of it with no premise on packets.
@@ -126,15 +126,15 @@ module _ (stakes : List ℕ) (genesis : ℕ → ℕ) (honest : Test) (lives : �
   CertificateGenuine =
       (n : ℕ) → T (honest n) → (before later : List HostCall) → lives n .calls ≡ before ++ later
       → (buffer after : List ℕ) (kind slot block written : ℕ) → block < 2 ^ 64
-      → Wrote (certificateOn (lastWords (lives n .words) before) (length buffer) (certificateKind kind) slot block) buffer 0 written after
-      → GenuinePacket honest (toldBallot lives) (take written after)
+      → Wrote (certificateOn (lastWords (lives n .words) before) (length buffer) kind slot block) buffer 0 written after
+      → GenuinePacket (length stakes) honest (toldBallot lives) (take written after)
 
   abbrev pub ProofGenuine : Type 0
   ProofGenuine =
       (n : ℕ) → T (honest n) → (before later : List HostCall) → lives n .calls ≡ before ++ later
       → (buffer after : List ℕ) (slot block written : ℕ) → block < 2 ^ 64
       → Wrote (proofOn (lastWords (lives n .words) before) (length buffer) slot block) buffer 0 written after
-      → GenuinePacket honest (toldBallot lives) (take written after)
+      → GenuinePacket (length stakes) honest (toldBallot lives) (take written after)
 
 abbrev pub HostWrittenGenuine : Type 0
 HostWrittenGenuine =

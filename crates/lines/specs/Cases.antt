@@ -14,8 +14,9 @@ use Rattle.rulebook.specs.declared.CheckAnswer.{CheckAnswer}
 use Rattle.rulebook.specs.declared.CheckAnswer.the-variants as check
 use Rattle.rulebook.specs.declared.CertificateKind.the-variants as certificate
 use Rattle.rulebook.specs.declared.Refusal.the-variants as refusal
-use Rattle.rulebook.specs.Tools.{choose, given}
-use Rattle.rulebook.specs.PaperNumbers.{startPanel, stepPanel, writePanel, readPanel, checkPanel, checkMissing, refusalNumber, refusalMissing, voteNumber, certificateNumber}
+use Rattle.rulebook.specs.Tools.{choose, given, part}
+use Rattle.rulebook.specs.Weights.{isLarge, family}
+use Rattle.rulebook.specs.PaperNumbers.{startPanel, stepPanel, writePanel, readPanel, checkNumber, checkValues, checkPanel, checkMissing, refusalNumber, refusalMissing, voteNumber, certificateNumber, numberIn}
 use Rattle.rulebook.specs.Scripts.{equal, all}
 use Rattle.lines.specs.Text.{glyph, digitsOf, decimal, hexPair, hexPairs, hexText, recordText, recordsTo, recordsText}
 use Rattle.lines.specs.Answers.{numberLine, answerLine, spaced, startLine, stepLine, votesTo, votesText, trayLine, packetLine, messageLine, missingLine, fiveValues, checkLine}
@@ -39,9 +40,9 @@ numbers =
 abbrev hex : Bool
 hex = all (reads (hexText []) "-" ∷ reads (hexText (0 ∷ [])) "00" ∷ reads (hexText (1 ∷ 159 ∷ 171 ∷ 255 ∷ [])) "019FABFF" ∷ [])
 
--- A check's answer with what is missing.
+-- A check's answer under a table of 64 nodes, with what is missing.
 abbrev checked : CheckAnswer → List ℕ
-checked a = checkLine (checkPanel a) (checkMissing a)
+checked a = checkLine (checkPanel 64 a) (checkMissing a)
 
 -- The answers, done and refused; a tray without a vote, and one with a refused vote in its middle.
 abbrev lines : Bool
@@ -67,5 +68,5 @@ shown =
     ∷ reads (missingText 2 (bytesOf "notar-fallback")) ", 2 more for notar-fallback" ∷ reads (missingText 0 (bytesOf "notar")) "" ∷ [])
 
 cases : T (all (numbers ∷ hex ∷ lines ∷ shown ∷ []))
-unfolding choose given startPanel stepPanel writePanel readPanel checkPanel checkMissing refusalNumber refusalMissing voteNumber certificateNumber glyph digitsOf decimal hexPair hexPairs hexText recordText recordsTo recordsText numberLine answerLine spaced startLine stepLine votesTo votesText trayLine packetLine messageLine missingLine fiveValues checkLine voteText shareText missingText
+unfolding choose given startPanel stepPanel writePanel readPanel checkNumber checkValues checkMissing refusalNumber refusalMissing voteNumber certificateNumber numberIn family isLarge part glyph digitsOf decimal hexPair hexPairs hexText recordText recordsTo recordsText numberLine answerLine spaced startLine stepLine votesTo votesText trayLine packetLine messageLine missingLine fiveValues checkLine voteText shareText missingText
 cases = tt

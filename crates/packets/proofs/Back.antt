@@ -22,19 +22,19 @@ use Rattle.rulebook.specs.declared.Weight.{Weight}
 use Rattle.rulebook.specs.declared.WriteAnswer.the-variants as write
 use Rattle.rulebook.specs.Tools.{part, sumTo, someTo}
 use Rattle.rulebook.specs.Weights.{lastSlot, mostNodes, stakeIn, weight, totalTo, reaches, slotOk, stakesFit}
-use Rattle.rulebook.specs.PaperNumbers.{certificateKind, certificateNumber}
+use Rattle.rulebook.specs.PaperNumbers.{kindIn, numberIn}
 use Rattle.rulebook.specs.Ledger.{Ledger, none, cellAt}
 use Rattle.rulebook.specs.Pool.{hasFallback, counts, weigh, weighs, signersOf, fifthsOf, held}
 use Rattle.rulebook.specs.Rules.{isFinal}
 use Rattle.rulebook.specs.Inputs.{refuseIf}
 use Rattle.rulebook.specs.Packets.{wordsIn, certificateAt, certificateBytes, bit, maskOf, countOf}
 use Rattle.rulebook.specs.Checker.{good, isOtherKind, blockMisfits, withoutB, badSigners, signed, signedWeight, judgeWeight, judgeKind, judge, acceptedOf, judged, oneOf, oneAt, ended, singleOf, checkCertificate, secondOf, firstIn, proofOf, checkProof}
-use Rattle.rulebook.specs.Writers.{inA, inB, certificateFor, certificateVerdict, writeCertificate, proofVerdict, proofBytes, writeProof}
+use Rattle.rulebook.specs.Writers.{inA, inB, certificateFor, certificateRoom, proofRoom, certificateVerdict, writeCertificate, proofVerdict, proofBytes, writeProof}
 use Rattle.rulebook.proofs.ToolLaws.{given-on, given-off, choose-on, choose-off, and-both, both-and, or-cases, by-test, true-not-false, sum-same, sum-const, part-off}
 use Rattle.rulebook.proofs.MaskLaws.{mask-lt, masks-apart, masks-weight, masks-count, count-same}
 use Rattle.rulebook.proofs.WeightLaws.{weight-same}
 use Rattle.rulebook.proofs.NumberLaws.{Fits64, certificate-in}
-use Rattle.rulebook.proofs.AcceptedLaws.{kind-back, kind-small, kind-words}
+use Rattle.rulebook.proofs.KindLaws.{kind-back, kind-small, kind-words}
 use Rattle.packets.specs.Promises.{parts, TableIs, acceptedFor, proofParts, proofKind, CertificateBack, ProofBack}
 use Rattle.rulebook.proofs.RuleLaws.{refuse-fine, wrote-fine, wrote-bytes}
 use Rattle.packets.proofs.Spelling.{parts-one, parts-two}
@@ -134,21 +134,21 @@ module _ (stakes packet : List ℕ) (fits : stakesFit stakes (length stakes) ≡
       ∙ rw (one-is c 0 next e j) (ends c next n)
 
   accepts-fast : (c : Certificate) (next : ℕ) → certificateAt packet 0 ≡ found.Whole c next → judge stakes c ≡ verdict.Fine
-      → certificateKind (c .kind) ≡ certificate.FastFinal → next ≡ length packet → checkProof stakes packet ≡ check.Accepted (acceptedOf stakes c)
+      → kindIn (length stakes) (c .kind) ≡ certificate.FastFinal → next ≡ length packet → checkProof stakes packet ≡ check.Accepted (acceptedOf stakes c)
   unfolding checkProof proofOf firstIn
   accepts-fast c next e j k n =
       given-on (stakesFit stakes (length stakes)) (check.Refused refusal.BadSizes) (λ _. proofOf stakes packet (oneAt stakes packet 0)) fits
       ∙ rw (one-is c 0 next e j, k) (ends c next n)
 
   accepts-slow : (c d : Certificate) (next end : ℕ) → certificateAt packet 0 ≡ found.Whole c next → judge stakes c ≡ verdict.Fine
-      → certificateKind (c .kind) ≡ certificate.Notar → certificateAt packet next ≡ found.Whole d end → judge stakes d ≡ verdict.Fine → d .kind ≡ 5
+      → kindIn (length stakes) (c .kind) ≡ certificate.Notar → certificateAt packet next ≡ found.Whole d end → judge stakes d ≡ verdict.Fine → d .kind ≡ numberIn (length stakes) certificate.Final
       → d .slot ≡ c .slot → end ≡ length packet → checkProof stakes packet ≡ check.Accepted (acceptedOf stakes c)
   unfolding checkProof proofOf firstIn secondOf
   accepts-slow c d next end e j k f i five same n =
       given-on (stakesFit stakes (length stakes)) (check.Refused refusal.BadSizes) (λ _. proofOf stakes packet (oneAt stakes packet 0)) fits
       ∙ rw (one-is c 0 next e j, k, one-is d next end f i)
-      (given-on (eqb (d .kind) 5 && eqb (d .slot) (c .slot)) (check.Refused refusal.NotAProof) (λ _. ended stakes packet c end)
-      (both-and (eqb (d .kind) 5) (eqb (d .slot) (c .slot)) (eq-eqb (d .kind) 5 five) (eq-eqb (d .slot) (c .slot) same))
+      (given-on (eqb (d .kind) (numberIn (length stakes) certificate.Final) && eqb (d .slot) (c .slot)) (check.Refused refusal.NotAProof) (λ _. ended stakes packet c end)
+      (both-and (eqb (d .kind) (numberIn (length stakes) certificate.Final)) (eqb (d .slot) (c .slot)) (eq-eqb (d .kind) (numberIn (length stakes) certificate.Final) five) (eq-eqb (d .slot) (c .slot) same))
       ∙ ends c end n)
 
 -- ---- what is written of a ledger
@@ -182,11 +182,11 @@ module _ (l : Ledger) (stakes : List ℕ) (t : TableIs l stakes) where
 
     -- The certificate over the stakes' own count.
     abbrev cert : Certificate
-    cert = record { kind = certificateNumber k; slot = s; block = b; maska = maskOf pa size; maskb = maskOf pb size }
+    cert = record { kind = numberIn size k; slot = s; block = b; maska = maskOf pa size; maskb = maskOf pb size }
 
     cert-is : certificateFor l k s b ≡ cert
     unfolding certificateFor
-    cert-is = ap (λ (n : ℕ). record { kind = certificateNumber k; slot = s; block = b; maska = maskOf pa n; maskb = maskOf pb n }) (t .count)
+    cert-is = ap (λ (n : ℕ). record { kind = numberIn n k; slot = s; block = b; maska = maskOf pa n; maskb = maskOf pb n }) (t .count)
 
     no-mask-b : (w : Bool) → withoutB k ≡ w → (w && not (none (maskOf pb size))) ≡ false
     no-mask-b true e = rw (mask-empty pb size (λ i. no-b k b (cellAt l s i) e))
@@ -218,14 +218,14 @@ module _ (l : Ledger) (stakes : List ℕ) (t : TableIs l stakes) where
       fine : slotOk s ≡ true → blockMisfits k b ≡ false → held l k s b ≡ true → judge stakes cert ≡ verdict.Fine
       unfolding judge judgeKind judgeWeight
       fine so m h =
-          ap (λ (x : CertificateKind). judgeKind stakes x cert) (kind-back k)
+          ap (λ (x : CertificateKind). judgeKind stakes x cert) (kind-back size k)
           ∙ all-passed (isOtherKind k) (slotOk s) (blockMisfits k b) (badSigners size k cert) (reaches (fifthsOf k) (totalTo stakes size) (signedWeight stakes cert)) _ z so m signers-fine (heavy h)
 
       -- The answer is the true one.
       true-answer : acceptedOf stakes cert ≡ acceptedFor l k s b
       unfolding acceptedOf acceptedFor weigh
       true-answer =
-          ap (λ (x : CertificateKind). answer x (countOf (signed cert) size) (signedWeight stakes cert)) (kind-back k)
+          ap (λ (x : CertificateKind). answer x (countOf (signed cert) size) (signedWeight stakes cert)) (kind-back size k)
           ∙ ap₂ (answer k) (signed-count ∙ ap (countOf who) (sym (t .count))) (signed-weight ∙ sym (weight-is who))
         where
           answer : CertificateKind → ℕ → ℕ → Accepted
@@ -234,11 +234,11 @@ module _ (l : Ledger) (stakes : List ℕ) (t : TableIs l stakes) where
     fits64 : isOtherKind k ≡ false → b < 2 ^ 64 → slotOk s ≡ true → Fits64 cert
     unfolding slotOk
     fits64 z h so =
-        let p : 2 ^ size ≤ 2 ^ (64 * wordsIn (certificateNumber k)) = pow-mono (kind-words size k z few) in
+        let p : 2 ^ size ≤ 2 ^ (64 * wordsIn (numberIn size k)) = pow-mono (kind-words size k z few) in
         let q = leb-true s lastSlot (and-both (leb 1 s) (leb s lastSlot) so .1) in
         let big : 16 < 2 ^ 64 = lit< tt in
         record {
-          kind = omega (arith, kind-small k, big);
+          kind = omega (arith, kind-small size k, big);
           slot = omega (arith, q, big);
           block = h;
           maska = omega (arith, mask-lt pa size, p);
@@ -280,7 +280,7 @@ module _ (l : Ledger) (stakes : List ℕ) (t : TableIs l stakes) where
       let r = reads-alone l stakes t k s b refl h so in
       let good : (parts bytes ≡ c ∷ []) × (checkProof stakes bytes ≡ check.Accepted (acceptedFor l k s b)) = (
         parts-one bytes c r,
-        accepts-fast stakes bytes (t .fits) c (length bytes) r (fine l stakes t k s b refl so m hd) (kind-back k) refl ∙ ap check.Accepted (true-answer l stakes t k s b refl),
+        accepts-fast stakes bytes (t .fits) c (length bytes) r (fine l stakes t k s b refl so m hd) (kind-back (length stakes) k) refl ∙ ap check.Accepted (true-answer l stakes t k s b refl),
       ) in
       subst (λ (x : Certificate). (parts (certificateBytes x) ≡ x ∷ []) × (checkProof stakes (certificateBytes x) ≡ check.Accepted (acceptedFor l k s b)))
       (sym (cert-is l stakes t k s b)) good
@@ -290,7 +290,7 @@ module _ (l : Ledger) (stakes : List ℕ) (t : TableIs l stakes) where
       ≡ certificateFor l certificate.Notar s b ∷ certificateFor l certificate.Final s 0 ∷ [])
       × (checkProof stakes (certificateBytes (certificateFor l certificate.Notar s b) ++ certificateBytes (certificateFor l certificate.Final s 0))
       ≡ check.Accepted (acceptedFor l certificate.Notar s b))
-  unfolding isOtherKind blockMisfits certificateNumber
+  unfolding isOtherKind blockMisfits
   slow-on s b h so m hn hf =
       let k = certificate.Notar in
       let c = cert l stakes t k s b in
@@ -302,7 +302,7 @@ module _ (l : Ledger) (stakes : List ℕ) (t : TableIs l stakes) where
       let q = certificate-in (x ++ y) x d [] (length x) (ap (λ (z : List ℕ). x ++ z) (sym (append-nil y))) refl (fits64 l stakes t certificate.Final s 0 refl zero-lt so) in
       let good : (parts (x ++ y) ≡ c ∷ d ∷ []) × (checkProof stakes (x ++ y) ≡ check.Accepted (acceptedFor l k s b)) = (
         parts-two (x ++ y) c d (length x) (length x + length y) r q,
-        accepts-slow stakes (x ++ y) (t .fits) c d (length x) (length x + length y) r (fine l stakes t k s b refl so m hn) (kind-back k) q
+        accepts-slow stakes (x ++ y) (t .fits) c d (length x) (length x + length y) r (fine l stakes t k s b refl so m hn) (kind-back (length stakes) k) q
             (fine l stakes t certificate.Final s 0 refl so refl hf) refl refl (sym (length-append x y))
             ∙ ap check.Accepted (true-answer l stakes t k s b refl),
       ) in
@@ -317,7 +317,7 @@ unfolding writeCertificate certificateVerdict
 certificate-back l stakes t room k s b n h e =
     let bytes = certificateBytes (certificateFor l k s b) in
     let v = wrote-fine (certificateVerdict l room k s b) bytes n e in
-    let p1 = refuse-fine (ltb room 32) refusal.NoRoom _ v in
+    let p1 = refuse-fine (ltb room (certificateRoom (l .count))) refusal.NoRoom _ v in
     let p2 = refuse-fine (isOtherKind k) refusal.BadKind _ (p1 .1) in
     let p3 = refuse-fine (not (slotOk s)) refusal.BadSlot _ (p2 .1) in
     let p4 = refuse-fine (blockMisfits k b) refusal.BadBlock _ (p3 .1) in
@@ -339,7 +339,7 @@ proof-back l stakes t room s b n h e =
     let c2 = certificateFor l certificate.Notar s b in
     let c5 = certificateFor l certificate.Final s 0 in
     let v = wrote-fine (proofVerdict l room s b) (proofBytes l s b) n e in
-    let p1 = refuse-fine (ltb room 64) refusal.NoRoom _ v in
+    let p1 = refuse-fine (ltb room (proofRoom (l .count))) refusal.NoRoom _ v in
     let p2 = refuse-fine (not (slotOk s)) refusal.BadSlot _ (p1 .1) in
     let p3 = refuse-fine (none b) refusal.BadBlock _ (p2 .1) in
     let p4 = refuse-fine (not (fast || slow)) refusal.NotHeld _ (p3 .1) in

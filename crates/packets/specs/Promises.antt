@@ -13,7 +13,7 @@ use Rattle.rulebook.specs.Certificates as found
 use Rattle.rulebook.specs.declared.WriteAnswer.the-variants as write
 use Rattle.rulebook.specs.Tools.{given, choose}
 use Rattle.rulebook.specs.Weights.{stakeIn, weight, totalTo, stakesFit}
-use Rattle.rulebook.specs.PaperNumbers.{certificateKind}
+use Rattle.rulebook.specs.PaperNumbers.{kindIn}
 use Rattle.rulebook.specs.Ledger.{Ledger, cellAt}
 use Rattle.rulebook.specs.Pool.{counts, signersOf, weigh, held}
 use Rattle.rulebook.specs.Packets.{certificateAt, bit, countOf}
@@ -53,7 +53,7 @@ OnePacket =
 -- What is answered of a certificate: its kind, slot and block; as many signers, and as much weight, as either mask names; and since
 -- no node is in both, as the masks name apart.
 pub record Counted (stakes : List ℕ) (c : Certificate) (a : Accepted) : Type 0 where
-  pub kind : a .kind ≡ certificateKind (c .kind)
+  pub kind : a .kind ≡ kindIn (length stakes) (c .kind)
   pub slot : a .slot .0 ≡ c .slot
   pub block : a .block ≡ c .block
   pub signers : a .signers ≡ countOf (λ n. bit (c .maska) n || bit (c .maskb) n) (length stakes)

@@ -2,19 +2,10 @@
 ghost use Prim.Native.Nat.{_≤_};
 ghost use lib.ListN.{length};
 ghost use Rattle.commands.specs.Commands.{Heard};
-use crate::answers::Turn;
-use crate::answers::answered;
-use crate::answers::checked;
-use crate::answers::malformed;
-use crate::answers::number;
-use crate::answers::packet;
-use crate::answers::records;
-use crate::answers::served;
-use crate::answers::vote_read;
-use crate::help::help;
-use crate::help::why;
 use commands::Command;
 use commands::command_of;
+use help::help;
+use help::why;
 use hex::read_hex;
 use quointrowel::qr_block;
 use quointrowel::qr_check_certificate;
@@ -29,6 +20,16 @@ use quointrowel::qr_vote;
 use quointrowel::qr_write_certificate;
 use quointrowel::qr_write_proof;
 use quointrowel::qr_write_vote;
+use replies::Turn;
+use replies::answered;
+use replies::checked;
+use replies::malformed;
+use replies::number;
+use replies::packet;
+use replies::records;
+use replies::served;
+use replies::vote_read;
+use rulebook::Node;
 use rulebook::Slot;
 use script::read_numbers;
 use script::word_at;
@@ -77,9 +78,9 @@ fn start_with(rec: &mut [u64], args: &[u64], many: usize) -> u64 {
     start_node(rec, &args[2..], own, genesis)
 }
 
-// start OWN GENESIS STAKE..; 65 stakes are kept, which are too many already.
+// start OWN GENESIS STAKE..; 2,049 stakes are kept, which are too many already.
 fn start(page: &mut [u8], line: &[u8], at: usize, rec: &mut [u64]) -> bool {
-    let mut args = [0u64; 67];
+    let mut args = [0u64; 2051];
     let n = read_numbers(line, at, &mut args);
     number(page, start_with(rec, &args, n.count))
 }
@@ -138,9 +139,9 @@ fn look(page: &mut [u8], rec: &mut [u64], outbox: &mut [u64]) -> bool {
     records(page, n, made, outbox)
 }
 
-// tray WORD..; a line has no room for more than 2046 words.
+// tray WORD..; a line has no room for more than 32,766 words.
 fn tray(page: &mut [u8], line: &[u8], at: usize, rec: &mut [u64], outbox: &mut [u64]) -> bool {
-    let mut words = [0u64; 2048];
+    let mut words = [0u64; 32768];
     let n = read_numbers(line, at, &mut words);
     tray_with(page, &words, n.count, rec, outbox)
 }
@@ -162,7 +163,7 @@ fn tray_with(
 
 // A run of votes, four words each, with a place for the answer of each.
 fn tray_votes(page: &mut [u8], votes: &[u64], rec: &mut [u64], outbox: &mut [u64]) -> bool {
-    let mut answers = [0u64; 512];
+    let mut answers = [0u64; 8192];
     let mut made = 0;
     let words = node_words(rec);
     let n = qr_tray(&mut rec[0..words], outbox, &mut made, votes, &mut answers);
@@ -178,7 +179,7 @@ fn tray_votes(page: &mut [u8], votes: &[u64], rec: &mut [u64], outbox: &mut [u64
 fn cert(page: &mut [u8], line: &[u8], at: usize, rec: &[u64]) -> bool {
     let mut args = [0u64; 3];
     read_numbers(line, at, &mut args);
-    let mut buffer = [0u8; 32];
+    let mut buffer = [0u8; 768];
     let mut written = 0;
     let n = qr_write_certificate(
         rec,
@@ -195,26 +196,26 @@ fn cert(page: &mut [u8], line: &[u8], at: usize, rec: &[u64]) -> bool {
 fn proof(page: &mut [u8], line: &[u8], at: usize, rec: &[u64]) -> bool {
     let mut args = [0u64; 2];
     read_numbers(line, at, &mut args);
-    let mut buffer = [0u8; 64];
+    let mut buffer = [0u8; 1536];
     let mut written = 0;
     let n = qr_write_proof(rec, &mut buffer, &mut written, size(args[0]), args[1]);
     packet(page, n, written, &buffer)
 }
 
-// check HEX STAKE.., checkproof HEX STAKE..; a line has no room for more than 2048 bytes of packet.
+// check HEX STAKE.., checkproof HEX STAKE..; a line has no room for more than 32,768 bytes of packet.
 fn check(page: &mut [u8], line: &[u8], at: usize, whole: bool) -> bool {
     let w = word_at(line, at);
     let from = w.from;
     let to = w.to;
-    let mut bytes = [0u8; 2048];
+    let mut bytes = [0u8; 32768];
     let hex = read_hex(&line[from..to], &mut bytes);
     let length = hex.size;
     check_stakes(page, line, to, &bytes[0..length], whole)
 }
 
-// The same, with the packet read; 65 stakes are kept, which are too many already.
+// The same, with the packet read; 2,049 stakes are kept, which are too many already.
 fn check_stakes(page: &mut [u8], line: &[u8], at: usize, bytes: &[u8], whole: bool) -> bool {
-    let mut stakes = [0u64; 65];
+    let mut stakes = [0u64; 2049];
     let n = read_numbers(line, at, &mut stakes);
     check_with(page, &stakes, n.count, bytes, whole)
 }
@@ -268,7 +269,7 @@ fn unpack(page: &mut [u8], line: &[u8], at: usize) -> bool {
     let message = word_at(line, to);
     let from = message.from;
     let end = message.to;
-    let mut bytes = [0u8; 2048];
+    let mut bytes = [0u8; 32768];
     let hex = read_hex(&line[from..end], &mut bytes);
     let length = hex.size;
     unpack_bytes(page, size(count[0]), &bytes[0..length])
@@ -281,14 +282,28 @@ fn unpack_bytes(page: &mut [u8], count: usize, message: &[u8]) -> bool {
     vote_read(page, n, &values)
 }
 
-// board, board SLOT
+// board, board SLOT, board SLOT FROM
 fn view(page: &mut [u8], line: &[u8], at: usize, rec: &[u64]) -> bool {
-    let mut args = [0u64; 1];
+    let mut args = [0u64; 2];
     let n = read_numbers(line, at, &mut args);
     if n.count == 0 {
         return board::board(page, rec);
     }
-    board::slot(page, rec, Slot(size(args[0])))
+    let s = Slot(size(args[0]));
+    if n.count == 1 {
+        return board::slot(page, rec, s);
+    }
+    board::slot_blocks(page, rec, s, args[1])
+}
+
+// votes, votes SLOT FROM
+fn votes(page: &mut [u8], line: &[u8], at: usize, rec: &[u64]) -> bool {
+    let mut args = [0u64; 2];
+    let n = read_numbers(line, at, &mut args);
+    if n.count == 0 {
+        return board::votes(page, rec);
+    }
+    board::slot_votes(page, rec, Slot(size(args[0])), Node(size(args[1])))
 }
 
 // why NUMBER
@@ -310,7 +325,7 @@ fn ask(page: &mut [u8], c: Command, line: &[u8], at: usize, rec: &[u64]) -> Turn
         Command::Pack => answered(pack(page, line, at)),
         Command::Unpack => answered(unpack(page, line, at)),
         Command::Board => answered(view(page, line, at, node)),
-        Command::Votes => answered(board::votes(page, node)),
+        Command::Votes => answered(votes(page, line, at, node)),
         Command::Why => answered(explain(page, line, at)),
         Command::Help => answered(help(page)),
         Command::Quit => Turn::Quit,

@@ -1,25 +1,23 @@
 // The panel: answers a script, one command a line, read from standard input or from the file that the first argument names.
 mod acts;
-mod answers;
-mod help;
 
 ghost use Prim.Native.Nat.{_<_};
 use acts::obey;
-use answers::Turn;
-use answers::answered;
-use answers::goes_on;
-use answers::malformed;
+use replies::Turn;
+use replies::answered;
+use replies::goes_on;
+use replies::malformed;
 
-// A line has at most 4096 bytes without its end; two more are kept, so that a longer one shows.
-const LINE_ROOM: usize = 4098;
+// A line has at most 65,536 bytes without its end; two more are kept, so that a longer one shows.
+const LINE_ROOM: usize = 65538;
 
-const LONGEST: usize = 4096;
+const LONGEST: usize = 65536;
 
-// Every answer has room in a page: at most 128 records of 63 bytes with the numbers of 512 votes, three bytes each, or 64 bytes in hex.
-const PAGE_ROOM: usize = 10240;
+// Every answer has room in a page: at most 128 records of 63 bytes with the numbers of 8,191 votes, three bytes each, or 1,536 bytes in hex.
+const PAGE_ROOM: usize = 34816;
 
-// The words of the largest record, that of 64 nodes.
-const RECORD_WORDS: usize = 7773;
+// The words of the largest record, that of 2,048 nodes.
+const RECORD_WORDS: usize = 245853;
 
 const OUTBOX_WORDS: usize = 384;
 

@@ -19,7 +19,7 @@ use Rattle.rulebook.specs.declared.Verdict.{Verdict}
 use Rattle.rulebook.specs.declared.Verdict.the-variants.{Fine, Refused}
 use Rattle.rulebook.specs.Tools.{choose, given}
 use Rattle.rulebook.specs.Weights.{reaches, totalTo, slotOk, stakesFit}
-use Rattle.rulebook.specs.PaperNumbers.{certificateKind, refusalNumber, refusalMissing, verdictNumber, checkPanel, checkMissing}
+use Rattle.rulebook.specs.PaperNumbers.{kindIn, numberIn, refusalNumber, refusalMissing, verdictNumber, checkNumber, checkMissing}
 use Rattle.rulebook.specs.Pool.{weigh, weighs, signersOf, fifthsOf, held, missingTo}
 use Rattle.rulebook.specs.Inputs.{refuseIf}
 use Rattle.rulebook.specs.Packets.{certificateAt}
@@ -53,7 +53,7 @@ number-then false r v = refl
 pub judged-as-before : JudgedAsBefore
 unfolding judge judgeKind judgeWeight reaches firstFailed verdictNumber refusalNumber
 judged-as-before stakes c =
-    let k = certificateKind (c .kind) in
+    let k = kindIn (length stakes) (c .kind) in
     let size = length stakes in
     number-then (isOtherKind k) refusal.BadKind _
     ∙ ap (choose (isOtherKind k) 4)
@@ -150,7 +150,7 @@ weight-light stakes k c false q r e =
 judge-light : (stakes : List ℕ) (c : Certificate) (q : Refusal) → judge stakes c ≡ Refused q → refusalNumber q ≡ 15 → ShortBy stakes c (refusalMissing q)
 unfolding judge judgeKind judgeWeight
 judge-light stakes c q e f =
-    let k = certificateKind (c .kind) in
+    let k = kindIn (length stakes) (c .kind) in
     let p = later (isOtherKind k) refusal.BadKind q _ kind-other e f in
     let s = later (not (slotOk (c .slot))) refusal.BadSlot q _ slot-other p f in
     let b = later (blockMisfits k (c .block)) refusal.BadBlock q _ block-other s f in
@@ -176,47 +176,47 @@ light-read stakes found.Malformed q e f = let g : refusal.BadNumber ≡ q = cc i
 Refuses : CheckAnswer → Refusal → Type 0
 Refuses a q = (a ≡ check.Refused q) × (refusalNumber q ≡ 15)
 
-told-zero : (a : CheckAnswer) → ¬ (checkPanel a .number ≡ 15) → checkMissing a ≡ 0
-unfolding checkPanel checkMissing
+told-zero : (a : CheckAnswer) → ¬ (checkNumber a ≡ 15) → checkMissing a ≡ 0
+unfolding checkNumber checkMissing
 told-zero (check.Accepted x) ne = refl
 told-zero (check.Refused r) ne = no-figure r ne
 
-given-later : (t : Bool) (r : Refusal) (f : Unit {0} → CheckAnswer) → Other r → checkPanel (given t (check.Refused r) f) .number ≡ 15
+given-later : (t : Bool) (r : Refusal) (f : Unit {0} → CheckAnswer) → Other r → checkNumber (given t (check.Refused r) f) ≡ 15
     → given t (check.Refused r) f ≡ f tt
-unfolding given checkPanel Other
+unfolding given checkNumber Other
 given-later true r f ne e = refl
 given-later false r f ne e = absurd (ne e)
 
-accepted-never : {X : Type 0} (x : Accepted) → checkPanel (check.Accepted x) .number ≡ 15 → X
-unfolding checkPanel
+accepted-never : {X : Type 0} (x : Accepted) → checkNumber (check.Accepted x) ≡ 15 → X
+unfolding checkNumber
 accepted-never x e = absurd (omega (arith, e))
 
-ended-never : {X : Type 0} (stakes packet : List ℕ) (c : Certificate) (n : ℕ) → checkPanel (ended stakes packet c n) .number ≡ 15 → X
+ended-never : {X : Type 0} (stakes packet : List ℕ) (c : Certificate) (n : ℕ) → checkNumber (ended stakes packet c n) ≡ 15 → X
 unfolding ended
 ended-never stakes packet c n e =
     let g = given-later (not (ltb n (length packet))) refusal.BadLength (λ _. check.Accepted (acceptedOf stakes c)) length-other e in
-    accepted-never (acceptedOf stakes c) (ap (λ (a : CheckAnswer). checkPanel a .number) (sym g) ∙ e)
+    accepted-never (acceptedOf stakes c) (ap checkNumber (sym g) ∙ e)
 
-refused-never : {X : Type 0} (r : Refusal) → Other r → checkPanel (check.Refused r) .number ≡ 15 → X
-unfolding checkPanel Other
+refused-never : {X : Type 0} (r : Refusal) → Other r → checkNumber (check.Refused r) ≡ 15 → X
+unfolding checkNumber Other
 refused-never r ne e = absurd (ne e)
 
-single-light : (stakes packet : List ℕ) (o : One) → checkPanel (singleOf stakes packet o) .number ≡ 15
+single-light : (stakes packet : List ℕ) (o : One) → checkNumber (singleOf stakes packet o) ≡ 15
     → (q : Refusal) × (o ≡ bad q) × Refuses (singleOf stakes packet o) q
-unfolding singleOf Refuses checkPanel
+unfolding singleOf Refuses checkNumber
 single-light stakes packet (good c n) e = ended-never stakes packet c n e
 single-light stakes packet (bad r) e = (r, refl, (refl, e))
 
-second-light : (stakes packet : List ℕ) (c : Certificate) (o : One) → checkPanel (secondOf stakes packet c o) .number ≡ 15
+second-light : (stakes packet : List ℕ) (c : Certificate) (o : One) → checkNumber (secondOf stakes packet c o) ≡ 15
     → (q : Refusal) × (o ≡ bad q) × Refuses (secondOf stakes packet c o) q
-unfolding secondOf Refuses checkPanel
+unfolding secondOf Refuses checkNumber
 second-light stakes packet c (good d n) e =
-    let g = given-later (eqb (d .kind) 5 && eqb (d .slot) (c .slot)) refusal.NotAProof (λ _. ended stakes packet c n) proof-other e in
-    ended-never stakes packet c n (ap (λ (a : CheckAnswer). checkPanel a .number) (sym g) ∙ e)
+    let g = given-later (eqb (d .kind) (numberIn (length stakes) certificate.Final) && eqb (d .slot) (c .slot)) refusal.NotAProof (λ _. ended stakes packet c n) proof-other e in
+    ended-never stakes packet c n (ap checkNumber (sym g) ∙ e)
 second-light stakes packet c (bad r) e = (r, refl, (refl, e))
 
 -- Only a proof whose first certificate is of kind 2 comes to a second.
-first-light : (stakes packet : List ℕ) (k : CertificateKind) (c : Certificate) (n : ℕ) → checkPanel (firstIn stakes packet k c n) .number ≡ 15
+first-light : (stakes packet : List ℕ) (k : CertificateKind) (c : Certificate) (n : ℕ) → checkNumber (firstIn stakes packet k c n) ≡ 15
     → (q : Refusal) × (oneAt stakes packet n ≡ bad q) × Refuses (firstIn stakes packet k c n) q
 unfolding firstIn
 first-light stakes packet certificate.FastFinal c n e = ended-never stakes packet c n e
@@ -233,19 +233,19 @@ figure-is stakes c a q r l = subst (λ (x : CheckAnswer). ShortBy stakes c (chec
 
 -- ---- one certificate
 
-certificate-light : (stakes packet : List ℕ) → checkPanel (checkCertificate stakes packet) .number ≡ 15
+certificate-light : (stakes packet : List ℕ) → checkNumber (checkCertificate stakes packet) ≡ 15
     → (c : Certificate) × FirstOf packet c × ShortBy stakes c (checkMissing (checkCertificate stakes packet))
 unfolding checkCertificate oneAt Refuses
 certificate-light stakes packet e =
     let g = given-later (stakesFit stakes (length stakes)) refusal.BadSizes (λ _. singleOf stakes packet (oneAt stakes packet 0)) sizes-other e in
-    let s = single-light stakes packet (oneAt stakes packet 0) (ap (λ (a : CheckAnswer). checkPanel a .number) (sym g) ∙ e) in
+    let s = single-light stakes packet (oneAt stakes packet 0) (ap checkNumber (sym g) ∙ e) in
     let r = light-read stakes (certificateAt packet 0) (s .0) (s .1) (s .2 .1) in
     let l = figure-is stakes (r .0) (singleOf stakes packet (oneAt stakes packet 0)) (s .0) (s .2) (r .3) in
     (r .0, first (r .1) (r .2), subst (λ (a : CheckAnswer). ShortBy stakes (r .0) (checkMissing a)) (sym g) l)
 
 pub certificate-figure : CertificateFigure
 certificate-figure stakes packet a e =
-    subst (λ (x : CheckAnswer). FigureTold stakes (FirstOf packet) (checkPanel x .number) (checkMissing x)) (sym e)
+    subst (λ (x : CheckAnswer). FigureTold stakes (FirstOf packet) (checkNumber x) (checkMissing x)) (sym e)
     (record { otherwise = told-zero (checkCertificate stakes packet); tooLight = certificate-light stakes packet })
 
 -- ---- a proof
@@ -261,34 +261,34 @@ good-read stakes (found.Whole d m) c n e = go (judge stakes d) refl e
 good-read stakes found.Early c n e = let z : _≡_ {A = ℕ} 0 1 = cc in absurd (omega arith)
 good-read stakes found.Malformed c n e = let z : _≡_ {A = ℕ} 0 1 = cc in absurd (omega arith)
 
-refused-number : (q : Refusal) → checkPanel (check.Refused q) .number ≡ 15 → refusalNumber q ≡ 15
-unfolding checkPanel
+refused-number : (q : Refusal) → checkNumber (check.Refused q) ≡ 15 → refusalNumber q ≡ 15
+unfolding checkNumber
 refused-number q e = e
 
 -- The answer by the first certificate, light or good.
-read-light : (stakes packet : List ℕ) (o : One) → oneAt stakes packet 0 ≡ o → checkPanel (proofOf stakes packet o) .number ≡ 15
+read-light : (stakes packet : List ℕ) (o : One) → oneAt stakes packet 0 ≡ o → checkNumber (proofOf stakes packet o) ≡ 15
     → (c : Certificate) × OneOf stakes packet c × ShortBy stakes c (checkMissing (proofOf stakes packet o))
 unfolding proofOf oneAt Refuses
 read-light stakes packet (good d n) g e =
-    let s = first-light stakes packet (certificateKind (d .kind)) d n e in
+    let s = first-light stakes packet (kindIn (length stakes) (d .kind)) d n e in
     let h = good-read stakes (certificateAt packet 0) d n g in
     let r = light-read stakes (certificateAt packet n) (s .0) (s .1) (s .2 .1) in
-    (r .0, theSecond d n (r .1) (h .0) (h .1) (r .2), figure-is stakes (r .0) (firstIn stakes packet (certificateKind (d .kind)) d n) (s .0) (s .2) (r .3))
+    (r .0, theSecond d n (r .1) (h .0) (h .1) (r .2), figure-is stakes (r .0) (firstIn stakes packet (kindIn (length stakes) (d .kind)) d n) (s .0) (s .2) (r .3))
 read-light stakes packet (bad q) g e =
     let r = light-read stakes (certificateAt packet 0) q g (refused-number q e) in
     (r .0, theFirst (first (r .1) (r .2)), figure-is stakes (r .0) (check.Refused q) q (refl, refused-number q e) (r .3))
 
-proof-light : (stakes packet : List ℕ) → checkPanel (checkProof stakes packet) .number ≡ 15
+proof-light : (stakes packet : List ℕ) → checkNumber (checkProof stakes packet) ≡ 15
     → (c : Certificate) × OneOf stakes packet c × ShortBy stakes c (checkMissing (checkProof stakes packet))
 unfolding checkProof
 proof-light stakes packet e =
     let g = given-later (stakesFit stakes (length stakes)) refusal.BadSizes (λ _. proofOf stakes packet (oneAt stakes packet 0)) sizes-other e in
-    let s = read-light stakes packet (oneAt stakes packet 0) refl (ap (λ (a : CheckAnswer). checkPanel a .number) (sym g) ∙ e) in
+    let s = read-light stakes packet (oneAt stakes packet 0) refl (ap checkNumber (sym g) ∙ e) in
     (s .0, s .1, subst (λ (a : CheckAnswer). ShortBy stakes (s .0) (checkMissing a)) (sym g) (s .2))
 
 pub proof-figure : ProofFigure
 proof-figure stakes packet a e =
-    subst (λ (x : CheckAnswer). FigureTold stakes (OneOf stakes packet) (checkPanel x .number) (checkMissing x)) (sym e)
+    subst (λ (x : CheckAnswer). FigureTold stakes (OneOf stakes packet) (checkNumber x) (checkMissing x)) (sym e)
     (record { otherwise = told-zero (checkProof stakes packet); tooLight = proof-light stakes packet })
 
 -- ---- the same at the face

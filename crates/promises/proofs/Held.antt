@@ -19,11 +19,11 @@ use Rattle.rulebook.specs.Pool.{held}
 use Rattle.rulebook.specs.Rules.{isFinal}
 use Rattle.rulebook.specs.Inputs.{refuseIf}
 use Rattle.rulebook.specs.Packets.{certificateBytes}
-use Rattle.rulebook.specs.Writers.{Wrote, certificateFor, wroteOn, certificateVerdict, writeCertificate, proofVerdict, proofBytes, writeProof}
+use Rattle.rulebook.specs.Writers.{Wrote, certificateFor, certificateRoom, proofRoom, wroteOn, certificateVerdict, writeCertificate, proofVerdict, proofBytes, writeProof}
 use Rattle.rulebook.proofs.ToolLaws.{given-on, given-off, by-test, true-not-false}
 use Rattle.record.specs.Layout.{ledgerOf}
 use Rattle.soundness.specs.Sound.{soundWords}
-use Rattle.writers.specs.Writing.{unsound, certificateOn, proofOn}
+use Rattle.writers.specs.Writing.{unsound, kindOn, certificateOn, proofOn}
 use Rattle.writers.proofs.Verdicts.{certificate-held, certificate-passed, certificate-fine, proof-final, proof-passed, proof-fine}
 use Rattle.promises.specs.Exactly.{CertificateAsked, ProofAsked, WrittenExactly, CertificateExactly, ProofExactly}
 
@@ -117,7 +117,7 @@ module _ (ws buffer : List ℕ) (k : CertificateKind) (s b : ℕ) (so : soundWor
       let t = later _ _ _ other-block (r .1) in (
         record {
           sound = so;
-          room = ltb-false (length buffer) 32 (p .0);
+          room = ltb-false (length buffer) (certificateRoom (ledgerOf ws .count)) (p .0);
           kind = q .0;
           slot = not-false (slotOk s) (r .0);
           block = t .0;
@@ -127,13 +127,14 @@ module _ (ws buffer : List ℕ) (k : CertificateKind) (s b : ℕ) (so : soundWor
 
 pub certificate-exactly : CertificateExactly
 unfolding certificateOn writeCertificate
-certificate-exactly ws buffer k s b answer after h =
+certificate-exactly ws buffer kind s b answer after h =
     let l : Ledger = ledgerOf ws in
+    let k = kindOn ws kind in
     let n : ℕ = length buffer in
-    exactly ws (certificateBytes (certificateFor l k s b)) (certificateOn ws n k s b) (certificateVerdict l n k s b) (CertificateAsked ws buffer k s b)
+    exactly ws (certificateBytes (certificateFor l k s b)) (certificateOn ws n kind s b) (certificateVerdict l n k s b) (CertificateAsked ws buffer k s b)
     (held l k s b) (λ e. given-on _ _ _ e) (λ e. given-off _ _ _ e) (λ a. a .sound)
-    (λ a t. certificate-passed l n k s b (a .room) (a .kind) (a .slot) (a .block) t) (λ so e. certificate-there ws buffer k s b so e)
-    (λ a t. certificate-held l n k s b (a .room) (a .kind) (a .slot) (a .block) t) (λ so e. certificate-absent ws buffer k s b so e) answer (h .answered)
+    (λ a t. certificate-passed l n k s b _ refl (a .room) (a .kind) (a .slot) (a .block) t) (λ so e. certificate-there ws buffer k s b so e)
+    (λ a t. certificate-held l n k s b _ refl (a .room) (a .kind) (a .slot) (a .block) t) (λ so e. certificate-absent ws buffer k s b so e) answer (h .answered)
 
 -- ---- a proof
 
@@ -149,7 +150,7 @@ module _ (ws buffer : List ℕ) (s b : ℕ) (so : soundWords ws ≡ true) where
       let p = later _ _ _ other-room e in
       let q = later _ _ _ other-slot (p .1) in
       let r = later _ _ _ other-block (q .1) in (
-        record { sound = so; room = ltb-false (length buffer) 64 (p .0); slot = not-false (slotOk s) (q .0); block = r .0 },
+        record { sound = so; room = ltb-false (length buffer) (proofRoom (ledgerOf ws .count)) (p .0); slot = not-false (slotOk s) (q .0); block = r .0 },
         not-true (isFinal (ledgerOf ws) s b) (last _ (r .1)),
       )
 
@@ -163,6 +164,6 @@ proof-exactly ws buffer s b answer after h =
     let l : Ledger = ledgerOf ws in
     let n : ℕ = length buffer in
     exactly ws (proofBytes l s b) (proofOn ws n s b) (proofVerdict l n s b) (ProofAsked ws buffer s b) (isFinal l s b) (λ e. given-on _ _ _ e)
-    (λ e. given-off _ _ _ e) (λ a. a .sound) (λ a t. proof-passed l n s b (a .room) (a .slot) (some-block b (a .block)) t)
-    (λ so e. proof-there ws buffer s b so e) (λ a t. proof-final l n s b (a .room) (a .slot) (some-block b (a .block)) t)
+    (λ e. given-off _ _ _ e) (λ a. a .sound) (λ a t. proof-passed l n s b _ refl (a .room) (a .slot) (some-block b (a .block)) t)
+    (λ so e. proof-there ws buffer s b so e) (λ a t. proof-final l n s b _ refl (a .room) (a .slot) (some-block b (a .block)) t)
     (λ so e. proof-absent ws buffer s b so e) answer (h .answered)

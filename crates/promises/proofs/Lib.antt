@@ -7,3 +7,4 @@ pub mod Spelled
 pub mod Held
 pub mod Figured
 pub mod Printed
+pub mod Families

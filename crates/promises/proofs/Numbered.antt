@@ -1,6 +1,6 @@
 -- What a number on the panel says of the answer. Assumes nothing.
 use mathlib.Core.Path.{_≡_, refl}
-use Prim.Native.Nat.{_≤_}
+use Prim.Native.Nat.{ℕ, _≤_}
 use native.Mathlib.Omega.{arith}
 use Rattle.rulebook.specs.declared.Accepted.{Accepted}
 use Rattle.rulebook.specs.declared.CheckAnswer.{CheckAnswer}
@@ -13,7 +13,7 @@ use Rattle.rulebook.specs.declared.StepAnswer.{StepAnswer}
 use Rattle.rulebook.specs.declared.StepAnswer.the-variants as step
 use Rattle.rulebook.specs.declared.WriteAnswer.{WriteAnswer}
 use Rattle.rulebook.specs.declared.WriteAnswer.the-variants as write
-use Rattle.rulebook.specs.PaperNumbers.{refusalNumber, startPanel, stepPanel, writePanel, checkPanel}
+use Rattle.rulebook.specs.PaperNumbers.{refusalNumber, startPanel, stepPanel, writePanel, checkNumber}
 
 -- A number that is not 0 is a refusal's.
 pub start-refusal : (a : StartAnswer) → ¬ (startPanel a .number ≡ 0) → (r : Refusal) × (a ≡ start.Refused r)
@@ -31,8 +31,8 @@ unfolding writePanel
 write-refusal (write.Written n) h = absurd (h refl)
 write-refusal (write.Refused r) h = (r, refl)
 
-pub check-refusal : (a : CheckAnswer) → ¬ (checkPanel a .number ≡ 0) → (r : Refusal) × (a ≡ check.Refused r)
-unfolding checkPanel
+pub check-refusal : (a : CheckAnswer) → ¬ (checkNumber a ≡ 0) → (r : Refusal) × (a ≡ check.Refused r)
+unfolding checkNumber
 check-refusal (check.Accepted a) h = absurd (h refl)
 check-refusal (check.Refused r) h = (r, refl)
 
@@ -58,7 +58,12 @@ refusal-numbered refusal.NotAProof = omega arith
 refusal-numbered refusal.BadRecord = omega arith
 refusal-numbered refusal.NotHeld = omega arith
 
-pub check-accepted : (a : CheckAnswer) → checkPanel a .number ≡ 0 → (x : Accepted) × (a ≡ check.Accepted x)
-unfolding checkPanel
+pub check-accepted : (a : CheckAnswer) → checkNumber a ≡ 0 → (x : Accepted) × (a ≡ check.Accepted x)
+unfolding checkNumber
 check-accepted (check.Accepted x) e = (x, refl)
 check-accepted (check.Refused r) e = absurd (omega (arith, refusal-numbered r))
+
+pub write-done : (a : WriteAnswer) → writePanel a .number ≡ 0 → (n : ℕ) × (a ≡ write.Written n)
+unfolding writePanel
+write-done (write.Written n) e = (n, refl)
+write-done (write.Refused r) e = absurd (omega (arith, refusal-numbered r))

@@ -34,5 +34,5 @@ pub message-printed : MessagePrinted
 message-printed answer number values s = sends _ _ (λ j. messageLine (record { number = s .numbered j; values = s .valued j }))
 
 pub check-printed : CheckPrinted
-check-printed answer number values missing s =
+check-printed count answer number values missing s =
     sends _ _ (λ j. checkLine (record { number = s .numbered j; values = s .valued j }) (s .lacked j))

@@ -6,7 +6,6 @@ use Prim.Native.Nat.{ℕ, _*_, _%_}
 use native.Mathlib.Omega.{arith}
 use lib.ListN.{length, drop}
 use lib.Dec.{eqb, leb}
-use Rattle.rulebook.specs.declared.CertificateKind.{CertificateKind}
 use Rattle.rulebook.specs.declared.CheckAnswer.{CheckAnswer}
 use Rattle.rulebook.specs.declared.Input.{Input}
 use Rattle.rulebook.specs.declared.Refusal.{Refusal}
@@ -19,7 +18,7 @@ use Rattle.rulebook.specs.declared.Verdict.the-variants.{Fine, Refused}
 use Rattle.rulebook.specs.declared.WriteAnswer.{WriteAnswer}
 use Rattle.rulebook.specs.declared.WriteAnswer.the-variants as write
 use Rattle.rulebook.specs.Ledger.{Ledger}
-use Rattle.rulebook.specs.PaperNumbers.{stepPanel, writePanel, checkPanel}
+use Rattle.rulebook.specs.PaperNumbers.{stepPanel, writePanel, checkValues}
 use Rattle.rulebook.specs.Inputs.{Fed, verdict, fedWith, refusedWith, fedOn, feed}
 use Rattle.rulebook.specs.WellFormed.{wellFormed, outboxWords, step}
 use Rattle.rulebook.specs.Writers.{Wrote, wroteOn, writeCertificate, writeProof, certificateVerdict, proofVerdict, proofBytes, certificateFor, over, Writes}
@@ -36,7 +35,7 @@ use Rattle.node.specs.Stepping.{Leaves, spelled, asFound, asFed, stepLeaves}
 use Rattle.trays.specs.Trays.{votesIn, wholeVotes, Served, serve, Tray, trayRefused, trayServed, tray}
 use Rattle.trays.specs.Lent as trays
 use Rattle.trays.specs.Lent.{asServed, trayLeaves}
-use Rattle.writers.specs.Writing.{unsound, certificateOn, proofOn}
+use Rattle.writers.specs.Writing.{unsound, kindOn, certificateOn, proofOn}
 use Rattle.answers.specs.Face.{Beside}
 use Rattle.promises.specs.Refusals.{StartRefused, StepRefused, TrayRefused, CertificateRefused, ProofRefused, MessageRefused, FaceStartRefused, FaceStepRefused, FaceTrayRefused, FaceCertificateRefused, FaceProofRefused, FaceMessageRefused, FaceCheckRefused}
 use Rattle.promises.proofs.Numbered.{start-refusal, step-refusal, write-refusal, check-refusal}
@@ -147,9 +146,10 @@ unsound-unwritten : Unwritten unsound
 unfolding unsound
 unsound-unwritten r e = refl
 
-certificate-unwritten : (ws : List ℕ) (room : ℕ) (k : CertificateKind) (s b : ℕ) → Unwritten (certificateOn ws room k s b)
+certificate-unwritten : (ws : List ℕ) (room kind s b : ℕ) → Unwritten (certificateOn ws room kind s b)
 unfolding certificateOn writeCertificate
-certificate-unwritten ws room k s b =
+certificate-unwritten ws room kind s b =
+    let k = kindOn ws kind in
     given-keeps Unwritten (soundWords ws) _ _ unsound-unwritten
     (λ _. wrote-unwritten (certificateVerdict (ledgerOf ws) room k s b) (certificateBytes (certificateFor (ledgerOf ws) k s b)))
 
@@ -231,7 +231,7 @@ face-message-refused count v buffer number written after h ne =
     )
 
 pub face-check-refused : FaceCheckRefused
-unfolding checkPanel
-face-check-refused answer number values missing h ne =
+unfolding checkValues
+face-check-refused count answer number values missing h ne =
     let x = check-refusal answer (λ e. ne (h .numbered ∙ e)) in
-    h .valued ∙ ap (λ (a : CheckAnswer). checkPanel a .values) (x .1)
+    h .valued ∙ ap (checkValues count) (x .1)

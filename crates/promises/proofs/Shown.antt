@@ -35,7 +35,7 @@ use Rattle.node.specs.Stepping.{Leaves, stepLeaves}
 use Rattle.trays.specs.Trays.{votesIn, wholeVotes, serve, Tray, trayRefused, trayServed, tray}
 use Rattle.trays.specs.Lent as trays
 use Rattle.trays.specs.Lent.{trayLeaves}
-use Rattle.writers.specs.Writing.{unsound, certificateOn, proofOn}
+use Rattle.writers.specs.Writing.{unsound, kindOn, certificateOn, proofOn}
 use Rattle.promises.specs.Panels.{besideIt, shown, soundFirst, stepJudged, VotePassed, trayJudged, StartShown, StepShown, TrayShown, PlaceShown, CertificateShown, ProofShown}
 
 -- ---- start
@@ -202,9 +202,10 @@ on-words ws w v bytes f g =
 
 pub certificate-shown : CertificateShown
 unfolding certificateOn writeCertificate
-certificate-shown ws buffer k s b a after h =
+certificate-shown ws buffer kind s b a after h =
+    let k = kindOn ws kind in
     ap writePanel (h .answered)
-    ∙ on-words ws (certificateOn ws (length buffer) k s b) (certificateVerdict (ledgerOf ws) (length buffer) k s b) (certificateBytes (certificateFor (ledgerOf ws) k s b))
+    ∙ on-words ws (certificateOn ws (length buffer) kind s b) (certificateVerdict (ledgerOf ws) (length buffer) k s b) (certificateBytes (certificateFor (ledgerOf ws) k s b))
     (λ e. given-on _ _ _ e) (λ e. given-off _ _ _ e)
 
 pub proof-shown : ProofShown

@@ -3,10 +3,8 @@ use mathlib.Core.Path.{_≡_, refl, sym, ap, _∙_}
 use mathlib.Core.Bool.{Bool, true, false, not, _&&_}
 use mathlib.Core.List.{List, [], _∷_}
 use Prim.Native.Nat.{ℕ}
-use native.Mathlib.Omega.{arith}
 use lib.ListN.{length, replicate}
 use lib.Dec.{eqb, ltb}
-use borrow.Author.Tests.{eqb-true}
 use Rattle.rulebook.specs.declared.Accepted.{Accepted}
 use Rattle.rulebook.specs.Certificates.{Certificate, Found}
 use Rattle.rulebook.specs.declared.CertificateKind.{CertificateKind}
@@ -18,38 +16,29 @@ use Rattle.rulebook.specs.declared.Refusal.{Refusal}
 use Rattle.rulebook.specs.declared.Refusal.the-variants as refusal
 use Rattle.rulebook.specs.declared.Verdict.{Verdict}
 use Rattle.rulebook.specs.declared.Verdict.the-variants.{Fine, Refused}
-use Rattle.rulebook.specs.Tools.{choose, given}
-use Rattle.rulebook.specs.PaperNumbers.{certificateKind, certificateNumber, verdictNumber, foundPanel, checkPanel, refusalNumber}
+use Rattle.rulebook.specs.Tools.{given}
+use Rattle.rulebook.specs.PaperNumbers.{kindIn, numberIn, verdictNumber, foundPanel, checkNumber, checkValues, checkPanel, refusalNumber}
 use Rattle.rulebook.specs.Weights.{stakesFit}
 use Rattle.rulebook.specs.Inputs.{refuseIf}
 use Rattle.rulebook.specs.Packets.{certificateAt}
-use Rattle.rulebook.specs.Checker.{One, good, bad, isOtherKind, judgeKind, judge, acceptedOf, judged, oneOf, oneAt, ended, singleOf, checkCertificate, secondOf, firstIn, proofOf, checkProof}
-use Rattle.rulebook.proofs.ToolLaws.{given-on, by-test}
+use Rattle.rulebook.specs.Checker.{One, good, bad, judgeKind, judge, acceptedOf, judged, oneOf, oneAt, ended, singleOf, checkCertificate, secondOf, firstIn, proofOf, checkProof}
+use Rattle.rulebook.proofs.ToolLaws.{given-on}
 use Rattle.rulebook.proofs.RuleLaws.{refuse-fine}
+use Rattle.rulebook.proofs.KindLaws.{number-back}
 use Rattle.rulebook.proofs.AcceptedLaws.{Proven, one, two, accepted-single, accepted-proof}
 use Rattle.promises.specs.Panels.{besideIt, shown, elseThen, wholeThen, nothingAfter, certificateChecked, firstThen, secondChecked, proofChecked, toldOf, CertificateCheckShown, ProofCheckShown}
 
--- A kind that is one of the five has the number that it was read from.
-kind-told : (n : ℕ) → isOtherKind (certificateKind n) ≡ false → certificateNumber (certificateKind n) ≡ n
-unfolding certificateKind choose isOtherKind certificateNumber
-kind-told n h =
-    by-test (eqb n 1) (λ e. rw (eqb-true n 1 e))
-    (λ a. by-test (eqb n 2) (λ e. rw (eqb-true n 2 e))
-    (λ b. by-test (eqb n 3) (λ e. rw (eqb-true n 3 e))
-    (λ c. by-test (eqb n 4) (λ e. rw (eqb-true n 4 e))
-    (λ d. by-test (eqb n 5) (λ e. rw (eqb-true n 5 e))
-    (λ f. let g : _≡_ {A = Bool} true false = rw (a, b, c, d, f) at h in let z : _≡_ {A = ℕ} 0 1 = cc in absurd (omega arith))))))
-
-kind-fine : (stakes : List ℕ) (c : Certificate) → judge stakes c ≡ Fine → certificateNumber (certificateKind (c .kind)) ≡ c .kind
+-- A kind that passes has the number that it was read from.
+kind-fine : (stakes : List ℕ) (c : Certificate) → judge stakes c ≡ Fine → numberIn (length stakes) (kindIn (length stakes) (c .kind)) ≡ c .kind
 unfolding judge judgeKind
-kind-fine stakes c e = kind-told (c .kind) (refuse-fine _ _ _ e .0)
+kind-fine stakes c e = number-back (length stakes) (c .kind) (refuse-fine _ _ _ e .0)
 
 -- An accepted check tells what stands in the certificate at the packet's front.
 accepted-shown : (stakes packet : List ℕ) (c : Certificate) (next : ℕ) (a : Accepted) → certificateAt packet 0 ≡ found.Whole c next → judge stakes c ≡ Fine
-    → acceptedOf stakes c ≡ a → checkPanel (check.Accepted a) ≡ shown Fine (toldOf stakes (certificateAt packet 0))
-unfolding checkPanel shown besideIt verdictNumber toldOf acceptedOf
+    → acceptedOf stakes c ≡ a → checkPanel (length stakes) (check.Accepted a) ≡ shown Fine (toldOf stakes (certificateAt packet 0))
+unfolding checkNumber checkValues shown besideIt verdictNumber toldOf acceptedOf
 accepted-shown stakes packet c next a r j e =
-    ap (λ (x : Accepted). checkPanel (check.Accepted x)) (sym e)
+    ap (λ (x : Accepted). checkPanel (length stakes) (check.Accepted x)) (sym e)
     ∙ (λ i. record { number = 0; values = kind-fine stakes c j i ∷ acceptedOf stakes c .slot .0 ∷ acceptedOf stakes c .block ∷ acceptedOf stakes c .signers ∷ acceptedOf stakes c .weight .0 ∷ [] })
     ∙ ap (λ (x : Found). shown Fine (toldOf stakes x)) (sym r)
 
@@ -60,17 +49,17 @@ told-five stakes found.Early = refl
 told-five stakes found.Malformed = refl
 
 -- Five zeros beside a refusal.
-refusal-shown : (stakes : List ℕ) (x : Found) (r : Refusal) → checkPanel (check.Refused r) ≡ shown (Refused r) (toldOf stakes x)
-unfolding checkPanel shown besideIt verdictNumber
+refusal-shown : (stakes : List ℕ) (x : Found) (r : Refusal) → checkPanel (length stakes) (check.Refused r) ≡ shown (Refused r) (toldOf stakes x)
+unfolding checkNumber checkValues shown besideIt verdictNumber
 refusal-shown stakes x r = ap (λ (n : ℕ). record { number = refusalNumber r; values = replicate n 0 }) (sym (told-five stakes x))
 
 -- What either checker says of a packet whose front cannot be read.
 unread : (stakes : List ℕ) (x : Found) (read : One → CheckAnswer) → ((r : Refusal) → read (bad r) ≡ check.Refused r) → ¬ (foundPanel x .number ≡ 0)
-    → checkPanel (read (oneOf stakes x)) .number ≡ foundPanel x .number
-unfolding foundPanel oneOf checkPanel refusalNumber
+    → checkNumber (read (oneOf stakes x)) ≡ foundPanel x .number
+unfolding foundPanel oneOf checkNumber checkValues refusalNumber
 unread stakes (found.Whole c next) read f ne = absurd (ne refl)
-unread stakes found.Early read f ne = ap (λ (a : CheckAnswer). checkPanel a .number) (f refusal.BadLength)
-unread stakes found.Malformed read f ne = ap (λ (a : CheckAnswer). checkPanel a .number) (f refusal.BadNumber)
+unread stakes found.Early read f ne = ap checkNumber (f refusal.BadLength)
+unread stakes found.Malformed read f ne = ap checkNumber (f refusal.BadNumber)
 
 -- Whether a check refused, and with what.
 checkVerdict : CheckAnswer → Verdict
@@ -125,8 +114,8 @@ second-judged stakes packet c n =
     whole-judged stakes (certificateAt packet n) (secondOf stakes packet c) (λ r. refl)
     ∙ whole-same stakes (certificateAt packet n) _ _
     (λ d m.
-    tested (eqb (d .kind) 5 && eqb (d .slot) (c .slot)) refusal.NotAProof (λ _. ended stakes packet c m)
-    ∙ ap (refuseIf (not (eqb (d .kind) 5 && eqb (d .slot) (c .slot))) refusal.NotAProof) (ended-judged stakes packet c m))
+    tested (eqb (d .kind) (numberIn (length stakes) certificate.Final) && eqb (d .slot) (c .slot)) refusal.NotAProof (λ _. ended stakes packet c m)
+    ∙ ap (refuseIf (not (eqb (d .kind) (numberIn (length stakes) certificate.Final) && eqb (d .slot) (c .slot))) refusal.NotAProof) (ended-judged stakes packet c m))
 
 first-judged : (stakes packet : List ℕ) (k : CertificateKind) (c : Certificate) (n : ℕ)
     → checkVerdict (firstIn stakes packet k c n) ≡ firstThen k (nothingAfter packet n) (secondChecked stakes packet c n)
@@ -144,10 +133,10 @@ proof-judged stakes packet =
     tested (stakesFit stakes (length stakes)) refusal.BadSizes (λ _. proofOf stakes packet (oneAt stakes packet 0))
     ∙ ap (refuseIf (not (stakesFit stakes (length stakes))) refusal.BadSizes)
     (whole-judged stakes (certificateAt packet 0) (proofOf stakes packet) (λ r. refl)
-    ∙ whole-same stakes (certificateAt packet 0) _ _ (λ c n. first-judged stakes packet (certificateKind (c .kind)) c n))
+    ∙ whole-same stakes (certificateAt packet 0) _ _ (λ c n. first-judged stakes packet (kindIn (length stakes) (c .kind)) c n))
 
 certificate-panel : (stakes packet : List ℕ) (a : CheckAnswer) → checkCertificate stakes packet ≡ a
-    → checkPanel a ≡ shown (checkVerdict a) (toldOf stakes (certificateAt packet 0))
+    → checkPanel (length stakes) a ≡ shown (checkVerdict a) (toldOf stakes (certificateAt packet 0))
 unfolding checkVerdict
 certificate-panel stakes packet (check.Accepted x) e =
     let p = accepted-single stakes packet x e in accepted-shown stakes packet (p .first) (length packet) x (p .read) (p .fine) (p .answer)
@@ -161,16 +150,16 @@ certificate-check-shown stakes packet a e =
           certificate-panel stakes packet a (sym e)
           ∙ ap (λ (v : Verdict). shown v (toldOf stakes (certificateAt packet 0))) (ap checkVerdict e ∙ certificate-judged stakes packet);
       unread = λ f ne.
-          ap (λ (x : CheckAnswer). checkPanel x .number) (e ∙ given-on _ _ _ f)
+          ap checkNumber (e ∙ given-on _ _ _ f)
           ∙ unread stakes (certificateAt packet 0) (singleOf stakes packet) (λ r. refl) ne;
     }
 
-proven-shown : (stakes packet : List ℕ) (x : Accepted) → Proven stakes packet x → checkPanel (check.Accepted x) ≡ shown Fine (toldOf stakes (certificateAt packet 0))
+proven-shown : (stakes packet : List ℕ) (x : Accepted) → Proven stakes packet x → checkPanel (length stakes) (check.Accepted x) ≡ shown Fine (toldOf stakes (certificateAt packet 0))
 proven-shown stakes packet x (one c e j k q) = accepted-shown stakes packet c (length packet) x e j q
 proven-shown stakes packet x (two c d n e j k f i l t q) = accepted-shown stakes packet c n x e j q
 
 proof-panel : (stakes packet : List ℕ) (a : CheckAnswer) → checkProof stakes packet ≡ a
-    → checkPanel a ≡ shown (checkVerdict a) (toldOf stakes (certificateAt packet 0))
+    → checkPanel (length stakes) a ≡ shown (checkVerdict a) (toldOf stakes (certificateAt packet 0))
 unfolding checkVerdict
 proof-panel stakes packet (check.Accepted x) e = proven-shown stakes packet x (accepted-proof stakes packet x e)
 proof-panel stakes packet (check.Refused r) e = refusal-shown stakes (certificateAt packet 0) r
@@ -183,6 +172,6 @@ proof-check-shown stakes packet a e =
           proof-panel stakes packet a (sym e)
           ∙ ap (λ (v : Verdict). shown v (toldOf stakes (certificateAt packet 0))) (ap checkVerdict e ∙ proof-judged stakes packet);
       unread = λ f ne.
-          ap (λ (x : CheckAnswer). checkPanel x .number) (e ∙ given-on _ _ _ f)
+          ap checkNumber (e ∙ given-on _ _ _ f)
           ∙ unread stakes (certificateAt packet 0) (proofOf stakes packet) (λ r. refl) ne;
     }

@@ -13,15 +13,15 @@ use Rattle.rulebook.specs.Ledger.{none}
 use Rattle.rulebook.specs.Pool.{held}
 use Rattle.rulebook.specs.Rules.{isFinal}
 use Rattle.rulebook.specs.Checker.{isOtherKind, blockMisfits}
-use Rattle.rulebook.specs.Writers.{Writes}
+use Rattle.rulebook.specs.Writers.{certificateRoom, proofRoom, Writes}
 use Rattle.record.specs.Layout.{ledgerOf}
 use Rattle.soundness.specs.Sound.{soundWords}
-use Rattle.writers.specs.Writing.{certificateOn, proofOn}
+use Rattle.writers.specs.Writing.{kindOn, certificateOn, proofOn}
 
 -- None of 17, 9, 4, 3, 5 is due to the question for a certificate.
 pub record CertificateAsked (ws buffer : List ℕ) (k : CertificateKind) (s b : ℕ) : Type 0 where
   pub sound : soundWords ws ≡ true
-  pub room : 32 ≤ length buffer
+  pub room : certificateRoom (ledgerOf ws .count) ≤ length buffer
   pub kind : isOtherKind k ≡ false
   pub slot : slotOk s ≡ true
   pub block : blockMisfits k b ≡ false
@@ -29,7 +29,7 @@ pub record CertificateAsked (ws buffer : List ℕ) (k : CertificateKind) (s b : 
 -- None of 17, 9, 3, 5 is due to the question for a proof.
 pub record ProofAsked (ws buffer : List ℕ) (s b : ℕ) : Type 0 where
   pub sound : soundWords ws ≡ true
-  pub room : 64 ≤ length buffer
+  pub room : proofRoom (ledgerOf ws .count) ≤ length buffer
   pub slot : slotOk s ≡ true
   pub block : none b ≡ false
 
@@ -41,12 +41,12 @@ pub record WrittenExactly (fits : Type 0) (there : Bool) (answer : WriteAnswer) 
   pub missing : fits → there ≡ false → answer ≡ write.Refused refusal.NotHeld
   pub onlyMissing : answer ≡ write.Refused refusal.NotHeld → fits × (there ≡ false)
 
--- A certificate of a kind, slot and block: held by the ledger that the words mean.
+-- A certificate of a kind, by its number in the table, and of a slot and block: held by the ledger that the words mean.
 abbrev pub CertificateExactly : Type 0
 CertificateExactly =
-    (ws buffer : List ℕ) (k : CertificateKind) (s b : ℕ) (answer : WriteAnswer) (after : List ℕ)
-    → Writes (certificateOn ws (length buffer) k s b) buffer answer after
-    → WrittenExactly (CertificateAsked ws buffer k s b) (held (ledgerOf ws) k s b) answer
+    (ws buffer : List ℕ) (kind s b : ℕ) (answer : WriteAnswer) (after : List ℕ)
+    → Writes (certificateOn ws (length buffer) kind s b) buffer answer after
+    → WrittenExactly (CertificateAsked ws buffer (kindOn ws kind) s b) (held (ledgerOf ws) (kindOn ws kind) s b) answer
 
 -- A proof of a slot and block: kind 1 is held, or kinds 2 and 5.
 abbrev pub ProofExactly : Type 0

@@ -12,7 +12,7 @@ use Rattle.rulebook.specs.Certificates as found
 use Rattle.rulebook.specs.declared.Verdict.the-variants.{Fine}
 use Rattle.rulebook.specs.Tools.{choose}
 use Rattle.rulebook.specs.Weights.{totalTo, slotOk}
-use Rattle.rulebook.specs.PaperNumbers.{certificateKind, verdictNumber, checkPanel, checkMissing}
+use Rattle.rulebook.specs.PaperNumbers.{kindIn, verdictNumber, checkNumber, checkMissing}
 use Rattle.rulebook.specs.Ledger.{Ledger}
 use Rattle.rulebook.specs.Pool.{weigh, signersOf, fifthsOf, held, missingTo}
 use Rattle.rulebook.specs.Packets.{certificateAt}
@@ -47,7 +47,7 @@ firstFailed stakes k c =
 -- "No certificate is .. refused that was not before".
 abbrev pub JudgedAsBefore : Type 0
 JudgedAsBefore =
-    (stakes : List ℕ) (c : Certificate) → verdictNumber (judge stakes c) ≡ firstFailed stakes (certificateKind (c .kind)) c
+    (stakes : List ℕ) (c : Certificate) → verdictNumber (judge stakes c) ≡ firstFailed stakes (kindIn (length stakes) (c .kind)) c
 
 -- The certificates of a packet that a check comes to: the first, and of a proof the second where the first is fine.
 pub data FirstOf (packet : List ℕ) (c : Certificate) : Type 0 where
@@ -61,7 +61,7 @@ pub data OneOf (stakes packet : List ℕ) (c : Certificate) : Type 0 where
 -- A certificate's weight is below its kind's threshold, and x is what is missing.
 pub record ShortBy (stakes : List ℕ) (c : Certificate) (x : ℕ) : Type 0 where
   pub some : 1 ≤ x
-  pub least : Least (fifthsOf (certificateKind (c .kind))) (totalTo stakes (length stakes)) (signedWeight stakes c) x
+  pub least : Least (fifthsOf (kindIn (length stakes) (c .kind))) (totalTo stakes (length stakes)) (signedWeight stakes c) x
 
 -- "Certificate checks give that figure beside refusal 15; with every other refusal it is 0", and with an acceptance; "for a proof it is that of
 -- the certificate that is too light".
@@ -73,20 +73,20 @@ pub record FigureTold (stakes : List ℕ) (Judged : Certificate → Type 0) (num
 abbrev pub CertificateFigure : Type 0
 CertificateFigure =
     (stakes packet : List ℕ) (a : CheckAnswer) → a ≡ checkCertificate stakes packet
-    → FigureTold stakes (FirstOf packet) (checkPanel a .number) (checkMissing a)
+    → FigureTold stakes (FirstOf packet) (checkNumber a) (checkMissing a)
 
 abbrev pub ProofFigure : Type 0
 ProofFigure =
     (stakes packet : List ℕ) (a : CheckAnswer) → a ≡ checkProof stakes packet
-    → FigureTold stakes (OneOf stakes packet) (checkPanel a .number) (checkMissing a)
+    → FigureTold stakes (OneOf stakes packet) (checkNumber a) (checkMissing a)
 
 -- qr_check_certificate, qr_check_proof.
 abbrev pub FaceCertificateFigure : Type 0
 FaceCertificateFigure =
-    (stakes packet : List ℕ) (number : ℕ) (values : List ℕ) (missing : ℕ) → Checked (checkCertificate stakes packet) number values missing
+    (stakes packet : List ℕ) (number : ℕ) (values : List ℕ) (missing : ℕ) → Checked (length stakes) (checkCertificate stakes packet) number values missing
     → FigureTold stakes (FirstOf packet) number missing
 
 abbrev pub FaceProofFigure : Type 0
 FaceProofFigure =
-    (stakes packet : List ℕ) (number : ℕ) (values : List ℕ) (missing : ℕ) → Checked (checkProof stakes packet) number values missing
+    (stakes packet : List ℕ) (number : ℕ) (values : List ℕ) (missing : ℕ) → Checked (length stakes) (checkProof stakes packet) number values missing
     → FigureTold stakes (OneOf stakes packet) number missing

@@ -5,3 +5,4 @@ pub mod Exactly
 pub mod Spelling
 pub mod Figures
 pub mod Printed
+pub mod Families

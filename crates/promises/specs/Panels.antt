@@ -20,7 +20,7 @@ use Rattle.rulebook.specs.declared.Verdict.{Verdict}
 use Rattle.rulebook.specs.declared.Verdict.the-variants.{Fine, Refused}
 use Rattle.rulebook.specs.declared.Vote.{Vote}
 use Rattle.rulebook.specs.declared.WriteAnswer.{WriteAnswer}
-use Rattle.rulebook.specs.PaperNumbers.{Panel, certificateKind, verdictNumber, placeNumber, foundPanel, startPanel, stepPanel, writePanel, checkPanel}
+use Rattle.rulebook.specs.PaperNumbers.{Panel, kindIn, numberIn, verdictNumber, placeNumber, foundPanel, startPanel, stepPanel, writePanel, checkNumber, checkPanel}
 use Rattle.rulebook.specs.Weights.{slotOk, stakesFit}
 use Rattle.rulebook.specs.Ledger.{cellAt}
 use Rattle.rulebook.specs.Votes.{placeOf}
@@ -35,7 +35,7 @@ use Rattle.soundness.specs.Starting.{startJudged, StartOf}
 use Rattle.node.specs.Stepping.{StepOf}
 use Rattle.trays.specs.Trays.{votesIn, wholeVotes, serve}
 use Rattle.trays.specs.Lent.{TrayOf}
-use Rattle.writers.specs.Writing.{certificateOn, proofOn}
+use Rattle.writers.specs.Writing.{kindOn, certificateOn, proofOn}
 
 -- "Every refusal answers zeros beside its number".
 unfoldable pub besideIt : Verdict → List ℕ → List ℕ
@@ -99,10 +99,11 @@ PlaceShown =
 -- "Writers: 17, 9, 4, 3, 5, 18": a writer answers the number of its bytes.
 abbrev pub CertificateShown : Type 0
 CertificateShown =
-    (ws buffer : List ℕ) (k : CertificateKind) (s b : ℕ) (a : WriteAnswer) (after : List ℕ)
-    → Writes (certificateOn ws (length buffer) k s b) buffer a after
+    (ws buffer : List ℕ) (kind s b : ℕ) (a : WriteAnswer) (after : List ℕ)
+    → Writes (certificateOn ws (length buffer) kind s b) buffer a after
     → writePanel a
-    ≡ shown (soundFirst ws (certificateVerdict (ledgerOf ws) (length buffer) k s b)) (length (certificateBytes (certificateFor (ledgerOf ws) k s b)) ∷ [])
+    ≡ shown (soundFirst ws (certificateVerdict (ledgerOf ws) (length buffer) (kindOn ws kind) s b))
+    (length (certificateBytes (certificateFor (ledgerOf ws) (kindOn ws kind) s b)) ∷ [])
 
 abbrev pub ProofShown : Type 0
 ProofShown =
@@ -143,14 +144,14 @@ firstThen certificate.Other v w = Refused refusal.NotAProof
 unfoldable pub secondChecked : List ℕ → List ℕ → Certificate → ℕ → Verdict
 secondChecked stakes packet c next =
     wholeThen stakes (certificateAt packet next)
-    (λ d end. refuseIf (not (eqb (d .kind) 5 && eqb (d .slot) (c .slot))) refusal.NotAProof (nothingAfter packet end))
+    (λ d end. refuseIf (not (eqb (d .kind) (numberIn (length stakes) certificate.Final) && eqb (d .slot) (c .slot))) refusal.NotAProof (nothingAfter packet end))
 
 -- "Proof: first certificate whole; ..".
 unfoldable pub proofChecked : List ℕ → List ℕ → Verdict
 proofChecked stakes packet =
     refuseIf (not (stakesFit stakes (length stakes))) refusal.BadSizes
     (wholeThen stakes (certificateAt packet 0)
-    (λ c next. firstThen (certificateKind (c .kind)) (nothingAfter packet next) (secondChecked stakes packet c next)))
+    (λ c next. firstThen (kindIn (length stakes) (c .kind)) (nothingAfter packet next) (secondChecked stakes packet c next)))
 
 -- "kind, slot, block, signer count and weight", as they stand in the certificate that was read and as its masks have them.
 unfoldable pub toldOf : List ℕ → Found → List ℕ
@@ -161,9 +162,9 @@ toldOf stakes found.Malformed = replicate 5 0
 -- "An accepted check answers kind, slot, block, signer count and weight (for a proof: those of its first certificate). A refusal gives
 -- zeros there"; where the first certificate cannot be read, the number is that of reading it, 12 or 13.
 pub record ChecksAs (stakes packet : List ℕ) (v : Verdict) (a : CheckAnswer) : Type 0 where
-  pub panel : checkPanel a ≡ shown v (toldOf stakes (certificateAt packet 0))
+  pub panel : checkPanel (length stakes) a ≡ shown v (toldOf stakes (certificateAt packet 0))
   pub unread : stakesFit stakes (length stakes) ≡ true → ¬ (foundPanel (certificateAt packet 0) .number ≡ 0)
-      → checkPanel a .number ≡ foundPanel (certificateAt packet 0) .number
+      → checkNumber a ≡ foundPanel (certificateAt packet 0) .number
 
 abbrev pub CertificateCheckShown : Type 0
 CertificateCheckShown =

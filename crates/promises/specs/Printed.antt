@@ -55,5 +55,5 @@ MessagePrinted =
 -- check and checkproof.
 abbrev pub CheckPrinted : Type 0
 CheckPrinted =
-    (answer : CheckAnswer) (number : ℕ) (values : List ℕ) (missing : ℕ) → Checked answer number values missing
-    → Sends (checkLine (record { number = number; values = values }) missing) (checkLine (checkPanel answer) (checkMissing answer))
+    (count : ℕ) (answer : CheckAnswer) (number : ℕ) (values : List ℕ) (missing : ℕ) → Checked count answer number values missing
+    → Sends (checkLine (record { number = number; values = values }) missing) (checkLine (checkPanel count answer) (checkMissing answer))

@@ -5,7 +5,6 @@ use mathlib.Core.Path.{_≡_}
 use mathlib.Core.List.{List, [], _∷_}
 use Prim.Native.Nat.{ℕ}
 use lib.ListN.{length}
-use Rattle.rulebook.specs.declared.CertificateKind.{CertificateKind}
 use Rattle.rulebook.specs.declared.CheckAnswer.{CheckAnswer}
 use Rattle.rulebook.specs.declared.Input.{Input}
 use Rattle.rulebook.specs.declared.Refusal.{Refusal}
@@ -42,8 +41,8 @@ TrayRefused =
 -- A refused certificate leaves the buffer as found.
 abbrev pub CertificateRefused : Type 0
 CertificateRefused =
-    (ws buffer : List ℕ) (k : CertificateKind) (s b : ℕ) (r : Refusal) (after : List ℕ)
-    → Writes (certificateOn ws (length buffer) k s b) buffer (write.Refused r) after → after ≡ buffer
+    (ws buffer : List ℕ) (kind s b : ℕ) (r : Refusal) (after : List ℕ)
+    → Writes (certificateOn ws (length buffer) kind s b) buffer (write.Refused r) after → after ≡ buffer
 
 -- A refused proof likewise.
 abbrev pub ProofRefused : Type 0
@@ -79,8 +78,8 @@ FaceTrayRefused =
 -- qr_write_certificate: 0 bytes written.
 abbrev pub FaceCertificateRefused : Type 0
 FaceCertificateRefused =
-    (ws buffer : List ℕ) (k : CertificateKind) (s b number written : ℕ) (after : List ℕ)
-    → Wrote (certificateOn ws (length buffer) k s b) buffer number written after → ¬ (number ≡ 0) → (written ≡ 0) × (after ≡ buffer)
+    (ws buffer : List ℕ) (kind s b number written : ℕ) (after : List ℕ)
+    → Wrote (certificateOn ws (length buffer) kind s b) buffer number written after → ¬ (number ≡ 0) → (written ≡ 0) × (after ≡ buffer)
 
 -- qr_write_proof: 0 bytes written.
 abbrev pub FaceProofRefused : Type 0
@@ -97,5 +96,5 @@ FaceMessageRefused =
 -- qr_check_certificate, qr_check_proof: five zeros.
 abbrev pub FaceCheckRefused : Type 0
 FaceCheckRefused =
-    (answer : CheckAnswer) (number : ℕ) (values : List ℕ) (missing : ℕ) → Checked answer number values missing → ¬ (number ≡ 0)
+    (count : ℕ) (answer : CheckAnswer) (number : ℕ) (values : List ℕ) (missing : ℕ) → Checked count answer number values missing → ¬ (number ≡ 0)
     → values ≡ 0 ∷ 0 ∷ 0 ∷ 0 ∷ 0 ∷ []

@@ -3,7 +3,6 @@
 ghost use mathlib.Core.Path.{_≡_};
 ghost use lib.ListN.{length};
 ghost use Rattle.rulebook.specs.Weights.{placesFor};
-ghost use Rattle.rulebook.specs.PaperNumbers.{certificateKind};
 ghost use Rattle.rulebook.specs.Checker.{checkCertificate, checkProof};
 ghost use Rattle.rulebook.specs.Messages.{voteOf, readVote, writeVote};
 ghost use Rattle.rulebook.specs.WellFormed.{outboxWords};
@@ -27,7 +26,6 @@ use inputs::block_input;
 use inputs::timeout_input;
 use inputs::vote_input;
 use inputs::vote_of;
-use kinds::kind_of;
 use messages::read_vote;
 use messages::write_vote;
 use node::step;
@@ -141,7 +139,7 @@ pub extern "C" fn qr_tray(
     step_number(a)
 }
 
-// Writes a certificate of a kind for a slot and a block to the buffer's front.
+// Writes a certificate of a kind, by its number in the record's table, for a slot and a block to the buffer's front.
 #[no_mangle]
 pub extern "C" fn qr_write_certificate(
     rec: &[u64],
@@ -151,9 +149,9 @@ pub extern "C" fn qr_write_certificate(
     slot: usize,
     block: u64,
 ) -> u64
-    ensures { λ r. ⌜ Wrote (certificateOn (now (rec .entry)) (length (now (buffer .entry))) (certificateKind kind) slot block) (now (buffer .entry)) r (now (written .exit)) (now (buffer .exit)) ⌝ }
+    ensures { λ r. ⌜ Wrote (certificateOn (now (rec .entry)) (length (now (buffer .entry))) kind slot block) (now (buffer .entry)) r (now (written .exit)) (now (buffer .exit)) ⌝ }
 {
-    let a = write_certificate(rec, buffer, kind_of(kind), Slot(slot), block);
+    let a = write_certificate(rec, buffer, kind, Slot(slot), block);
     *written = bytes_written(a);
     write_number(a)
 }
@@ -182,10 +180,10 @@ pub extern "C" fn qr_check_certificate(
     values: &mut [u64; 5],
     missing: &mut u64,
 ) -> u64
-    ensures { λ r. ⌜ Checked (checkCertificate (now (stakes .entry)) (now (packet .entry))) r (now (values .exit)) (now (missing .exit)) ⌝ }
+    ensures { λ r. ⌜ Checked (length (now (stakes .entry))) (checkCertificate (now (stakes .entry)) (now (packet .entry))) r (now (values .exit)) (now (missing .exit)) ⌝ }
 {
     let a = check_certificate(stakes, packet);
-    *values = check_values(a);
+    *values = check_values(stakes.len(), a);
     let short = check_missing(a);
     *missing = short.0;
     check_number(a)
@@ -199,10 +197,10 @@ pub extern "C" fn qr_check_proof(
     values: &mut [u64; 5],
     missing: &mut u64,
 ) -> u64
-    ensures { λ r. ⌜ Checked (checkProof (now (stakes .entry)) (now (packet .entry))) r (now (values .exit)) (now (missing .exit)) ⌝ }
+    ensures { λ r. ⌜ Checked (length (now (stakes .entry))) (checkProof (now (stakes .entry)) (now (packet .entry))) r (now (values .exit)) (now (missing .exit)) ⌝ }
 {
     let a = check_proof(stakes, packet);
-    *values = check_values(a);
+    *values = check_values(stakes.len(), a);
     let short = check_missing(a);
     *missing = short.0;
     check_number(a)

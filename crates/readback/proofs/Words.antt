@@ -23,7 +23,7 @@ use Rattle.rulebook.proofs.ToolLaws.{given-on, by-test}
 use Rattle.record.specs.Layout.{ledgerOf}
 use Rattle.soundness.specs.Sound.{soundWords}
 use Rattle.soundness.proofs.Laws.{sound-formed}
-use Rattle.writers.specs.Writing.{unsound, certificateOn, proofOn}
+use Rattle.writers.specs.Writing.{unsound, kindOn, certificateOn, proofOn}
 use Rattle.writers.proofs.Laid.{certificate-unsound, proof-unsound}
 use Rattle.packets.specs.Promises.{acceptedFor, proofKind}
 use Rattle.packets.proofs.Back.{certificate-back as packet-back, proof-back as packets-back}
@@ -72,45 +72,48 @@ accepted-back {wrote} told n w e g =
 
 -- ---- certificates
 
-module _ (ws : List ℕ) (room : ℕ) (k : CertificateKind) (s b n : ℕ) (e : certificateOn ws room k s b .answer ≡ write.Written n) where
+module _ (ws : List ℕ) (room kind s b n : ℕ) (e : certificateOn ws room kind s b .answer ≡ write.Written n) where
+  abbrev k : CertificateKind
+  k = kindOn ws kind
+
   pub certificate-sound : soundWords ws ≡ true
   certificate-sound =
-      by-test (soundWords ws) (λ t. t) (λ t. not-unsound (certificateOn ws room k s b) n (certificate-unsound ws room k s b t) e)
+      by-test (soundWords ws) (λ t. t) (λ t. not-unsound (certificateOn ws room kind s b) n (certificate-unsound ws room kind s b t) e)
 
-  on-is : certificateOn ws room k s b ≡ writeCertificate (ledgerOf ws) room k s b
+  on-is : certificateOn ws room kind s b ≡ writeCertificate (ledgerOf ws) room k s b
   unfolding certificateOn
   on-is = given-on (soundWords ws) unsound (λ _. writeCertificate (ledgerOf ws) room k s b) certificate-sound
 
   answer-is : writeCertificate (ledgerOf ws) room k s b .answer ≡ write.Written n
   answer-is = ap (λ (w : Wrote). w .answer) (sym on-is) ∙ e
 
-  pub certificate-length : n ≡ length (certificateOn ws room k s b .bytes)
+  pub certificate-length : n ≡ length (certificateOn ws room kind s b .bytes)
   unfolding writeCertificate
   certificate-length =
       wrote-length (certificateVerdict (ledgerOf ws) room k s b) (certificateBytes (certificateFor (ledgerOf ws) k s b)) n answer-is
       ∙ ap (λ (w : Wrote). length (w .bytes)) (sym on-is)
 
   pub certificate-accepted : b < 2 ^ 64
-      → checkCertificate (take (ledgerOf ws .count) (ledgerOf ws .stakes)) (certificateOn ws room k s b .bytes) ≡ check.Accepted (acceptedFor (ledgerOf ws) k s b)
+      → checkCertificate (take (ledgerOf ws .count) (ledgerOf ws .stakes)) (certificateOn ws room kind s b .bytes) ≡ check.Accepted (acceptedFor (ledgerOf ws) k s b)
   certificate-accepted h =
       ap (λ (w : Wrote). checkCertificate (take (ledgerOf ws .count) (ledgerOf ws .stakes)) (w .bytes)) on-is
       ∙ packet-back (ledgerOf ws) (take (ledgerOf ws .count) (ledgerOf ws .stakes))
       (table-of-record (ledgerOf ws) (sound-formed ws certificate-sound)) room k s b n h answer-is .1
 
 -- It ends inside the buffer.
-pub certificate-inside : (ws buffer : List ℕ) (k : CertificateKind) (s b n : ℕ) {after : List ℕ} {a : WriteAnswer}
-    → Writes (certificateOn ws (length buffer) k s b) buffer a after → a ≡ write.Written n → n ≤ length after
-certificate-inside ws buffer k s b n {after} w e =
-    packet-inside (certificateOn ws (length buffer) k s b .bytes) buffer after n (w .bytes) (certificate-length ws (length buffer) k s b n (sym (w .answered) ∙ e))
+pub certificate-inside : (ws buffer : List ℕ) (kind s b n : ℕ) {after : List ℕ} {a : WriteAnswer}
+    → Writes (certificateOn ws (length buffer) kind s b) buffer a after → a ≡ write.Written n → n ≤ length after
+certificate-inside ws buffer kind s b n {after} w e =
+    packet-inside (certificateOn ws (length buffer) kind s b .bytes) buffer after n (w .bytes) (certificate-length ws (length buffer) kind s b n (sym (w .answered) ∙ e))
 
 -- What was written is read back.
-pub certificate-back : (ws buffer : List ℕ) (k : CertificateKind) (s b n : ℕ) {after stakes packet : List ℕ} {a : WriteAnswer} {r : CheckAnswer} → b < 2 ^ 64
-    → Writes (certificateOn ws (length buffer) k s b) buffer a after → a ≡ write.Written n → stakes ≡ take (ledgerOf ws .count) (ledgerOf ws .stakes) → packet ≡ take (n - 0) after
-    → r ≡ checkCertificate stakes packet → ReadsBack (certificateOn ws (length buffer) k s b) (acceptedFor (ledgerOf ws) k s b) buffer r after
-certificate-back ws buffer k s b n {after} h w e st pk g =
+pub certificate-back : (ws buffer : List ℕ) (kind s b n : ℕ) {after stakes packet : List ℕ} {a : WriteAnswer} {r : CheckAnswer} → b < 2 ^ 64
+    → Writes (certificateOn ws (length buffer) kind s b) buffer a after → a ≡ write.Written n → stakes ≡ take (ledgerOf ws .count) (ledgerOf ws .stakes) → packet ≡ take (n - 0) after
+    → r ≡ checkCertificate stakes packet → ReadsBack (certificateOn ws (length buffer) kind s b) (acceptedFor (ledgerOf ws) (kindOn ws kind) s b) buffer r after
+certificate-back ws buffer kind s b n {after} h w e st pk g =
     let f = sym (w .answered) ∙ e in
-    let p = pk ∙ packet-is (certificateOn ws (length buffer) k s b .bytes) buffer after n (w .bytes) (certificate-length ws (length buffer) k s b n f) in
-    accepted-back (acceptedFor (ledgerOf ws) k s b) n w e (g ∙ (λ i. checkCertificate (st i) (p i)) ∙ certificate-accepted ws (length buffer) k s b n f h)
+    let p = pk ∙ packet-is (certificateOn ws (length buffer) kind s b .bytes) buffer after n (w .bytes) (certificate-length ws (length buffer) kind s b n f) in
+    accepted-back (acceptedFor (ledgerOf ws) (kindOn ws kind) s b) n w e (g ∙ (λ i. checkCertificate (st i) (p i)) ∙ certificate-accepted ws (length buffer) kind s b n f h)
 
 -- ---- proofs
 

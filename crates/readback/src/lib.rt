@@ -2,7 +2,6 @@
 use checker::check_certificate;
 use checker::check_proof;
 use record::stakes_of;
-use rulebook::CertificateKind;
 use rulebook::CheckAnswer;
 use rulebook::Slot;
 use rulebook::WriteAnswer;
@@ -10,19 +9,20 @@ use writers::write_certificate;
 use writers::write_proof;
 ghost use lib.ListN.{length};
 ghost use Rattle.record.specs.Layout.{ledgerOf};
-ghost use Rattle.writers.specs.Writing.{certificateOn, proofOn};
+ghost use Rattle.writers.specs.Writing.{kindOn, certificateOn, proofOn};
 ghost use Rattle.readback.specs.ReadBack.{ReadsBack};
 ghost use Rattle.packets.specs.Promises.{acceptedFor, proofKind};
 
-// Writes a certificate and has it checked: one that is written is accepted, with the stored signers and their weight.
+// Writes a certificate, asked for by its kind's number, and has it checked: one that is written is accepted, with the stored signers
+// and their weight.
 pub fn certificate_read_back(
     rec: &[u64],
     buffer: &mut [u8],
-    kind: CertificateKind,
+    kind: u64,
     slot: Slot,
     block: u64,
 ) -> CheckAnswer
-    ensures { λ r. ⌜ ReadsBack (certificateOn (now (rec .entry)) (length (now (buffer .entry))) kind (slot .0) block) (acceptedFor (ledgerOf (now (rec .entry))) kind (slot .0) block) (now (buffer .entry)) r (now (buffer .exit)) ⌝ }
+    ensures { λ r. ⌜ ReadsBack (certificateOn (now (rec .entry)) (length (now (buffer .entry))) kind (slot .0) block) (acceptedFor (ledgerOf (now (rec .entry))) (kindOn (now (rec .entry)) kind) (slot .0) block) (now (buffer .entry)) r (now (buffer .exit)) ⌝ }
 {
     let w = write_certificate(rec, buffer, kind, slot, block);
     match w {

@@ -6,7 +6,6 @@ use node::step;
 use page::end_line;
 use page::say;
 use page::tell;
-use rulebook::CertificateKind;
 use rulebook::Input;
 use rulebook::Node;
 use rulebook::Slot;
@@ -108,7 +107,7 @@ fn ask(rec: &mut [u64], other: &[u64]) {
     let mut first = [9u8; 32];
     let mut second = [9u8; 64];
     tell_step(step(rec, &mut outbox, Input::Look));
-    tell_write(write_certificate(rec, &mut first, CertificateKind::Notar, Slot(1), 7));
+    tell_write(write_certificate(rec, &mut first, 2, Slot(1), 7));
     tell_write(write_proof(rec, &mut second, Slot(1), 7));
     if equal(rec, other) & equal(&outbox, &lent) & untouched(&first) & untouched(&second) {
         say(b" as found\n");
@@ -236,9 +235,10 @@ fn lengths() {
 fn starts() {
     let mut none = [0u64; 93];
     let mut two = [0u64; 333];
-    let mut most = [0u64; 7773];
-    let mut beyond = [0u64; 7893];
-    let stakes = [1u64; 65];
+    let mut small = [0u64; 7773];
+    let mut large = [0u64; 7893];
+    let mut most = [0u64; 245853];
+    let stakes = [1u64; 2049];
     say(b"no stakes on no place");
     tell_start(start(&mut none, &stakes[..0], Node(0), 1));
     say(b"no stakes on two places");
@@ -250,11 +250,17 @@ fn starts() {
     say(b"three stakes on two places");
     tell_start(start(&mut two, &stakes[..3], Node(0), 1));
     say(b"64 stakes on 64 places");
-    tell_start(start(&mut most, &stakes[..64], Node(63), 1));
+    tell_start(start(&mut small, &stakes[..64], Node(63), 1));
     say(b"65 stakes on 64 places");
-    tell_start(start(&mut most, &stakes, Node(0), 1));
+    tell_start(start(&mut small, &stakes[..65], Node(0), 1));
     say(b"65 stakes on 65 places");
-    tell_start(start(&mut beyond, &stakes, Node(0), 1));
+    tell_start(start(&mut large, &stakes[..65], Node(64), 1));
+    say(b"2048 stakes on 2048 places");
+    tell_start(start(&mut most, &stakes[..2048], Node(2047), 1));
+    say(b"2047 stakes on 2048 places");
+    tell_start(start(&mut most, &stakes[..2047], Node(0), 1));
+    say(b"2049 stakes on 2048 places");
+    tell_start(start(&mut most, &stakes, Node(0), 1));
 }
 
 fn main() {

@@ -31,17 +31,18 @@ both count kind node slot block bytes n =
     equal (packed count 16 kind node slot block) (0 ∷ n ∷ bytes)
     && equal (unpacked count bytes) (0 ∷ kind ∷ node ∷ slot ∷ block ∷ [])
 
--- Kind, node, slot, block in this order; blocks at the ends of each length; 13 bytes at most.
+-- Kind, node, slot, block in this order; nodes and blocks at the ends of each length; 14 bytes at most.
 abbrev spelled : Bool
 spelled =
     all (both 4 1 3 2 7 (1 ∷ 3 ∷ 2 ∷ 7 ∷ []) 4 ∷ both 64 5 63 16 0 (5 ∷ 63 ∷ 16 ∷ 0 ∷ []) 4 ∷ both 1 3 0 1 0 (3 ∷ 0 ∷ 1 ∷ 0 ∷ []) 4
     ∷ both 1 2 0 16 127 (2 ∷ 0 ∷ 16 ∷ 127 ∷ []) 4 ∷ both 1 2 0 16 128 (2 ∷ 0 ∷ 16 ∷ 0x80 ∷ 1 ∷ []) 5
-    ∷ both 64 1 63 16 (2 ^ 64 - 1) (1 ∷ 63 ∷ 16 ∷ 0xFF ∷ 0xFF ∷ 0xFF ∷ 0xFF ∷ 0xFF ∷ 0xFF ∷ 0xFF ∷ 0xFF ∷ 0xFF ∷ 1 ∷ []) 13 ∷ [])
+    ∷ both 128 5 127 16 0 (5 ∷ 127 ∷ 16 ∷ 0 ∷ []) 4 ∷ both 129 5 128 16 0 (5 ∷ 0x80 ∷ 1 ∷ 16 ∷ 0 ∷ []) 5
+    ∷ both 2048 1 2047 16 (2 ^ 64 - 1) (1 ∷ 0xFF ∷ 15 ∷ 16 ∷ 0xFF ∷ 0xFF ∷ 0xFF ∷ 0xFF ∷ 0xFF ∷ 0xFF ∷ 0xFF ∷ 0xFF ∷ 0xFF ∷ 1 ∷ []) 14 ∷ [])
 
--- "one outside 1 to 64 is 1, tested first": before 12, and before 9.
+-- A count outside 1 to 2,048 "is 1, tested first": before 12, and before 9.
 abbrev counts : Bool
 counts =
-    all (reads 1 0 [] ∷ reads 1 65 [] ∷ reads 12 1 [] ∷ reads 12 64 [] ∷ writes 1 0 0 9 9 0 0 ∷ writes 1 65 0 9 9 0 0 ∷ [])
+    all (reads 1 0 [] ∷ reads 1 2049 [] ∷ reads 12 1 [] ∷ reads 12 65 [] ∷ reads 12 2048 [] ∷ writes 1 0 0 9 9 0 0 ∷ writes 1 2049 0 9 9 0 0 ∷ [])
 
 -- "12 and 13 as met over the four numbers": before 4 where the kind is none; a number that is not shortest before the end.
 abbrev met : Bool

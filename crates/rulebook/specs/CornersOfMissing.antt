@@ -7,7 +7,7 @@ use lib.Dec.{T}
 use Rattle.rulebook.specs.declared.CertificateKind.the-variants as certificate
 use Rattle.rulebook.specs.declared.CheckAnswer.{CheckAnswer}
 use Rattle.rulebook.specs.Weights.{missing}
-use Rattle.rulebook.specs.PaperNumbers.{checkPanel, checkMissing}
+use Rattle.rulebook.specs.PaperNumbers.{checkMissing, checkNumber}
 use Rattle.rulebook.specs.Pool.{missingTo}
 use Rattle.rulebook.specs.Checker.{checkCertificate, checkProof}
 use Rattle.rulebook.specs.Scripts.{votes, after, equal, equals, all}
@@ -30,7 +30,7 @@ uneven =
 
 -- A check's number, and the figure beside it.
 abbrev figure : CheckAnswer → List ℕ
-figure a = checkPanel a .number ∷ checkMissing a ∷ []
+figure a = checkNumber a ∷ checkMissing a ∷ []
 
 abbrev checks : List ℕ → List (List ℕ) → List (List ℕ)
 checks stakes [] = []

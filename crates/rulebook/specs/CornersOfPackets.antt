@@ -2,9 +2,9 @@
 use mathlib.Core.Bool.{Bool, true, false, _&&_}
 use mathlib.Core.List.{List, [], _∷_, _++_}
 use Prim.Native.Nat.{ℕ, _+_, _-_, _*_, _^_}
-use lib.ListN.{replicate}
+use lib.ListN.{length, replicate}
 use lib.Dec.{T}
-use Rattle.rulebook.specs.PaperNumbers.{readingPanel, checkPanel}
+use Rattle.rulebook.specs.PaperNumbers.{readingPanel, checkPanel, checkNumber}
 use Rattle.rulebook.specs.Packets.{numberBytes, numberFrom, maskAt, maskBytes, joined}
 use Rattle.rulebook.specs.Checker.{checkCertificate, checkProof}
 use Rattle.rulebook.specs.Scripts.{equal, all}
@@ -14,11 +14,11 @@ use Rattle.rulebook.specs.Computes.{rules}
 -- The checker's numbers for packets under one table.
 abbrev checks : List ℕ → List (List ℕ) → List ℕ
 checks stakes [] = []
-checks stakes (p ∷ ps) = checkPanel (checkCertificate stakes p) .number ∷ checks stakes ps
+checks stakes (p ∷ ps) = checkNumber (checkCertificate stakes p) ∷ checks stakes ps
 
 abbrev proofs : List ℕ → List (List ℕ) → List ℕ
 proofs stakes [] = []
-proofs stakes (p ∷ ps) = checkPanel (checkProof stakes p) .number ∷ proofs stakes ps
+proofs stakes (p ∷ ps) = checkNumber (checkProof stakes p) ∷ proofs stakes ps
 
 -- Three nodes of stakes 3, 1, 1: node 0 alone has 60 percent.
 abbrev three : List ℕ
@@ -62,9 +62,9 @@ proofOrder =
 -- Signers and weight are counted over both masks, each node once; of a proof they are its first certificate's.
 abbrev counted : Bool
 counted =
-    all (equal (shown (checkPanel (checkCertificate three (3 ∷ 2 ∷ 7 ∷ 1 ∷ 6 ∷ [])))) (0 ∷ 3 ∷ 2 ∷ 7 ∷ 3 ∷ 5 ∷ [])
-    ∷ equal (shown (checkPanel (checkCertificate three (2 ∷ 1 ∷ 7 ∷ 6 ∷ 0 ∷ [])))) (15 ∷ 0 ∷ 0 ∷ 0 ∷ 0 ∷ 0 ∷ [])
-    ∷ equal (shown (checkPanel (checkProof three (2 ∷ 1 ∷ 7 ∷ 3 ∷ 0 ∷ 5 ∷ 1 ∷ 0 ∷ 1 ∷ 0 ∷ [])))) (0 ∷ 2 ∷ 1 ∷ 7 ∷ 2 ∷ 4 ∷ []) ∷ [])
+    all (equal (shown (checkPanel 3 (checkCertificate three (3 ∷ 2 ∷ 7 ∷ 1 ∷ 6 ∷ [])))) (0 ∷ 3 ∷ 2 ∷ 7 ∷ 3 ∷ 5 ∷ [])
+    ∷ equal (shown (checkPanel 3 (checkCertificate three (2 ∷ 1 ∷ 7 ∷ 6 ∷ 0 ∷ [])))) (15 ∷ 0 ∷ 0 ∷ 0 ∷ 0 ∷ 0 ∷ [])
+    ∷ equal (shown (checkPanel 3 (checkProof three (2 ∷ 1 ∷ 7 ∷ 3 ∷ 0 ∷ 5 ∷ 1 ∷ 0 ∷ 1 ∷ 0 ∷ [])))) (0 ∷ 2 ∷ 1 ∷ 7 ∷ 2 ∷ 4 ∷ []) ∷ [])
 
 -- Ten bytes: 64 bits are the most; a tenth byte above 01 is 13 there and then, 00 there is not the shortest form.
 abbrev tenBytes : Bool

@@ -87,10 +87,10 @@ sized n p =
       rows = replicate (suc lastSlot) (blankRow p);
     })
 
--- A record one place too long or too short for its count; a count above the limit has no record.
+-- A record one place too long or too short for its count, on either side of 64.
 abbrev lengths : Bool
 lengths =
-    all (sized 1 1 ∷ not (sized 1 2) ∷ not (sized 2 1) ∷ sized 2 2 ∷ not (sized 1 64) ∷ sized 64 64 ∷ not (sized 64 65) ∷ not (sized 64 63) ∷ not (sized 65 64) ∷ not (sized 65 65) ∷ [])
+    all (sized 1 1 ∷ not (sized 1 2) ∷ not (sized 2 1) ∷ sized 2 2 ∷ not (sized 1 64) ∷ sized 64 64 ∷ not (sized 64 65) ∷ not (sized 64 63) ∷ not (sized 65 64) ∷ sized 65 65 ∷ not (sized 65 66) ∷ [])
 
 -- 17 before 9, 9 before all else; 383 words are too few, 384 are enough.
 abbrev stepOrder : Bool

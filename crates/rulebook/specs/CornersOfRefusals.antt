@@ -4,7 +4,7 @@ use mathlib.Core.List.{List, [], _∷_, _++_}
 use Prim.Native.Nat.{ℕ, _-_, _^_}
 use lib.ListN.{replicate}
 use lib.Dec.{T}
-use Rattle.rulebook.specs.PaperNumbers.{verdictNumber, writePanel, certificateKind}
+use Rattle.rulebook.specs.PaperNumbers.{verdictNumber, writePanel, kindIn}
 use Rattle.rulebook.specs.Ledger.{Ledger, noCell, putArmed, putTimedOut}
 use Rattle.rulebook.specs.Inputs.{startVerdict}
 use Rattle.rulebook.specs.Writers.{writeCertificate, writeProof, over}
@@ -48,10 +48,10 @@ timeoutOrder =
 abbrev noRuleRun : Bool
 noRuleRun = equals (answers (ring (8 ∷ 1 ∷ 1 ∷ []) []) (vote 9 1 1 0 ∷ timeout 1 ∷ look ∷ [])) ((4 ∷ []) ∷ (10 ∷ []) ∷ (0 ∷ 7 ∷ 1 ∷ 0 ∷ []) ∷ [])
 
--- 1: no node, more than 64, a stake of 0, a total above 2^48, an own number past the table, genesis 0.
+-- 1: no node, more than 2,048, a stake of 0, a total above 2^48, an own number past the table, genesis 0.
 abbrev starts : Bool
 starts =
-    equal (verdictNumber (startVerdict [] 0 1) ∷ verdictNumber (startVerdict (replicate 65 1) 0 1) ∷ verdictNumber (startVerdict (replicate 64 1) 63 1)
+    equal (verdictNumber (startVerdict [] 0 1) ∷ verdictNumber (startVerdict (replicate 2049 1) 0 1) ∷ verdictNumber (startVerdict (replicate 65 1) 64 1)
     ∷ verdictNumber (startVerdict (1 ∷ 0 ∷ []) 0 1) ∷ verdictNumber (startVerdict ((2 ^ 48) ∷ 1 ∷ []) 0 1) ∷ verdictNumber (startVerdict ((2 ^ 48 - 1) ∷ 1 ∷ []) 0 1)
     ∷ verdictNumber (startVerdict (1 ∷ []) 1 1) ∷ verdictNumber (startVerdict (1 ∷ []) 0 0) ∷ [])
     (1 ∷ 1 ∷ 0 ∷ 1 ∷ 1 ∷ 0 ∷ 1 ∷ 1 ∷ [])
@@ -64,7 +64,7 @@ voted = ring (6 ∷ 2 ∷ 2 ∷ []) (cell 7 0 0 0 0 0 1 ∷ cell 7 0 7 0 0 0 0 �
 
 abbrev writerOrder : Bool
 writerOrder =
-    let certificate : ℕ → ℕ → ℕ → ℕ → ℕ = (λ room k s b. writePanel (writeCertificate voted room (certificateKind k) s b .answer) .number) in
+    let certificate : ℕ → ℕ → ℕ → ℕ → ℕ = (λ room k s b. writePanel (writeCertificate voted room (kindIn 3 k) s b .answer) .number) in
     let proof : ℕ → ℕ → ℕ → ℕ = (λ room s b. writePanel (writeProof voted room s b .answer) .number) in
     equal (certificate 31 9 0 0 ∷ certificate 32 9 0 0 ∷ certificate 32 1 0 0 ∷ certificate 32 1 17 0 ∷ certificate 32 1 1 0 ∷ certificate 32 2 1 0 ∷ certificate 32 3 1 0
     ∷ certificate 32 4 1 7 ∷ certificate 32 5 1 7 ∷ certificate 32 1 1 8 ∷ certificate 32 4 1 0 ∷ certificate 32 1 1 7 ∷ certificate 32 2 1 7 ∷ certificate 32 3 1 7
@@ -74,10 +74,10 @@ writerOrder =
 -- All stored signers, a node with both votes in mask A alone; a refused writer writes nothing; bytes past a packet stay.
 abbrev written : Bool
 written =
-    let certificate : ℕ → ℕ → List ℕ = (λ k b. writeCertificate voted 32 (certificateKind k) 1 b .bytes) in
+    let certificate : ℕ → ℕ → List ℕ = (λ k b. writeCertificate voted 32 (kindIn 3 k) 1 b .bytes) in
     let skipped = ring (3 ∷ 3 ∷ 4 ∷ []) (cell 0 1 0 0 0 1 0 ∷ cell 7 0 0 0 0 1 1 ∷ cell 7 0 0 0 0 0 1 ∷ []) in
     equals (certificate 1 7 ∷ certificate 2 7 ∷ certificate 3 7 ∷ certificate 5 0 ∷ certificate 4 0 ∷ writeProof voted 64 1 7 .bytes ∷ writeProof voted 63 1 7 .bytes
-    ∷ writeCertificate skipped 32 (certificateKind 4) 1 0 .bytes ∷ writeProof skipped 64 1 7 .bytes ∷ over (1 ∷ 2 ∷ []) (6 ∷ 7 ∷ 8 ∷ 9 ∷ []) ∷ over [] (6 ∷ 7 ∷ []) ∷ [])
+    ∷ writeCertificate skipped 32 (kindIn 3 4) 1 0 .bytes ∷ writeProof skipped 64 1 7 .bytes ∷ over (1 ∷ 2 ∷ []) (6 ∷ 7 ∷ 8 ∷ 9 ∷ []) ∷ over [] (6 ∷ 7 ∷ []) ∷ [])
     ((1 ∷ 1 ∷ 7 ∷ 3 ∷ 0 ∷ []) ∷ (2 ∷ 1 ∷ 7 ∷ 3 ∷ 0 ∷ []) ∷ (3 ∷ 1 ∷ 7 ∷ 3 ∷ 4 ∷ []) ∷ (5 ∷ 1 ∷ 0 ∷ 1 ∷ 0 ∷ []) ∷ [] ∷ (1 ∷ 1 ∷ 7 ∷ 3 ∷ 0 ∷ []) ∷ []
     ∷ (4 ∷ 1 ∷ 0 ∷ 1 ∷ 2 ∷ []) ∷ (2 ∷ 1 ∷ 7 ∷ 6 ∷ 0 ∷ 5 ∷ 1 ∷ 0 ∷ 6 ∷ 0 ∷ []) ∷ (1 ∷ 2 ∷ 8 ∷ 9 ∷ []) ∷ (6 ∷ 7 ∷ []) ∷ [])
 

@@ -47,7 +47,7 @@ readOn (verdict.Refused r) v = read.Refused r
 unfoldable pub readTo : ℕ → Vote → ℕ → ℕ → ReadAnswer
 readTo count v next end = readOn (voteTests count v (refuseIf (ltb next end) refusal.BadLength verdict.Fine)) v
 
--- "Both take the node count; one outside 1 to 64 is 1, tested first."
+-- "Both take the node count"; one outside 1 to 2,048 "is 1, tested first".
 unfoldable pub readVote : ℕ → List ℕ → ReadAnswer
 readVote count bytes =
     given (countFits count) (read.Refused refusal.BadSizes) (λ _.

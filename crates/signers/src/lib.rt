@@ -7,7 +7,7 @@ ghost use Rattle.rulebook.specs.Writers.{inA, inB, certificateFor};
 ghost use Rattle.record.specs.Layout.{ledgerOf};
 ghost use Rattle.signers.specs.Masks.{inMask, Signing, Wide, Naming};
 use cells::has_fallback;
-use kinds::kind_number;
+use kinds::number_in;
 use record::count;
 use record::load_cell;
 use rulebook::Cell;
@@ -131,7 +131,7 @@ pub fn certificate_for(
     signers_in(rec, nodes, Mask::A, kind, s, block, a);
     signers_in(rec, nodes, Mask::B, kind, s, block, b);
     Heading {
-        kind: kind_number(kind),
+        kind: number_in(nodes, kind),
         slot: s.0 as u64,
         block,
     }

@@ -2,7 +2,7 @@
 use mathlib.Core.Path.{_≡_, refl, sym, ap, ap₂, _∙_, subst}
 use mathlib.Core.Bool.{true, false}
 use mathlib.Core.List.{List, _++_}
-use Prim.Native.Nat.{ℕ, suc, _≤_, _<_}
+use Prim.Native.Nat.{ℕ, suc, _+_, _*_, _≤_, _<_}
 use native.Mathlib.Omega.{arith}
 use lib.ListN.{length, take, length-append}
 use lib.Seq.{take-at}
@@ -17,15 +17,15 @@ use Rattle.rulebook.specs.declared.WriteAnswer.the-variants as write
 use Rattle.rulebook.specs.Weights.{lastSlot}
 use Rattle.rulebook.specs.Ledger.{Ledger}
 use Rattle.rulebook.specs.Pool.{held}
-use Rattle.rulebook.specs.PaperNumbers.{certificateNumber}
+use Rattle.rulebook.specs.PaperNumbers.{kindIn, numberIn}
 use Rattle.rulebook.specs.Checker.{isOtherKind}
 use Rattle.rulebook.specs.Packets.{wordsIn, certificateOf, certificateBytes}
-use Rattle.rulebook.specs.Writers.{Wrote, certificateFor, wroteOn, certificateVerdict, writeCertificate, proofVerdict, proofBytes, writeProof, over, Writes}
+use Rattle.rulebook.specs.Writers.{Wrote, certificateFor, certificateRoom, proofRoom, wroteOn, certificateVerdict, writeCertificate, proofVerdict, proofBytes, writeProof, over, Writes}
 use Rattle.rulebook.proofs.ToolLaws.{given-on, given-off, by-test}
 use Rattle.rulebook.proofs.NumberLaws.{certificate-few}
-use Rattle.rulebook.proofs.AcceptedLaws.{kind-small, kind-words}
-use Rattle.five_numbers.specs.Told.{Masks}
-use Rattle.five_numbers.proofs.Whole.{words-few}
+use Rattle.rulebook.proofs.KindLaws.{kind-small, kind-words, certificate-room, proof-room}
+use Rattle.certificate_numbers.specs.Told.{Masks}
+use Rattle.certificate_numbers.proofs.Whole.{words-few}
 use Rattle.numbers.specs.Written.{Room, Written}
 use Rattle.numbers.proofs.Stores.{after}
 use Rattle.record.specs.Layout.{ledgerOf}
@@ -33,16 +33,25 @@ use Rattle.soundness.specs.Sound.{soundWords}
 use Rattle.soundness.proofs.Laws.{sound-long, sound-head, sound-placed, sound-tabled}
 use Rattle.pool.specs.Weighing.{Weighing}
 use Rattle.signers.specs.Masks.{Naming}
-use Rattle.writers.specs.Writing.{unsound, certificateOn, proofOn}
+use Rattle.writers.specs.Writing.{unsound, kindOn, certificateOn, proofOn}
 
 -- ---- what the inner functions ask
 
+-- The kind that a number stands for in the record's table.
+pub kind-asked : (ws : List ℕ) (n : ℕ) {k : CertificateKind} {count : ℕ} → k ≡ kindIn count n → count ≡ ledgerOf ws .count → k ≡ kindOn ws n
+kind-asked ws n e g = e ∙ ap (λ (x : ℕ). kindIn x n) g
+
+-- The words of a kind, by its number there.
+pub words-asked : (ws : List ℕ) (k : CertificateKind) {w n count : ℕ} → w ≡ wordsIn n → n ≡ numberIn count k → count ≡ ledgerOf ws .count
+    → w ≡ wordsIn (numberIn (ledgerOf ws .count) k)
+words-asked ws k e f g = e ∙ ap wordsIn (f ∙ ap (λ (x : ℕ). numberIn x k) g)
+
 -- Masks of as many words as the kind says have words for every node.
 pub naming : (ws : List ℕ) (s : ℕ) (a b : List ℕ) (k : CertificateKind) (w : ℕ) → soundWords ws ≡ true → s < suc lastSlot → isOtherKind k ≡ false
-    → w ≡ wordsIn (certificateNumber k) → length a ≡ w → length b ≡ w → Naming ws s a b
+    → w ≡ wordsIn (numberIn (ledgerOf ws .count) k) → length a ≡ w → length b ≡ w → Naming ws s a b
 naming ws s a b k w e h o n p q =
     let wide = kind-words (ledgerOf ws .count) k o (sound-head ws e .few) in
-    let most = words-few w (certificateNumber k) n in
+    let most = words-few w (numberIn (ledgerOf ws .count) k) n in
     record {
       long = sound-long ws e;
       slot = h;
@@ -57,10 +66,13 @@ weighing ws s e h = record { long = sound-long ws e; slot = h; table = sound-tab
 
 -- ---- lengths
 
--- A certificate that is written has at most 32 bytes, whatever it names.
-pub certificate-short : (l : Ledger) (k : CertificateKind) (s b : ℕ) → s < suc lastSlot → length (certificateBytes (certificateFor l k s b)) ≤ 32
-unfolding certificateFor wordsIn
-certificate-short l k s b h = certificate-few (certificateFor l k s b) (omega (arith, kind-small k)) (omega arith)
+-- A certificate that is written, whatever it names, has no more bytes than are asked for.
+pub certificate-short : (l : Ledger) (k : CertificateKind) (s b : ℕ) → s < suc lastSlot → length (certificateBytes (certificateFor l k s b)) ≤ certificateRoom (l .count)
+unfolding certificateFor
+certificate-short l k s b h =
+    let few : length (certificateBytes (certificateFor l k s b)) ≤ 12 + 20 * wordsIn (numberIn (l .count) k) =
+    certificate-few (certificateFor l k s b) (omega (arith, kind-small (l .count) k)) (omega arith) in
+    omega (arith, few, certificate-room (l .count) k)
 
 -- The bytes of a proof, by the form that is held.
 pub proof-fast : (l : Ledger) (s b : ℕ) → held l certificate.FastFinal s b ≡ true
@@ -74,20 +86,21 @@ unfolding proofBytes
 proof-slow l s b e = given-off _ _ _ e
 
 two-short : (l : Ledger) (s b : ℕ) → s < suc lastSlot
-    → length (certificateBytes (certificateFor l certificate.Notar s b) ++ certificateBytes (certificateFor l certificate.Final s 0)) ≤ 64
+    → length (certificateBytes (certificateFor l certificate.Notar s b) ++ certificateBytes (certificateFor l certificate.Final s 0)) ≤ proofRoom (l .count)
 two-short l s b h =
     omega (
       arith,
       length-append (certificateBytes (certificateFor l certificate.Notar s b)) (certificateBytes (certificateFor l certificate.Final s 0)),
       certificate-short l certificate.Notar s b h,
       certificate-short l certificate.Final s 0 h,
+      proof-room (l .count),
     )
 
--- A proof that is written has at most 64.
-pub proof-short : (l : Ledger) (s b : ℕ) → s < suc lastSlot → length (proofBytes l s b) ≤ 64
+-- So has a proof.
+pub proof-short : (l : Ledger) (s b : ℕ) → s < suc lastSlot → length (proofBytes l s b) ≤ proofRoom (l .count)
 proof-short l s b h =
     by-test (held l certificate.FastFinal s b)
-    (λ e. omega (arith, ap length (proof-fast l s b e), certificate-short l certificate.FastFinal s b h))
+    (λ e. omega (arith, ap length (proof-fast l s b e), certificate-short l certificate.FastFinal s b h, proof-room (l .count)))
     (λ e. omega (arith, ap length (proof-slow l s b e), two-short l s b h))
 
 -- ---- laying
@@ -102,10 +115,10 @@ module _ (l : Ledger) (k : CertificateKind) (s b : ℕ) (h : Heading) (w : ℕ) 
   pub given-back : certificateOf h (take w (xs ++ more)) (take w (ys ++ rest)) ≡ certificateFor l k s b
   given-back = ap₂ (λ (x y : List ℕ). certificateOf h x y) (take-at xs more w p) (take-at ys rest w q) ∙ e
 
-  pub given-masks : w ≡ wordsIn (certificateNumber k) → Masks h (take w (xs ++ more)) (take w (ys ++ rest))
+  pub given-masks : w ≡ wordsIn (numberIn (l .count) k) → Masks h (take w (xs ++ more)) (take w (ys ++ rest))
   unfolding certificateFor
   given-masks n =
-      let kind : h .kind ≡ certificateNumber k = ap (λ (c : Certificate). c .kind) e in
+      let kind : h .kind ≡ numberIn (l .count) k = ap (λ (c : Certificate). c .kind) e in
       let words : w ≡ wordsIn (h .kind) = n ∙ ap wordsIn (sym kind) in
       record { longA = ap length (take-at xs more w p) ∙ p ∙ words; longB = ap length (take-at ys rest w q) ∙ q ∙ words }
 
@@ -114,15 +127,19 @@ pub laid-same : {buffer left : List ℕ} {at n : ℕ} {c d : Certificate} → c 
 laid-same {buffer} {left} {at} {n} e w = subst (λ (x : Certificate). Written buffer at (certificateBytes x) left n) e w
 
 -- There is room for a certificate at the front.
-pub room-front : (l : Ledger) (k : CertificateKind) (s b : ℕ) (buffer : List ℕ) → s < suc lastSlot → 32 ≤ length buffer
+pub room-front : (l : Ledger) (k : CertificateKind) (s b : ℕ) (buffer : List ℕ) → s < suc lastSlot → certificateRoom (l .count) ≤ length buffer
     → Room buffer 0 (certificateBytes (certificateFor l k s b))
 room-front l k s b buffer h r = record { ends = omega (arith, certificate-short l k s b h) }
 
+-- Where there is room for a proof, there is room for a certificate.
+pub room-either : (count free : ℕ) → proofRoom count ≤ free → certificateRoom count ≤ free
+room-either count free h = omega (arith, proof-room count)
+
 -- There is room for the second after the first.
-pub room-next : (l : Ledger) (s b : ℕ) (buffer mid : List ℕ) (p : ℕ) → s < suc lastSlot → 64 ≤ length buffer → length mid ≡ length buffer
+pub room-next : (l : Ledger) (s b : ℕ) (buffer mid : List ℕ) (p : ℕ) → s < suc lastSlot → proofRoom (l .count) ≤ length buffer → length mid ≡ length buffer
     → Written buffer 0 (certificateBytes (certificateFor l certificate.Notar s b)) mid p → Room mid p (certificateBytes (certificateFor l certificate.Final s 0))
 room-next l s b buffer mid p h r k w =
-    record { ends = omega (arith, w .next-is, certificate-short l certificate.Notar s b h, certificate-short l certificate.Final s 0 h) }
+    record { ends = omega (arith, w .next-is, certificate-short l certificate.Notar s b h, certificate-short l certificate.Final s 0 h, proof-room (l .count)) }
 
 -- A kind 1 certificate is the proof where it is held.
 pub laid-fast : (l : Ledger) (s b : ℕ) {buffer left : List ℕ} {n : ℕ} → held l certificate.FastFinal s b ≡ true
@@ -130,7 +147,7 @@ pub laid-fast : (l : Ledger) (s b : ℕ) {buffer left : List ℕ} {n : ℕ} → 
 laid-fast l s b {buffer} {left} {n} e w = subst (λ (x : List ℕ). Written buffer 0 x left n) (sym (proof-fast l s b e)) w
 
 -- Else the two others, one after the other.
-pub laid-slow : (l : Ledger) (s b : ℕ) {buffer mid left : List ℕ} {p n : ℕ} → held l certificate.FastFinal s b ≡ false → s < suc lastSlot → 64 ≤ length buffer
+pub laid-slow : (l : Ledger) (s b : ℕ) {buffer mid left : List ℕ} {p n : ℕ} → held l certificate.FastFinal s b ≡ false → s < suc lastSlot → proofRoom (l .count) ≤ length buffer
     → Written buffer 0 (certificateBytes (certificateFor l certificate.Notar s b)) mid p → Written mid p (certificateBytes (certificateFor l certificate.Final s 0)) left n
     → Written buffer 0 (proofBytes l s b) left n
 laid-slow l s b {buffer} {mid} {left} {p} {n} e h r w v =
@@ -144,17 +161,20 @@ unfolding unsound over
 writes-unsound wrote buffer e = rw e (record { answered = refl; bytes = refl })
 
 -- What is answered, by what was found of the words and of the call.
-module _ (ws : List ℕ) (room : ℕ) (k : CertificateKind) (s b : ℕ) where
-  pub certificate-unsound : soundWords ws ≡ false → certificateOn ws room k s b ≡ unsound
+module _ (ws : List ℕ) (room kind s b : ℕ) where
+  pub certificate-unsound : soundWords ws ≡ false → certificateOn ws room kind s b ≡ unsound
   unfolding certificateOn
   certificate-unsound e = given-off _ _ _ e
 
-  pub certificate-judged : (v : Verdict) → soundWords ws ≡ true → v ≡ certificateVerdict (ledgerOf ws) room k s b
-      → certificateOn ws room k s b ≡ wroteOn v (certificateBytes (certificateFor (ledgerOf ws) k s b))
+  pub certificate-judged : (k : CertificateKind) → k ≡ kindOn ws kind → (v : Verdict) → soundWords ws ≡ true
+      → v ≡ certificateVerdict (ledgerOf ws) room k s b → certificateOn ws room kind s b ≡ wroteOn v (certificateBytes (certificateFor (ledgerOf ws) k s b))
   unfolding certificateOn writeCertificate
-  certificate-judged v e f =
-      given-on (soundWords ws) unsound (λ _. wroteOn (certificateVerdict (ledgerOf ws) room k s b) (certificateBytes (certificateFor (ledgerOf ws) k s b))) e
-      ∙ rw f refl
+  certificate-judged k q v e f =
+      let l = ledgerOf ws in
+      let n = kindOn ws kind in
+      given-on (soundWords ws) unsound (λ _. wroteOn (certificateVerdict l room n s b) (certificateBytes (certificateFor l n s b))) e
+      ∙ ap (λ (x : CertificateKind). wroteOn (certificateVerdict l room x s b) (certificateBytes (certificateFor l x s b))) (sym q)
+      ∙ ap (λ (x : Verdict). wroteOn x (certificateBytes (certificateFor l k s b))) (sym f)
 
 module _ (ws : List ℕ) (room s b : ℕ) where
   pub proof-unsound : soundWords ws ≡ false → proofOn ws room s b ≡ unsound

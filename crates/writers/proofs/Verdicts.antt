@@ -16,59 +16,60 @@ use Rattle.rulebook.specs.Pool.{held}
 use Rattle.rulebook.specs.Rules.{isFinal}
 use Rattle.rulebook.specs.Inputs.{refuseIf}
 use Rattle.rulebook.specs.Checker.{isOtherKind, blockMisfits}
-use Rattle.rulebook.specs.Writers.{certificateVerdict, proofVerdict}
+use Rattle.rulebook.specs.Writers.{certificateRoom, proofRoom, certificateVerdict, proofVerdict}
 use Rattle.rulebook.proofs.ToolLaws.{and-both}
 
 -- ---- the chains, exit by exit
 
-module _ (l : Ledger) (room : ℕ) (k : CertificateKind) (s b : ℕ) where
-  pub certificate-room : room < 32 → Refused refusal.NoRoom ≡ certificateVerdict l room k s b
+-- The least room is what the table's size asks for.
+module _ (l : Ledger) (room : ℕ) (k : CertificateKind) (s b least : ℕ) (e : least ≡ certificateRoom (l .count)) where
+  pub certificate-room : room < least → Refused refusal.NoRoom ≡ certificateVerdict l room k s b
   unfolding certificateVerdict refuseIf
-  certificate-room h = simp (lt-ltb room 32 h)
+  certificate-room h = simp (lt-ltb room (certificateRoom (l .count)) (omega (arith, e, h)))
 
-  pub certificate-kind : 32 ≤ room → isOtherKind k ≡ true → Refused refusal.BadKind ≡ certificateVerdict l room k s b
+  pub certificate-kind : least ≤ room → isOtherKind k ≡ true → Refused refusal.BadKind ≡ certificateVerdict l room k s b
   unfolding certificateVerdict refuseIf
-  certificate-kind h e = simp (le-ltb room 32 h, e)
+  certificate-kind h o = simp (le-ltb room (certificateRoom (l .count)) (omega (arith, e, h)), o)
 
-  pub certificate-slot : 32 ≤ room → isOtherKind k ≡ false → slotOk s ≡ false → Refused refusal.BadSlot ≡ certificateVerdict l room k s b
+  pub certificate-slot : least ≤ room → isOtherKind k ≡ false → slotOk s ≡ false → Refused refusal.BadSlot ≡ certificateVerdict l room k s b
   unfolding certificateVerdict refuseIf
-  certificate-slot h e f = simp (le-ltb room 32 h, e, f)
+  certificate-slot h o f = simp (le-ltb room (certificateRoom (l .count)) (omega (arith, e, h)), o, f)
 
-  pub certificate-block : 32 ≤ room → isOtherKind k ≡ false → slotOk s ≡ true → blockMisfits k b ≡ true
+  pub certificate-block : least ≤ room → isOtherKind k ≡ false → slotOk s ≡ true → blockMisfits k b ≡ true
       → Refused refusal.BadBlock ≡ certificateVerdict l room k s b
   unfolding certificateVerdict refuseIf
-  certificate-block h e f g = simp (le-ltb room 32 h, e, f, g)
+  certificate-block h o f g = simp (le-ltb room (certificateRoom (l .count)) (omega (arith, e, h)), o, f, g)
 
-  pub certificate-held : 32 ≤ room → isOtherKind k ≡ false → slotOk s ≡ true → blockMisfits k b ≡ false → held l k s b ≡ false
+  pub certificate-held : least ≤ room → isOtherKind k ≡ false → slotOk s ≡ true → blockMisfits k b ≡ false → held l k s b ≡ false
       → Refused refusal.NotHeld ≡ certificateVerdict l room k s b
   unfolding certificateVerdict refuseIf
-  certificate-held h e f g i = simp (le-ltb room 32 h, e, f, g, i)
+  certificate-held h o f g i = simp (le-ltb room (certificateRoom (l .count)) (omega (arith, e, h)), o, f, g, i)
 
-  pub certificate-passed : 32 ≤ room → isOtherKind k ≡ false → slotOk s ≡ true → blockMisfits k b ≡ false → held l k s b ≡ true
+  pub certificate-passed : least ≤ room → isOtherKind k ≡ false → slotOk s ≡ true → blockMisfits k b ≡ false → held l k s b ≡ true
       → Fine ≡ certificateVerdict l room k s b
   unfolding certificateVerdict refuseIf
-  certificate-passed h e f g i = simp (le-ltb room 32 h, e, f, g, i)
+  certificate-passed h o f g i = simp (le-ltb room (certificateRoom (l .count)) (omega (arith, e, h)), o, f, g, i)
 
-module _ (l : Ledger) (room s b : ℕ) where
-  pub proof-room : room < 64 → Refused refusal.NoRoom ≡ proofVerdict l room s b
+module _ (l : Ledger) (room s b least : ℕ) (e : least ≡ proofRoom (l .count)) where
+  pub proof-room : room < least → Refused refusal.NoRoom ≡ proofVerdict l room s b
   unfolding proofVerdict refuseIf
-  proof-room h = simp (lt-ltb room 64 h)
+  proof-room h = simp (lt-ltb room (proofRoom (l .count)) (omega (arith, e, h)))
 
-  pub proof-slot : 64 ≤ room → slotOk s ≡ false → Refused refusal.BadSlot ≡ proofVerdict l room s b
+  pub proof-slot : least ≤ room → slotOk s ≡ false → Refused refusal.BadSlot ≡ proofVerdict l room s b
   unfolding proofVerdict refuseIf
-  proof-slot h e = simp (le-ltb room 64 h, e)
+  proof-slot h o = simp (le-ltb room (proofRoom (l .count)) (omega (arith, e, h)), o)
 
-  pub proof-block : 64 ≤ room → slotOk s ≡ true → b ≡ 0 → Refused refusal.BadBlock ≡ proofVerdict l room s b
+  pub proof-block : least ≤ room → slotOk s ≡ true → b ≡ 0 → Refused refusal.BadBlock ≡ proofVerdict l room s b
   unfolding proofVerdict refuseIf
-  proof-block h e f = simp (le-ltb room 64 h, e, eq-eqb b 0 f)
+  proof-block h o f = simp (le-ltb room (proofRoom (l .count)) (omega (arith, e, h)), o, eq-eqb b 0 f)
 
-  pub proof-final : 64 ≤ room → slotOk s ≡ true → (b ≡ 0 → ⊥) → isFinal l s b ≡ false → Refused refusal.NotHeld ≡ proofVerdict l room s b
+  pub proof-final : least ≤ room → slotOk s ≡ true → (b ≡ 0 → ⊥) → isFinal l s b ≡ false → Refused refusal.NotHeld ≡ proofVerdict l room s b
   unfolding proofVerdict refuseIf
-  proof-final h e f g = simp (le-ltb room 64 h, e, ne-eqb b 0 f, g)
+  proof-final h o f g = simp (le-ltb room (proofRoom (l .count)) (omega (arith, e, h)), o, ne-eqb b 0 f, g)
 
-  pub proof-passed : 64 ≤ room → slotOk s ≡ true → (b ≡ 0 → ⊥) → isFinal l s b ≡ true → Fine ≡ proofVerdict l room s b
+  pub proof-passed : least ≤ room → slotOk s ≡ true → (b ≡ 0 → ⊥) → isFinal l s b ≡ true → Fine ≡ proofVerdict l room s b
   unfolding proofVerdict refuseIf
-  proof-passed h e f g = simp (le-ltb room 64 h, e, ne-eqb b 0 f, g)
+  proof-passed h o f g = simp (le-ltb room (proofRoom (l .count)) (omega (arith, e, h)), o, ne-eqb b 0 f, g)
 
 -- ---- nothing refused
 
@@ -80,7 +81,7 @@ not-refused false r v e = (refl, e)
 
 -- What a certificate that is written has passed.
 pub record CertificateFine (l : Ledger) (free : ℕ) (k : CertificateKind) (s b : ℕ) : Type 0 where
-  pub room : 32 ≤ free
+  pub room : certificateRoom (l .count) ≤ free
   pub kind : isOtherKind k ≡ false
   pub slot : slotOk s ≡ true
   pub block : blockMisfits k b ≡ false
@@ -96,7 +97,7 @@ certificate-fine l room k s b e =
     let t = not-refused _ _ _ (r .1) in
     let u = not-refused _ _ _ (t .1) in
     record {
-      room = ltb-false room 32 (p .0);
+      room = ltb-false room (certificateRoom (l .count)) (p .0);
       kind = q .0;
       slot = not-false (slotOk s) (r .0);
       block = t .0;
@@ -105,7 +106,7 @@ certificate-fine l room k s b e =
 
 -- What a proof that is written has passed.
 pub record ProofFine (l : Ledger) (free s b : ℕ) : Type 0 where
-  pub room : 64 ≤ free
+  pub room : proofRoom (l .count) ≤ free
   pub slot : slotOk s ≡ true
   pub block : none b ≡ false
   pub final : isFinal l s b ≡ true
@@ -118,7 +119,7 @@ proof-fine l room s b e =
     let r = not-refused _ _ _ (q .1) in
     let t = not-refused _ _ _ (r .1) in
     record {
-      room = ltb-false room 64 (p .0);
+      room = ltb-false room (proofRoom (l .count)) (p .0);
       slot = not-false (slotOk s) (q .0);
       block = r .0;
       final = not-false (isFinal l s b) (t .0);

@@ -11,7 +11,8 @@ use Rattle.rulebook.specs.Tools.{given}
 use Rattle.rulebook.specs.Weights.{lastSlot}
 use Rattle.rulebook.specs.Packets.{certificateBytes}
 use Rattle.rulebook.specs.Checker.{isOtherKind}
-use Rattle.rulebook.specs.Writers.{Wrote, certificateFor, writeCertificate, writeProof}
+use Rattle.rulebook.specs.PaperNumbers.{kindIn}
+use Rattle.rulebook.specs.Writers.{Wrote, certificateFor, proofRoom, writeCertificate, writeProof}
 use Rattle.numbers.specs.Written.{Room}
 use Rattle.record.specs.Layout.{ledgerOf}
 use Rattle.soundness.specs.Sound.{soundWords}
@@ -20,9 +21,13 @@ use Rattle.soundness.specs.Sound.{soundWords}
 unfoldable pub unsound : Wrote
 unsound = record { answer = write.Refused refusal.BadRecord; bytes = [] }
 
--- "Writers: 17, 9, 4, 3, 5, 18, those that apply": words, a buffer of so many bytes, and what is asked for.
-unfoldable pub certificateOn : List ℕ → ℕ → CertificateKind → ℕ → ℕ → Wrote
-certificateOn ws room k s b = given (soundWords ws) unsound (λ _. writeCertificate (ledgerOf ws) room k s b)
+-- The kind that a number stands for in the table of a node's words.
+abbrev pub kindOn : List ℕ → ℕ → CertificateKind
+kindOn ws kind = kindIn (ledgerOf ws .count) kind
+
+-- "Writers: 17, 9, 4, 3, 5, 18, those that apply": words, a buffer of so many bytes, and what is asked for, the kind by its number.
+unfoldable pub certificateOn : List ℕ → ℕ → ℕ → ℕ → ℕ → Wrote
+certificateOn ws room kind s b = given (soundWords ws) unsound (λ _. writeCertificate (ledgerOf ws) room (kindOn ws kind) s b)
 
 unfoldable pub proofOn : List ℕ → ℕ → ℕ → ℕ → Wrote
 proofOn ws room s b = given (soundWords ws) unsound (λ _. writeProof (ledgerOf ws) room s b)
@@ -38,4 +43,4 @@ pub record Laying (ws buffer : List ℕ) (at : ℕ) (k : CertificateKind) (s b :
 pub record Proving (ws buffer : List ℕ) (s : ℕ) : Type 0 where
   pub sound : soundWords ws ≡ true
   pub slot : s < suc lastSlot
-  pub room : 64 ≤ length buffer
+  pub room : proofRoom (ledgerOf ws .count) ≤ length buffer

@@ -3,19 +3,21 @@ ghost use mathlib.Core.Path.{_≡_};
 ghost use mathlib.Core.Bool.{true};
 ghost use lib.ListN.{length};
 ghost use Rattle.rulebook.specs.Packets.{certificateBytes};
-ghost use Rattle.rulebook.specs.Writers.{certificateFor, certificateVerdict, proofVerdict, proofBytes, Writes};
+ghost use Rattle.rulebook.specs.Writers.{certificateFor, certificateRoom, proofRoom, certificateVerdict, proofVerdict, proofBytes, Writes};
 ghost use Rattle.record.specs.Layout.{ledgerOf};
 ghost use Rattle.soundness.specs.Sound.{soundWords};
 ghost use Rattle.numbers.specs.Written.{Written};
 ghost use Rattle.writers.specs.Writing.{certificateOn, proofOn, Laying, Proving};
 use candidates::is_final;
-use five_numbers::MOST_WORDS;
-use five_numbers::words_in;
+use certificate_numbers::MOST_WORDS;
+use certificate_numbers::words_in;
 use kinds::block_misfits;
 use kinds::is_other;
-use kinds::kind_number;
+use kinds::kind_in;
+use kinds::number_in;
 use kinds::slot_ok;
 use pool::held;
+use record::count;
 use rulebook::CertificateKind;
 use rulebook::Refusal;
 use rulebook::Slot;
@@ -24,12 +26,32 @@ use rulebook::WriteAnswer;
 use signers::certificate_for;
 use soundness::sound;
 
+// The bytes that a certificate is asked to have room for, by the table's size, and those for a proof.
+fn certificate_room(count: usize) -> usize
+    ensures { λ r. ⌜ r ≡ certificateRoom count ⌝ }
+{
+    if 64 < count {
+        return 768;
+    }
+    32
+}
+
+fn proof_room(count: usize) -> usize
+    ensures { λ r. ⌜ r ≡ proofRoom count ⌝ }
+{
+    if 64 < count {
+        return 1536;
+    }
+    64
+}
+
 // 9, 4, 3, 5, 18, in this order, for a certificate.
 fn judge_certificate(rec: &[u64], room: usize, kind: CertificateKind, s: Slot, b: u64) -> Verdict
     requires { ⌜ soundWords (now rec) ≡ true ⌝ }
     ensures { λ r. ⌜ r ≡ certificateVerdict (ledgerOf (now (rec .entry))) room kind (s .0) b ⌝ }
 {
-    if room < 32 {
+    let least = certificate_room(count(rec));
+    if room < least {
         return Verdict::Refused(Refusal::NoRoom);
     }
     if is_other(kind) {
@@ -52,7 +74,8 @@ fn judge_proof(rec: &[u64], room: usize, s: Slot, b: u64) -> Verdict
     requires { ⌜ soundWords (now rec) ≡ true ⌝ }
     ensures { λ r. ⌜ r ≡ proofVerdict (ledgerOf (now (rec .entry))) room (s .0) b ⌝ }
 {
-    if room < 64 {
+    let least = proof_room(count(rec));
+    if room < least {
         return Verdict::Refused(Refusal::NoRoom);
     }
     if !slot_ok(s) {
@@ -81,9 +104,9 @@ fn lay_certificate(
 {
     let mut x = [0u64; MOST_WORDS];
     let mut y = [0u64; MOST_WORDS];
-    let words = words_in(kind_number(kind));
+    let words = words_in(number_in(count(rec), kind));
     let c = certificate_for(rec, kind, s, b, &mut x[..words], &mut y[..words]);
-    five_numbers::write_certificate(buffer, at, c, &x[..words], &y[..words])
+    certificate_numbers::write_certificate(buffer, at, c, &x[..words], &y[..words])
 }
 
 // Writes a proof from the buffer's front: kind 1 where it is held, else kind 2 and then kind 5.
@@ -98,11 +121,11 @@ fn lay_proof(rec: &[u64], buffer: &mut [u8], s: Slot, b: u64) -> usize
     lay_certificate(rec, buffer, next, CertificateKind::Final, s, 0)
 }
 
-// Writes the certificate of a kind for a slot and a block, where it is held.
+// Writes the certificate of a kind, asked for by its number in the record's table, for a slot and a block, where it is held.
 pub fn write_certificate(
     rec: &[u64],
     buffer: &mut [u8],
-    kind: CertificateKind,
+    kind: u64,
     slot: Slot,
     block: u64,
 ) -> WriteAnswer
@@ -111,11 +134,12 @@ pub fn write_certificate(
     if !sound(rec) {
         return WriteAnswer::Refused(Refusal::BadRecord);
     }
-    let v = judge_certificate(rec, buffer.len(), kind, slot, block);
+    let asked = kind_in(count(rec), kind);
+    let v = judge_certificate(rec, buffer.len(), asked, slot, block);
     match v {
         Verdict::Refused(r) => WriteAnswer::Refused(r),
         Verdict::Fine => {
-            WriteAnswer::Written(lay_certificate(rec, buffer, 0, kind, slot, block))
+            WriteAnswer::Written(lay_certificate(rec, buffer, 0, asked, slot, block))
         }
     }
 }

@@ -1,5 +1,5 @@
 -- The number of each answer.
-use Rattle.rulebook.specs.PaperNumbers.{checkPanel}
+use Rattle.rulebook.specs.PaperNumbers.{checkNumber}
 use borrow.Author.Needs.{needs}
 use Rattle.answers.proofs.check_number.Statement.{statement}
 use Rattle.answers.proofs.check_number.Tie as tie
@@ -14,11 +14,11 @@ refusal-number-requires : tie.Need-refusal-number-requires
 refusal-number-requires c κs = search needs
 
 returns : tie.Need-returns
-unfolding checkPanel
+unfolding checkNumber
 returns c = search needs
 
 returns-2 : tie.Need-returns-2
-unfolding checkPanel
+unfolding checkNumber
 returns-2 c = simp (c .before .before .a .given .1) (c .refusal-number .ensures)
 
 pub check-number-spec : {M : Type 1} → statement M

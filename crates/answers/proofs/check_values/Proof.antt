@@ -1,5 +1,5 @@
 -- The values beside each answer.
-use Rattle.rulebook.specs.PaperNumbers.{checkPanel}
+use Rattle.rulebook.specs.PaperNumbers.{checkValues}
 use borrow.Author.Needs.{needs}
 use Rattle.answers.proofs.check_values.Statement.{statement}
 use Rattle.answers.proofs.check_values.Tie as tie
@@ -14,11 +14,11 @@ enum-told : tie.Need-enum-told
 enum-told c = search needs
 
 returns : tie.Need-returns
-unfolding checkPanel
+unfolding checkValues
 returns c = simp (c .before .before .a .given .1) (c .accepted-values .ensures)
 
 returns-2 : tie.Need-returns-2
-unfolding checkPanel
+unfolding checkValues
 returns-2 c = search needs
 
 pub check-values-spec : {M : Type 1} → statement M

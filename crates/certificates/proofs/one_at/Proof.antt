@@ -4,7 +4,7 @@ use denote.Ref.{now}
 use lib.Seq.{length-take-le}
 use borrow.Author.Needs.{needs}
 use Rattle.rulebook.specs.Checker.{oneAt}
-use Rattle.five_numbers.proofs.Whole.{lent-enough}
+use Rattle.certificate_numbers.proofs.Whole.{lent-enough}
 use Rattle.certificates.proofs.Judged.{found-early, found-malformed, found-whole}
 use Rattle.certificates.proofs.one_at.Statement.{statement}
 use Rattle.certificates.proofs.one_at.Tie as tie

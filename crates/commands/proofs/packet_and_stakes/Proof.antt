@@ -32,14 +32,14 @@ read-hex-requires c κs = search needs
 
 returns-2 : tie.Need-returns-2
 returns-2 c =
-    bad-packet _ _ (c .before .before .before .before .before .before .before .word-at .result) (c .before .before .before .before .before .before .before .word-at .ensures) (omega (arith, c .before .before .before .before .before .before .if1 .left)) (c .before .before .before .read-hex .result) _ (length-replicate {A = ℕ} 2048 0) (c .before .before .before .read-hex .ensures .answer) (not-true _ (c .if2 .taken))
+    bad-packet _ _ (c .before .before .before .before .before .before .before .word-at .result) (c .before .before .before .before .before .before .before .word-at .ensures) (omega (arith, c .before .before .before .before .before .before .if1 .left)) (c .before .before .before .read-hex .result) _ (length-replicate {A = ℕ} 32768 0) (c .before .before .before .read-hex .ensures .answer) (not-true _ (c .if2 .taken))
 
 at-least-requires : tie.Need-at-least-requires
 at-least-requires c κs = search needs
 
 returns-3 : tie.Need-returns-3
 returns-3 c =
-    good-packet _ _ (c .before .before .before .before .before .before .before .before .word-at .result) (c .before .before .before .before .before .before .before .before .word-at .ensures) (omega (arith, c .before .before .before .before .before .before .before .if1 .left)) (c .before .before .before .before .read-hex .result) _ (length-replicate {A = ℕ} 2048 0) (c .before .before .before .before .read-hex .ensures .answer) _ (not-false _ (c .before .if2 .left)) (c .at-least .ensures)
+    good-packet _ _ (c .before .before .before .before .before .before .before .before .word-at .result) (c .before .before .before .before .before .before .before .before .word-at .ensures) (omega (arith, c .before .before .before .before .before .before .before .if1 .left)) (c .before .before .before .before .read-hex .result) _ (length-replicate {A = ℕ} 32768 0) (c .before .before .before .before .read-hex .ensures .answer) _ (not-false _ (c .before .if2 .left)) (c .at-least .ensures)
 
 pub packet-and-stakes-spec : {M : Type 1} → statement M
 packet-and-stakes-spec =

@@ -4,9 +4,6 @@ use borrow.Author.Needs.{needs}
 use Rattle.quointrowel.proofs.qr_write_certificate.Statement.{statement}
 use Rattle.quointrowel.proofs.qr_write_certificate.Tie as tie
 
-kind-of-requires : tie.Need-kind-of-requires
-kind-of-requires c κs = search needs
-
 write-certificate-requires : tie.Need-write-certificate-requires
 write-certificate-requires c κs = search needs
 
@@ -21,13 +18,12 @@ same-length c = search needs
 
 returns : tie.Need-returns
 returns c =
-    wrote _ _ _ _ _ _ (rw (c .before .before .before .before .before .kind-of .ensures) at (c .before .before .before .before .write-certificate .ensures)) (c .write-number .ensures) (c .before .bytes-written .ensures)
+    wrote _ _ _ _ _ _ (c .before .before .before .before .write-certificate .ensures) (c .write-number .ensures) (c .before .bytes-written .ensures)
 
 pub qr-write-certificate-spec : {M : Type 1} → statement M
 qr-write-certificate-spec =
     tie.close
     (tie.spec
-    kind-of-requires
     write-certificate-requires
     bytes-written-requires
     write-number-requires

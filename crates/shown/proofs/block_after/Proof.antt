@@ -6,8 +6,8 @@ use lib.Dec.{ltb}
 use borrow.Author.Needs.{needs}
 use Rattle.rulebook.specs.Pool.{namesTo}
 use Rattle.rulebook.specs.Tools.{lowest}
-use Rattle.shown.specs.Shown.{ledgerIn}
-use Rattle.shown.proofs.Laws.{next-start, next-more, next-done}
+use Rattle.shown.specs.Shown.{ledgerIn, blockAfter}
+use Rattle.shown.proofs.Laws.{after-none, next-start, next-more, next-done}
 use Rattle.shown.proofs.block_after.Statement.{statement}
 use Rattle.shown.proofs.block_after.Tie as tie
 
@@ -24,7 +24,7 @@ nodes-of-requires c κs = search needs
 
 loop-holds : tie.Need-loop-holds Inv-loop μ-loop
 loop-holds c =
-    let a = c .before .before .args in (omega arith, c .nodes-of .ensures, next-start (ledgerIn (a .rec .now)) (a .s .0) (a .after))
+    let a = c .before .before .args in (omega arith, c .nodes-of .ensures, next-start (ltb (a .after)) (after-none (a .after)) (ledgerIn (a .rec .now)) (a .s .0))
 
 cell-of-requires : tie.Need-cell-of-requires Inv-loop μ-loop
 cell-of-requires c κs = search needs
@@ -42,13 +42,14 @@ loop-again : tie.Need-loop-again Inv-loop μ-loop
 loop-again c =
     let a = c .before .before .before .before .before .before .args in
     let k = c .before .before .before .loop in
-    (omega arith, k .inv .1, next-more (ledgerIn (a .rec .now)) (a .s .0) (a .after) (k .n) (c .before .cell-of .result) (k .best) _ (c .before .cell-of .ensures) (k .inv .2) (c .named-next .ensures))
+    (omega arith, k .inv .1, next-more (ltb (a .after)) (after-none (a .after)) (ledgerIn (a .rec .now)) (a .s .0) (k .n) (c .before .cell-of .result) (k .best) _ (c .before .cell-of .ensures) (k .inv .2) (c .named-next .ensures))
 
 returns : tie.Need-returns Inv-loop μ-loop
+unfolding blockAfter
 returns c =
     let a = c .before .before .before .before .args in
     let k = c .before .loop in
-    next-done (ledgerIn (a .rec .now)) (a .s .0) (a .after) (k .n) _ (k .inv .2) (omega (arith, k .inv .1))
+    next-done (ltb (a .after)) (after-none (a .after)) (ledgerIn (a .rec .now)) (a .s .0) (k .n) _ (k .inv .2) (omega (arith, k .inv .1))
 
 pub block-after-spec : {M : Type 1} → statement M
 block-after-spec =

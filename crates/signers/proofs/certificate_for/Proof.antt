@@ -22,8 +22,8 @@ signers-in-requires-2 c κs =
     let n = c .before .before .before .before .before .count .ensures in
     (record { long = k .long; slot = k .slot; few = omega (arith, n, k .few); placed = omega (arith, n, k .placed) }, record { long = omega (arith, n, k .wideB .long); few = k .wideB .few })
 
-kind-number-requires : tie.Need-kind-number-requires
-kind-number-requires c κs = search needs
+number-in-requires : tie.Need-number-in-requires
+number-in-requires c κs = search needs
 
 same-length : tie.Need-same-length
 same-length c = search needs
@@ -34,7 +34,7 @@ same-length-2 c = search needs
 returns : tie.Need-returns
 returns c =
     let a = c .before .before .before .before .before .before .before .before .before .before .before .before .before .args in
-    named-all (ledgerOf (now (a .rec))) (a .kind) (a .s .0) (a .block) (c .before .before .before .before .before .before .before .before .before .count .ensures) (c .kind-number .ensures) (c .before .before .before .before .before .before .before .signers-in .ensures) (c .before .before .before .signers-in2 .ensures)
+    named-all (ledgerOf (now (a .rec))) (a .kind) (a .s .0) (a .block) (c .before .before .before .before .before .before .before .before .before .count .ensures) (c .number-in .ensures) (c .before .before .before .before .before .before .before .signers-in .ensures) (c .before .before .before .signers-in2 .ensures)
 
 pub certificate-for-spec : {M : Type 1} → statement M
 certificate-for-spec =
@@ -43,7 +43,7 @@ certificate-for-spec =
     count-requires
     signers-in-requires
     signers-in-requires-2
-    kind-number-requires
+    number-in-requires
     same-length
     same-length-2
     returns)

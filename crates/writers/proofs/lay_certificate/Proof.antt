@@ -1,19 +1,23 @@
 -- The masks' words are lent to be filled and lent again to be written.
-use mathlib.Core.Path.{sym, ap, subst, _∙_}
+use mathlib.Core.Path.{sym, subst, _∙_}
 use denote.Ref.{now}
 use lib.Seq.{length-take-le}
 use borrow.Author.Needs.{needs}
 use Rattle.rulebook.specs.Certificates.{Certificate}
-use Rattle.rulebook.specs.Packets.{wordsIn, certificateBytes}
+use Rattle.rulebook.specs.Packets.{certificateBytes}
 use Rattle.record.specs.Layout.{ledgerOf}
 use Rattle.numbers.specs.Written.{Room}
-use Rattle.five_numbers.proofs.Whole.{words-few}
-use Rattle.writers.proofs.Laid.{naming, front-enough, given-back, given-masks, laid-same}
+use Rattle.soundness.proofs.Laws.{sound-long}
+use Rattle.certificate_numbers.proofs.Whole.{words-few}
+use Rattle.writers.proofs.Laid.{words-asked, naming, front-enough, given-back, given-masks, laid-same}
 use Rattle.writers.proofs.lay_certificate.Statement.{statement}
 use Rattle.writers.proofs.lay_certificate.Tie as tie
 
-kind-number-requires : tie.Need-kind-number-requires
-kind-number-requires c κs = search needs
+count-requires : tie.Need-count-requires
+count-requires c κs = sound-long _ (c .before .before .pre .sound)
+
+number-in-requires : tie.Need-number-in-requires
+number-in-requires c κs = search needs
 
 words-in-requires : tie.Need-words-in-requires
 words-in-requires c κs = search needs
@@ -32,9 +36,9 @@ slice-aggregate-certificate-for-2 c = sym (length-take-le _ _ (words-few _ _ (c 
 
 certificate-for-requires : tie.Need-certificate-for-requires
 certificate-for-requires c κs =
-    let start = c .before .before .before .before .before .before in
+    let start = c .before .before .before .before .before .before .before in
     let few = words-few _ _ (c .before .before .words-in .ensures) in
-    naming (now (start .args .rec)) (start .args .s .0) _ _ (start .args .kind) _ (start .pre .sound) (start .pre .slot) (start .pre .kind) (c .before .before .words-in .ensures ∙ ap wordsIn (c .before .before .before .kind-number .ensures)) (length-take-le _ _ few) (length-take-le _ _ few)
+    naming (now (start .args .rec)) (start .args .s .0) _ _ (start .args .kind) _ (start .pre .sound) (start .pre .slot) (start .pre .kind) (words-asked (now (start .args .rec)) (start .args .kind) (c .before .before .words-in .ensures) (c .before .before .before .number-in .ensures) (c .before .before .before .before .count .ensures)) (length-take-le _ _ few) (length-take-le _ _ few)
 
 array-share-prefix-x : tie.Need-array-share-prefix-x
 array-share-prefix-x c =
@@ -54,7 +58,7 @@ slice-aggregate-write-certificate-2 c =
 
 write-certificate-requires : tie.Need-write-certificate-requires
 write-certificate-requires c κs =
-    let start = c .before .before .before .before .before .before .before .before .before .before .before .before in
+    let start = c .before .before .before .before .before .before .before .before .before .before .before .before .before in
     let s = start .args in
     let l = ledgerOf (now (s .rec)) in
     let r = c .before .before .before .before .before in
@@ -64,7 +68,7 @@ write-certificate-requires c κs =
     let few = words-few _ _ (w .ensures) in
     let longX = r .certificate-for .kept .1 .1 .1 .1 .0 ∙ length-take-le _ _ few in
     let longY = r .certificate-for .kept .1 .1 .1 .1 .1 .0 ∙ length-take-le _ _ few in
-    let masks = given-masks l (s .kind) (s .s .0) (s .b) (r .certificate-for .result) (w .result) xs ys (r .certificate-for .ensures) longX longY _ _ (w .ensures ∙ ap wordsIn (c .before .before .before .before .before .before .before .before .before .kind-number .ensures)) in
+    let masks = given-masks l (s .kind) (s .s .0) (s .b) (r .certificate-for .result) (w .result) xs ys (r .certificate-for .ensures) longX longY _ _ (words-asked (now (s .rec)) (s .kind) (w .ensures) (c .before .before .before .before .before .before .before .before .before .number-in .ensures) (c .before .before .before .before .before .before .before .before .before .before .count .ensures)) in
     let same = given-back l (s .kind) (s .s .0) (s .b) (r .certificate-for .result) (w .result) xs ys (r .certificate-for .ensures) longX longY _ _ in
     (masks, subst (λ (z : Certificate). Room (now (s .buffer)) (s .at) (certificateBytes z)) (sym same) (start .pre .room))
 
@@ -73,7 +77,7 @@ same-length c = search needs
 
 returns : tie.Need-returns
 returns c =
-    let start = c .before .before .before .before .before .before .before .before .before .before .before .before .before .before .before in
+    let start = c .before .before .before .before .before .before .before .before .before .before .before .before .before .before .before .before in
     let s = start .args in
     let l = ledgerOf (now (s .rec)) in
     let r = c .before .before .before .before .before .before .before .before in
@@ -90,7 +94,8 @@ pub lay-certificate-spec : {M : Type 1} → statement M
 lay-certificate-spec =
     tie.close
     (tie.spec
-    kind-number-requires
+    count-requires
+    number-in-requires
     words-in-requires
     array-borrow-prefix-x
     slice-aggregate-certificate-for

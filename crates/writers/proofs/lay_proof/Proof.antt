@@ -1,12 +1,11 @@
 -- One certificate or two, each at its place.
 use mathlib.Core.Path.{sym, _∙_, refl}
-use native.Mathlib.Omega.{arith}
 use denote.Ref.{now}
 use borrow.Author.Needs.{needs}
 use Rattle.rulebook.specs.declared.CertificateKind.the-variants as certificate
 use Rattle.rulebook.specs.Checker.{isOtherKind}
 use Rattle.record.specs.Layout.{ledgerOf}
-use Rattle.writers.proofs.Laid.{weighing, room-front, room-next, laid-fast, laid-slow}
+use Rattle.writers.proofs.Laid.{weighing, room-front, room-either, room-next, laid-fast, laid-slow}
 use Rattle.writers.proofs.lay_proof.Statement.{statement}
 use Rattle.writers.proofs.lay_proof.Tie as tie
 
@@ -20,7 +19,7 @@ unfolding isOtherKind
 lay-certificate-requires c κs =
     let start = c .before .before .before .before .before in
     let s = start .args in
-    let room = room-front (ledgerOf (now (s .rec))) certificate.FastFinal (s .s .0) (s .b) (now (s .buffer)) (start .pre .slot) (omega (arith, start .pre .room)) in
+    let room = room-front (ledgerOf (now (s .rec))) certificate.FastFinal (s .s .0) (s .b) (now (s .buffer)) (start .pre .slot) (room-either _ _ (start .pre .room)) in
     record { sound = start .pre .sound; kind = refl; slot = start .pre .slot; room = room }
 
 same-length : tie.Need-same-length
@@ -37,7 +36,7 @@ unfolding isOtherKind
 lay-certificate-requires-2 c κs =
     let start = c .before .before .before .before .before in
     let s = start .args in
-    let room = room-front (ledgerOf (now (s .rec))) certificate.Notar (s .s .0) (s .b) (now (s .buffer)) (start .pre .slot) (omega (arith, start .pre .room)) in
+    let room = room-front (ledgerOf (now (s .rec))) certificate.Notar (s .s .0) (s .b) (now (s .buffer)) (start .pre .slot) (room-either _ _ (start .pre .room)) in
     record { sound = start .pre .sound; kind = refl; slot = start .pre .slot; room = room }
 
 lay-certificate-requires-3 : tie.Need-lay-certificate-requires-3

@@ -6,9 +6,10 @@ use borrow.Author.Tests.{not-true, not-false}
 use borrow.Author.Needs.{needs}
 use Rattle.rulebook.specs.declared.Verdict.the-variants.{Fine}
 use Rattle.record.specs.Layout.{ledgerOf}
+use Rattle.soundness.proofs.Laws.{sound-long}
 use Rattle.numbers.proofs.Stores.{writes-refused, writes-laid}
 use Rattle.writers.proofs.Verdicts.{certificate-fine, slot-row}
-use Rattle.writers.proofs.Laid.{room-front, writes-unsound, certificate-unsound, certificate-judged}
+use Rattle.writers.proofs.Laid.{kind-asked, room-front, writes-unsound, certificate-unsound, certificate-judged}
 use Rattle.writers.proofs.write_certificate.Statement.{statement}
 use Rattle.writers.proofs.write_certificate.Tie as tie
 
@@ -21,8 +22,14 @@ returns c =
     writes-unsound _ (now (s .buffer))
     (certificate-unsound (now (s .rec)) (length (now (s .buffer))) (s .kind) (s .slot .0) (s .block) (sym (c .before .sound .ensures) ∙ not-true _ (c .if1 .taken)))
 
+count-requires : tie.Need-count-requires
+count-requires c κs = sound-long _ (sym (c .before .sound .ensures) ∙ not-false _ (c .if1 .left))
+
+kind-in-requires : tie.Need-kind-in-requires
+kind-in-requires c κs = search needs
+
 judge-certificate-requires : tie.Need-judge-certificate-requires
-judge-certificate-requires c κs = sym (c .before .sound .ensures) ∙ not-false _ (c .if1 .left)
+judge-certificate-requires c κs = sym (c .before .before .before .sound .ensures) ∙ not-false _ (c .before .before .if1 .left)
 
 enum-known-v : tie.Need-enum-known-v
 enum-known-v c = search needs
@@ -32,20 +39,20 @@ enum-told c = search needs
 
 lay-certificate-requires : tie.Need-lay-certificate-requires
 lay-certificate-requires c κs =
-    let s = c .before .before .before .before .before .before .before .before .args in
-    let f = certificate-fine (ledgerOf (now (s .rec))) (length (now (s .buffer))) (s .kind) (s .slot .0) (s .block) (sym (c .before .before .before .judge-certificate .ensures) ∙ c .before .enum-told .given .1) in
+    let s = c .before .before .before .before .before .before .before .before .before .before .args in
+    let f = certificate-fine (ledgerOf (now (s .rec))) (length (now (s .buffer))) _ (s .slot .0) (s .block) (sym (c .before .before .before .judge-certificate .ensures) ∙ c .before .enum-told .given .1) in
     record {
-      sound = sym (c .before .before .before .before .before .sound .ensures) ∙ not-false _ (c .before .before .before .before .if1 .left);
+      sound = sym (c .before .before .before .before .before .before .before .sound .ensures) ∙ not-false _ (c .before .before .before .before .before .before .if1 .left);
       kind = f .kind;
       slot = slot-row _ (f .slot);
-      room = room-front (ledgerOf (now (s .rec))) (s .kind) (s .slot .0) (s .block) (now (s .buffer)) (slot-row _ (f .slot)) (f .room);
+      room = room-front (ledgerOf (now (s .rec))) _ (s .slot .0) (s .block) (now (s .buffer)) (slot-row _ (f .slot)) (f .room);
     }
 
 returns-2 : tie.Need-returns-2
 returns-2 c =
-    let s = c .before .before .before .before .before .before .before .before .args in
+    let s = c .before .before .before .before .before .before .before .before .before .before .args in
     writes-refused _ _ (now (s .buffer)) _
-    (certificate-judged (now (s .rec)) (length (now (s .buffer))) (s .kind) (s .slot .0) (s .block) _ (sym (c .before .before .before .before .before .sound .ensures) ∙ not-false _ (c .before .before .before .before .if1 .left))
+    (certificate-judged (now (s .rec)) (length (now (s .buffer))) (s .kind) (s .slot .0) (s .block) _ (kind-asked (now (s .rec)) (s .kind) (c .before .before .before .before .kind-in .ensures) (c .before .before .before .before .before .count .ensures)) _ (sym (c .before .before .before .before .before .before .before .sound .ensures) ∙ not-false _ (c .before .before .before .before .before .before .if1 .left))
     (sym (c .before .v .given .1) ∙ c .before .before .before .judge-certificate .ensures))
 
 same-length : tie.Need-same-length
@@ -53,9 +60,9 @@ same-length c = search needs
 
 returns-3 : tie.Need-returns-3
 returns-3 c =
-    let s = c .before .before .before .before .before .before .before .before .before .before .before .args in
+    let s = c .before .before .before .before .before .before .before .before .before .before .before .before .before .args in
     writes-laid _ _
-    (certificate-judged (now (s .rec)) (length (now (s .buffer))) (s .kind) (s .slot .0) (s .block) Fine (sym (c .before .before .before .before .before .before .before .before .sound .ensures) ∙ not-false _ (c .before .before .before .before .before .before .before .if1 .left))
+    (certificate-judged (now (s .rec)) (length (now (s .buffer))) (s .kind) (s .slot .0) (s .block) _ (kind-asked (now (s .rec)) (s .kind) (c .before .before .before .before .before .before .before .kind-in .ensures) (c .before .before .before .before .before .before .before .before .count .ensures)) Fine (sym (c .before .before .before .before .before .before .before .before .before .before .sound .ensures) ∙ not-false _ (c .before .before .before .before .before .before .before .before .before .if1 .left))
     (sym (c .before .before .before .before .enum-told .given .1) ∙ c .before .before .before .before .before .before .judge-certificate .ensures))
     (c .before .before .lay-certificate .ensures)
 
@@ -65,6 +72,8 @@ write-certificate-spec =
     (tie.spec
     sound-requires
     returns
+    count-requires
+    kind-in-requires
     judge-certificate-requires
     enum-known-v
     enum-told
