@@ -34,12 +34,12 @@ enum qr_number {
     QR_BAD_SIZES = 1,     /* stake table, own number or genesis out of range */
     QR_BAD_NODE = 2,      /* node number not in the table */
     QR_BAD_SLOT = 3,      /* slot not 1 to 16 */
-    QR_BAD_KIND = 4,      /* kind not 1 to 5 */
+    QR_BAD_KIND = 4,      /* kind not 1 to 5; of a certificate with a large table, not 11 to 15 */
     QR_BAD_BLOCK = 5,     /* block 0 where one is needed, or not 0 where none is */
     QR_OWN_NAME = 6,      /* vote in the own node's name from outside */
     QR_ALREADY_KEPT = 7,  /* that very vote, block with parent, or timeout is kept */
     QR_OTHER_STANDS = 8,  /* another stands in its place */
-    QR_NO_ROOM = 9,       /* outbox below 384 words; buffer below 32, 64 or 16 bytes; too few places for a tray's answers */
+    QR_NO_ROOM = 9,       /* outbox below 384 words; buffer below its bytes (enum qr_size); too few places for a tray's answers */
     QR_NOT_ARMED = 10,    /* timeout for a window that is not armed */
     QR_BAD_PARENT = 11,   /* parent slot not below the slot, or slot 0 without genesis */
     QR_BAD_LENGTH = 12,   /* packet ends early, or bytes remain; a part of a vote ends a tray */
@@ -60,13 +60,19 @@ enum qr_vote_kind {
     QR_VOTE_FINAL = 5
 };
 
-/* Kinds of certificates: who counts, and which part of the stake they reach. Kinds 4 and 5 carry block 0. */
+/*
+ * Kinds of certificates: who counts, and which part of the stake they reach. Kinds 4 and 5 carry block 0. The number of nodes
+ * alone tells the family of a ring's certificates. Up to QR_MOST_SMALL nodes: these kinds, each signer mask one number. With
+ * more, a large table: QR_LARGE_KINDS is added, 11 to 15 with the same meanings, and each mask is 32 numbers, lowest nodes
+ * first. Either ring refuses the other's kinds with 4, writing and checking.
+ */
 enum qr_certificate_kind {
     QR_CERTIFICATE_FAST_FINAL = 1,     /* notar, 80 percent */
     QR_CERTIFICATE_NOTAR = 2,          /* notar, 60 percent */
     QR_CERTIFICATE_NOTAR_FALLBACK = 3, /* notar or notar-fallback, 60 percent */
     QR_CERTIFICATE_SKIP = 4,           /* skip or skip-fallback, 60 percent */
-    QR_CERTIFICATE_FINAL = 5           /* final, 60 percent */
+    QR_CERTIFICATE_FINAL = 5,          /* final, 60 percent */
+    QR_LARGE_KINDS = 10
 };
 
 /* Kinds of records in an outbox: 1 to 5 are votes that the node has cast, with the kinds of votes. */
@@ -85,12 +91,15 @@ enum qr_size {
     QR_OUTBOX_WORDS = 384,     /* words of an outbox, 128 records of three, or more */
     QR_CERTIFICATE_BYTES = 32, /* bytes of a buffer for a certificate, or more */
     QR_PROOF_BYTES = 64,       /* bytes of a buffer for a proof, or more */
-    QR_VOTE_BYTES = 16,        /* bytes of a buffer for a vote message, or more */
-    QR_MOST_NODES = 64,
+    QR_LARGE_CERTIFICATE_BYTES = 768, /* the same with a large table */
+    QR_LARGE_PROOF_BYTES = 1536,
+    QR_VOTE_BYTES = 16,        /* bytes of a buffer for a vote message, or more, with any table */
+    QR_MOST_SMALL = 64,        /* a table of more nodes is large: its certificates have kinds 11 to 15 */
+    QR_MOST_NODES = 2048,
     QR_LAST_SLOT = 16
 };
 
-/* Words of a record of a ring of so many nodes, 1 to QR_MOST_NODES, exactly. */
+/* Words of a record of a ring of so many nodes, 1 to QR_MOST_NODES, exactly: 453 for three nodes, 245,853 for 2,048. */
 #define QR_RECORD_WORDS(nodes) (93 + 120 * (size_t)(nodes))
 
 /*
@@ -102,7 +111,7 @@ size_t qr_record_words(size_t stake_count);
 size_t qr_outbox_words(void);
 
 /*
- * Makes the record's words a fresh node: stakes of nodes 0, 1 .. (1 to 64 of them, each at least 1, together at most
+ * Makes the record's words a fresh node: stakes of nodes 0, 1 .. (1 to 2,048 of them, each at least 1, together at most
  * 2^48), the own node's number, genesis's number (not 0). What stood in the words does not matter. Answers 17 where
  * they are not qr_record_words(stake_count) many, else 1 where something is out of range; then the words stay.
  */
@@ -142,7 +151,8 @@ uint64_t qr_tray(uint64_t *record, size_t record_words, uint64_t *outbox, size_t
 
 /*
  * Write a packet to the buffer's front and put the number of its bytes into *written; bytes past them and the record
- * stay. A certificate's buffer has at least 32 bytes, a proof's 64. Refusals: 17, 9, 4, 3, 5, 18, those that apply.
+ * stay. A certificate's buffer has at least 32 bytes, a proof's 64; with a large table 768 and 1,536. Refusals: 17, 9, 4, 3,
+ * 5, 18, those that apply.
  */
 uint64_t qr_write_certificate(const uint64_t *record, size_t record_words, uint8_t *buffer, size_t buffer_bytes,
                               size_t *written, uint64_t kind, size_t slot, uint64_t block);
@@ -151,10 +161,11 @@ uint64_t qr_write_proof(const uint64_t *record, size_t record_words, uint8_t *bu
                         size_t slot, uint64_t block);
 
 /*
- * Check a packet against the stakes alone. values gets kind, slot, block, signer count and weight of the certificate, or
- * of the proof's first; zeros beside a refusal. *missing gets, beside 15, the least further stake with which the
- * certificate that is too light, in a proof the first or the second, would reach its threshold; otherwise 0. Refusals: 1,
- * 12, 13, 4, 3, 5, 14, 15, and 16 for a proof.
+ * Check a packet against the stakes alone; their number tells the family. The kind, read first, tells how many numbers are
+ * read, five or 67, whatever the table: a whole certificate of the other family is refused with 4, a broken one with 12 or 13.
+ * values gets kind, slot, block, signer count and weight of the certificate, or of the proof's first; zeros beside a
+ * refusal. *missing gets, beside 15, the least further stake with which the certificate that is too light, in a proof the
+ * first or the second, would reach its threshold; otherwise 0. Refusals: 1, 12, 13, 4, 3, 5, 14, 15, and 16 for a proof.
  */
 uint64_t qr_check_certificate(const uint64_t *stakes, size_t stake_count, const uint8_t *packet, size_t packet_bytes,
                               uint64_t values[5], uint64_t *missing);
@@ -163,8 +174,8 @@ uint64_t qr_check_proof(const uint64_t *stakes, size_t stake_count, const uint8_
                         uint64_t values[5], uint64_t *missing);
 
 /*
- * A vote as a message between members: kind, node, slot and block in the packets' numbers, at most 16 bytes. Both take the
- * number of nodes of the ring.
+ * A vote as a message between members: kind, node, slot and block in the packets' numbers, at most 16 bytes, in small and
+ * large rings alike. Both take the number of nodes of the ring, 1 to 2,048, else they answer 1.
  */
 
 /* Reads a message into kind, node, slot, block; zeros beside a refusal. Refusals: 1, 12, 13, 4, 3, 2, 5, and 12 for leftover bytes. */

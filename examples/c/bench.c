@@ -1,5 +1,6 @@
 /* Bench cases B1 and B9 of the scope document, through the C face: one node of stake 5, one block, its finality proof; and a
-   proof that is too light, with what is missing. Then a vote as a message, and a tray of votes. */
+   proof that is too light, with what is missing. Then a vote as a message, a tray of votes, and a ring of 100 nodes, whose
+   certificates have the kinds 11 to 15. */
 #include <inttypes.h>
 #include <stdio.h>
 
@@ -15,7 +16,8 @@ static void show_records(const char *what, uint64_t number, const uint64_t *outb
 
 static void show_check(const char *what, uint64_t number, const uint64_t values[5], uint64_t missing)
 {
-    printf("B9: %s: %" PRIu64 ", kind %" PRIu64 " slot %" PRIu64 " block %" PRIu64 " signers %" PRIu64 " weight %" PRIu64 ", missing %" PRIu64 "\n",
+    printf("%s: %" PRIu64 ", kind %" PRIu64 " slot %" PRIu64 " block %" PRIu64 " signers %" PRIu64 " weight %" PRIu64
+           ", missing %" PRIu64 "\n",
            what, number, values[0], values[1], values[2], values[3], values[4], missing);
 }
 
@@ -52,6 +54,79 @@ static void show_tray(uint64_t *record, uint64_t *outbox)
     printf("; a part at the end: %" PRIu64 "\n", number);
 }
 
+/* The first bytes of a packet, with their number. */
+static void show_packet(const char *what, uint64_t number, const uint8_t *packet, size_t written)
+{
+    printf("ring of 100: %s: %" PRIu64 ", %zu bytes:", what, number, written);
+    for (size_t i = 0; i < written && i < 16; i++)
+        printf(" %02X", packet[i]);
+    printf(written > 16 ? " ..\n" : "\n");
+}
+
+enum { LARGE = 100 };
+static uint64_t large_stakes[LARGE], large_record[QR_RECORD_WORDS(LARGE)];
+
+/* Votes of one kind by nodes 1 to last in slot 1; answers how many were refused. */
+static size_t give_votes(uint64_t *outbox, size_t last, uint64_t kind, uint64_t block)
+{
+    size_t made, refused = 0;
+    for (size_t node = 1; node <= last; node++)
+        refused += qr_vote(large_record, QR_RECORD_WORDS(LARGE), outbox, QR_OUTBOX_WORDS, &made, kind, node, 1, block) != QR_DONE;
+    return refused;
+}
+
+/* A certificate of the ring: its kind is one of 11 to 15 and its buffer has 768 bytes. */
+static void show_large_certificate(void)
+{
+    uint8_t packet[QR_LARGE_CERTIFICATE_BYTES];
+    uint64_t values[5], missing;
+    size_t written;
+    const uint64_t notar = QR_LARGE_KINDS + QR_CERTIFICATE_NOTAR;
+    uint64_t number = qr_write_certificate(large_record, QR_RECORD_WORDS(LARGE), packet, sizeof packet - 1, &written, notar, 1, 7);
+    show_packet("kind 12 into 767 bytes", number, packet, written);
+    number = qr_write_certificate(large_record, QR_RECORD_WORDS(LARGE), packet, sizeof packet, &written, QR_CERTIFICATE_NOTAR,
+                                  1, 7);
+    show_packet("kind 2", number, packet, written);
+    number = qr_write_certificate(large_record, QR_RECORD_WORDS(LARGE), packet, sizeof packet, &written, notar, 1, 7);
+    show_packet("kind 12", number, packet, written);
+    number = qr_check_certificate(large_stakes, LARGE, packet, written, values, &missing);
+    show_check("ring of 100: kind 12 checked", number, values, missing);
+    number = qr_check_certificate(large_stakes, QR_MOST_SMALL, packet, written, values, &missing);
+    show_check("ring of 100: kind 12 checked with 64 stakes", number, values, missing);
+}
+
+/* A finality proof of the ring, in a buffer of 1,536 bytes. */
+static void show_large_proof(const char *what)
+{
+    uint8_t packet[QR_LARGE_PROOF_BYTES];
+    uint64_t values[5], missing;
+    size_t written;
+    uint64_t number = qr_write_proof(large_record, QR_RECORD_WORDS(LARGE), packet, sizeof packet - 1, &written, 1, 7);
+    printf("ring of 100: proof into 1535 bytes: %" PRIu64 "\n", number);
+    number = qr_write_proof(large_record, QR_RECORD_WORDS(LARGE), packet, sizeof packet, &written, 1, 7);
+    show_packet(what, number, packet, written);
+    number = qr_check_proof(large_stakes, LARGE, packet, written, values, &missing);
+    show_check("ring of 100: that proof checked", number, values, missing);
+}
+
+/* 100 nodes of stake 1: 60 notar votes make kind 12, with 60 final votes the block is final; 80 notar votes make kind 11. */
+static void show_large(uint64_t *outbox)
+{
+    const uint8_t old_kind[5] = {0x02, 0x01, 0x07, 0x01, 0x00};
+    uint64_t values[5], missing;
+    for (size_t i = 0; i < LARGE; i++)
+        large_stakes[i] = 1;
+    uint64_t number = qr_start(large_record, QR_RECORD_WORDS(LARGE), large_stakes, LARGE, 0, 1);
+    size_t refused = give_votes(outbox, 60, QR_VOTE_NOTAR, 7) + give_votes(outbox, 60, QR_VOTE_FINAL, 0);
+    printf("ring of 100: started: %" PRIu64 ", 120 votes, %zu refused\n", number, refused);
+    show_large_certificate();
+    show_large_proof("proof of kinds 12 and 15");
+    printf("ring of 100: notar votes again and 20 more: %zu refused\n", give_votes(outbox, 80, QR_VOTE_NOTAR, 7));
+    show_large_proof("proof of kind 11");
+    number = qr_check_certificate(large_stakes, LARGE, old_kind, sizeof old_kind, values, &missing);
+    show_check("ring of 100: kind 2 checked", number, values, missing);
+}
+
 int main(void)
 {
     const uint64_t stakes[1] = {5};
@@ -81,12 +156,13 @@ int main(void)
         printf(" %02X", packet[i]);
     printf("\n");
     number = qr_check_proof(stakes, 1, packet, written, values, &missing);
-    show_check("that proof", number, values, missing);
+    show_check("B9: that proof", number, values, missing);
     number = qr_check_proof(stakes, 1, long_proof, sizeof long_proof, values, &missing);
-    show_check("kinds 2 and 5", number, values, missing);
+    show_check("B9: kinds 2 and 5", number, values, missing);
     number = qr_check_proof(stakes, 1, light_proof, sizeof light_proof, values, &missing);
-    show_check("kind 5 without signers", number, values, missing);
+    show_check("B9: kind 5 without signers", number, values, missing);
     show_message();
     show_tray(record, outbox);
+    show_large(outbox);
     return 0;
 }

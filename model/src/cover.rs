@@ -4,6 +4,8 @@
 use crate::gen;
 use crate::packet;
 use crate::panel::{lines, Answer, Panel};
+use crate::refusal::Refusal;
+use crate::stakes::{Family, Stakes};
 use std::collections::BTreeMap;
 use std::io::{self, Write};
 
@@ -117,12 +119,12 @@ impl Cover {
         };
         *self.answers.entry(command.to_string()).or_default().entry(number.to_string()).or_insert(0) += 1;
         match command {
-            "start" if number == "0" => self.life = 0,
+            "start" if number == "0" => self.take_start(words.len() - 3),
             "vote" | "block" | "timeout" | "look" => self.take_records(&answered),
             "tray" if number == "0" => self.take_tray(&answered),
             "cert" | "proof" if number == "0" => self.take_written(command, answered[2]),
             "unpack" if number == "0" => self.note(format!("unpack 0, {} bytes", words[2].len() / 2)),
-            "checkproof" if number != "?" => self.take_checked_proof(&words, number),
+            "check" | "checkproof" if number != "?" => self.take_checked(&words, number),
             _ => {}
         }
         if number == "15" {
@@ -182,20 +184,54 @@ impl Cover {
         let bytes = from_hex(hex);
         let mut rest = bytes.as_slice();
         let numbers: Vec<u64> = std::iter::from_fn(|| packet::take_number(&mut rest).ok()).collect();
+        let words = Family::of_kind(numbers[0]).mask_words();
+        let by_fallback = |cert: &[u64]| cert[3 + words..].iter().any(|&word| word != 0);
         let forms: Vec<String> = numbers
-            .chunks(5)
-            .map(|cert| format!("{}{}", cert[0], if cert[4] != 0 { " with fallback signers" } else { "" }))
+            .chunks(3 + 2 * words)
+            .map(|cert| {
+                format!("{}{}", cert[0], if by_fallback(cert) { " with fallback signers" } else { "" })
+            })
             .collect();
         self.note(format!("{command} written: kind {}", forms.join(" then ")));
     }
 
-    /// Tells refusals of a proof's second certificate from those of its first.
-    fn take_checked_proof(&mut self, words: &[&str], number: &str) {
+    fn take_start(&mut self, nodes: usize) {
+        self.life = 0;
+        self.note(match nodes {
+            1..=63 => "start with 1 to 63 nodes",
+            64 => "start with 64 nodes",
+            65 => "start with 65 nodes",
+            66..=128 => "start with 66 to 128 nodes",
+            129..=2047 => "start with 129 to 2047 nodes",
+            _ => "start with 2048 nodes",
+        });
+    }
+
+    /// The answers for large tables, kinds of the other family, and refusals of
+    /// a proof's second certificate apart from those of its first.
+    fn take_checked(&mut self, words: &[&str], number: &str) {
+        let command = words[0];
         let bytes = if words[1] == "-" { Vec::new() } else { from_hex(words[1]) };
         let stakes: Vec<u64> = words[2..].iter().filter_map(|word| word.parse().ok()).collect();
-        let good_first = (1..=bytes.len()).find_map(|end| packet::check(&bytes[..end], &stakes).ok());
-        if let Some(first) = good_first {
-            self.note(format!("checkproof {number} after a good first certificate of kind {}", first.kind));
+        let stakes = match Stakes::new(&stakes) {
+            Ok(stakes) => stakes,
+            Err(_) => return,
+        };
+        if stakes.family() == Family::Large {
+            self.note(format!("{command} {number}, large table"));
+        }
+        let mut rest = bytes.as_slice();
+        match packet::check_one(&mut rest, &stakes) {
+            Ok((_, first)) if command == "checkproof" => {
+                self.note(format!(
+                    "checkproof {number} after a good first certificate of kind {}",
+                    first.kind
+                ));
+            }
+            Err(Refusal::NoSuchKind) if matches!(bytes[0], 1..=5 | 11..=15) => {
+                self.note(format!("{command} 4 for a kind of the other family"));
+            }
+            _ => {}
         }
     }
 

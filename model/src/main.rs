@@ -3,6 +3,7 @@
 mod compare;
 mod cover;
 mod gen;
+mod measure;
 mod message;
 mod node;
 mod packet;
@@ -22,7 +23,9 @@ const USAGE: &str = "usage:
   model gen SEED                            prints the script of that seed
   model compare SEED COUNT [SECONDS LEAST] -- PROGRAM [WORD..]
                                             runs PROGRAM beside the model
-  model cover SEED COUNT                    counts what those scripts reach";
+  model cover SEED COUNT                    counts what those scripts reach
+  model measure NODES RECORD OPERATION ROUNDS
+                                            one operation, for its cost";
 
 fn main() -> ExitCode {
     let words: Vec<String> = std::env::args().skip(1).collect();
@@ -51,6 +54,12 @@ fn obey(words: &[&str]) -> Option<io::Result<bool>> {
         ["cover", seed, count] => {
             let cover = cover::cover(seed.parse().ok()?, count.parse().ok()?);
             Some(cover.show(&mut io::stdout().lock()).map(|()| true))
+        }
+        ["measure", nodes, record, operation, rounds] => {
+            let (nodes, rounds) = (nodes.parse().ok()?, rounds.parse().ok()?);
+            let (record, operation) = (record.to_string(), operation.to_string());
+            let task = measure::Task { nodes, record, operation, rounds };
+            measure::measure(&task).map(|()| Ok(true))
         }
         ["compare", rest @ ..] => Some(Ok(compare::compare(&compare_task(rest)?))),
         _ => None,

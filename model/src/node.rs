@@ -5,7 +5,7 @@
 //! sentence of the document.
 
 use crate::refusal::Refusal;
-use crate::stakes::{Stakes, Threshold, P20, P40, P60, P80};
+use crate::stakes::{Signers, Stakes, Threshold, P20, P40, P60, P80};
 use std::collections::{BTreeMap, BTreeSet};
 
 pub const LAST_SLOT: u64 = 16;
@@ -240,7 +240,8 @@ pub struct Node {
     stakes: Stakes,
     own: usize,
     genesis: u64,
-    pool: Vec<Vec<Cell>>,
+    /// By slot and node, for the nodes with votes in that slot.
+    pool: Vec<BTreeMap<usize, Cell>>,
     kept: [Option<Block>; ROWS],
     timed_out: [bool; ROWS],
     /// By the window's first slot.
@@ -279,8 +280,8 @@ impl Node {
         Ok(Node {
             own: own as usize,
             genesis,
-            pool: vec![vec![Cell::default(); stakes.count()]; ROWS],
             stakes,
+            pool: vec![BTreeMap::new(); ROWS],
             kept: [None; ROWS],
             timed_out: [false; ROWS],
             armed: [false; ROWS],
@@ -290,16 +291,24 @@ impl Node {
         })
     }
 
+    /// With these votes stored, and no rule run yet.
+    pub fn with_votes(mut self, votes: Vec<(u64, usize, Vote)>) -> Node {
+        for (slot, node, vote) in votes {
+            self.pool[slot as usize].entry(node).or_default().store(vote);
+        }
+        self
+    }
+
     pub fn stakes(&self) -> &Stakes {
         &self.stakes
     }
 
-    pub fn cells(&self, slot: u64) -> &[Cell] {
-        &self.pool[slot as usize]
+    fn cells(&self, slot: u64) -> impl Iterator<Item = &Cell> {
+        self.pool[slot as usize].values()
     }
 
-    pub fn own_cell(&self, slot: u64) -> &Cell {
-        &self.pool[slot as usize][self.own]
+    pub fn own_cell(&self, slot: u64) -> Cell {
+        self.pool[slot as usize].get(&self.own).cloned().unwrap_or_default()
     }
 
     pub fn kept_block(&self, slot: u64) -> Option<Block> {
@@ -310,10 +319,15 @@ impl Node {
         self.armed[first_of_window(slot) as usize]
     }
 
+    fn nodes_with(&self, slot: u64, counts: impl Fn(&Cell) -> bool) -> Signers {
+        let cells = self.pool[slot as usize].iter();
+        cells.filter(|(_, cell)| counts(cell)).map(|(&node, _)| node).collect()
+    }
+
     /// Each node's stake is taken once, however many of its votes count.
     fn weight(&self, slot: u64, counts: impl Fn(&Cell) -> bool) -> u64 {
-        let cells = self.cells(slot).iter();
-        cells.zip(self.stakes.each()).filter(|(cell, _)| counts(cell)).map(|(_, &stake)| stake).sum()
+        let cells = self.pool[slot as usize].iter();
+        cells.filter(|(_, cell)| counts(cell)).map(|(&node, _)| self.stakes.of(node)).sum()
     }
 
     fn notar_weight(&self, slot: u64, block: u64) -> u64 {
@@ -326,7 +340,7 @@ impl Node {
 
     /// Every block with an initial notar vote in the slot, lowest first.
     pub fn notar_blocks(&self, slot: u64) -> BTreeSet<u64> {
-        self.cells(slot).iter().filter_map(Cell::notar_block).collect()
+        self.cells(slot).filter_map(Cell::notar_block).collect()
     }
 
     pub fn holds(&self, slot: u64, cert: Cert) -> bool {
@@ -334,15 +348,10 @@ impl Node {
         self.stakes.reaches(weight, cert.threshold())
     }
 
-    fn mask(&self, slot: u64, counts: impl Fn(&Cell) -> bool) -> u64 {
-        let cells = self.cells(slot).iter().enumerate();
-        cells.filter(|(_, cell)| counts(cell)).map(|(node, _)| 1u64 << node).sum()
-    }
-
     /// Masks A and B of a certificate. B leaves out who is in A already.
-    pub fn signers(&self, slot: u64, cert: Cert) -> (u64, u64) {
-        let a = self.mask(slot, |cell| cert.counts_first(cell));
-        let b = self.mask(slot, |cell| cert.counts_fallback(cell) && !cert.counts_first(cell));
+    pub fn signers(&self, slot: u64, cert: Cert) -> (Signers, Signers) {
+        let a = self.nodes_with(slot, |cell| cert.counts_first(cell));
+        let b = self.nodes_with(slot, |cell| cert.counts_fallback(cell) && !cert.counts_first(cell));
         (a, b)
     }
 
@@ -386,7 +395,7 @@ impl Node {
     pub fn stored_votes(&self) -> Vec<(u64, usize, Vote)> {
         let mut all = Vec::new();
         for slot in 1..=LAST_SLOT {
-            for (node, cell) in self.cells(slot).iter().enumerate() {
+            for (&node, cell) in &self.pool[slot as usize] {
                 all.extend(cell.votes().into_iter().map(|vote| (slot, node, vote)));
             }
         }
@@ -410,7 +419,7 @@ impl Node {
             return Err(Refusal::OwnName);
         }
         vote.allows_block(block)?;
-        let cell = &mut self.pool[slot as usize][node as usize];
+        let cell = self.pool[slot as usize].entry(node as usize).or_default();
         if cell.keeps(vote) {
             return Err(Refusal::AlreadyKept);
         }
@@ -519,7 +528,7 @@ impl Node {
     }
 
     fn cast(&mut self, slot: u64, vote: Vote) {
-        self.pool[slot as usize][self.own].store(vote);
+        self.pool[slot as usize].entry(self.own).or_default().store(vote);
         self.record(vote.kind(), slot, vote.block());
     }
 

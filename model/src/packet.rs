@@ -2,7 +2,7 @@
 
 use crate::node::{is_slot, Cert, Node};
 use crate::refusal::Refusal;
-use crate::stakes::Stakes;
+use crate::stakes::{Family, Signers, Stakes};
 
 /// 64 bits need ten groups of seven; the tenth has room for one bit only.
 const TENTH: usize = 9;
@@ -34,10 +34,36 @@ pub fn take_number(packet: &mut &[u8]) -> Result<u64, Refusal> {
     unreachable!()
 }
 
+// ---- kinds and masks of the two families ----
+
+/// The certificate that a kind of this family means.
+fn cert_of_kind(family: Family, kind: u64, block: u64) -> Result<Cert, Refusal> {
+    let meaning = kind.checked_sub(family.kinds_after());
+    meaning.and_then(|meaning| Cert::of_kind(meaning, block)).ok_or(Refusal::NoSuchKind)
+}
+
+/// Bit i of word w stands for node 64 w + i.
+pub fn mask(signers: &Signers, family: Family) -> Vec<u64> {
+    let mut words = vec![0; family.mask_words()];
+    for node in signers {
+        words[node / 64] |= 1 << (node % 64);
+    }
+    words
+}
+
+fn take_mask(packet: &mut &[u8], family: Family) -> Result<Signers, Refusal> {
+    let mut signers = Signers::new();
+    for place in 0..family.mask_words() {
+        let word = take_number(packet)?;
+        signers.extend((0..64).filter(|bit| word >> bit & 1 == 1).map(|bit| 64 * place + bit));
+    }
+    Ok(signers)
+}
+
 // ---- writers ----
 
 pub fn write_cert(node: &Node, kind: u64, slot: u64, block: u64) -> Result<Vec<u8>, Refusal> {
-    let cert = Cert::of_kind(kind, block).ok_or(Refusal::NoSuchKind)?;
+    let cert = cert_of_kind(node.stakes().family(), kind, block)?;
     if !is_slot(slot) {
         return Err(Refusal::NoSuchSlot);
     }
@@ -69,9 +95,13 @@ pub fn write_proof(node: &Node, slot: u64, block: u64) -> Result<Vec<u8>, Refusa
 }
 
 fn cert_bytes(node: &Node, slot: u64, cert: Cert) -> Vec<u8> {
+    let family = node.stakes().family();
     let (a, b) = node.signers(slot, cert);
+    let mut numbers = vec![cert.kind() + family.kinds_after(), slot, cert.block()];
+    numbers.extend(mask(&a, family));
+    numbers.extend(mask(&b, family));
     let mut packet = Vec::new();
-    for number in [cert.kind(), slot, cert.block(), a, b] {
+    for number in numbers {
         put_number(&mut packet, number);
     }
     packet
@@ -91,7 +121,7 @@ pub struct Checked {
 pub fn check(packet: &[u8], stakes: &[u64]) -> Result<Checked, Refusal> {
     let stakes = Stakes::new(stakes)?;
     let mut rest = packet;
-    let checked = check_one(&mut rest, &stakes)?;
+    let (_, checked) = check_one(&mut rest, &stakes)?;
     nothing_remains(rest)?;
     Ok(checked)
 }
@@ -99,12 +129,12 @@ pub fn check(packet: &[u8], stakes: &[u64]) -> Result<Checked, Refusal> {
 pub fn check_proof(packet: &[u8], stakes: &[u64]) -> Result<Checked, Refusal> {
     let stakes = Stakes::new(stakes)?;
     let mut rest = packet;
-    let first = check_one(&mut rest, &stakes)?;
-    match first.kind {
-        1 => {}
-        2 => {
-            let second = check_one(&mut rest, &stakes)?;
-            if second.kind != 5 || second.slot != first.slot {
+    let (cert, first) = check_one(&mut rest, &stakes)?;
+    match cert {
+        Cert::FastFinal(_) => {}
+        Cert::Notar(_) => {
+            let (second_cert, second) = check_one(&mut rest, &stakes)?;
+            if second_cert != Cert::Final || second.slot != first.slot {
                 return Err(Refusal::NotAProof);
             }
         }
@@ -122,35 +152,33 @@ pub fn nothing_remains(rest: &[u8]) -> Result<(), Refusal> {
     }
 }
 
-/// One certificate off the front. All five numbers are read before any is judged.
-fn check_one(rest: &mut &[u8], stakes: &Stakes) -> Result<Checked, Refusal> {
+/// One certificate off the front. All its numbers are read before any is judged;
+/// how many they are the kind tells, whatever the table.
+pub fn check_one(rest: &mut &[u8], stakes: &Stakes) -> Result<(Cert, Checked), Refusal> {
     let kind = take_number(rest)?;
     let slot = take_number(rest)?;
     let block = take_number(rest)?;
-    let a = take_number(rest)?;
-    let b = take_number(rest)?;
+    let a = take_mask(rest, Family::of_kind(kind))?;
+    let b = take_mask(rest, Family::of_kind(kind))?;
 
-    let cert = Cert::of_kind(kind, block).ok_or(Refusal::NoSuchKind)?;
+    let cert = cert_of_kind(stakes.family(), kind, block)?;
     if !is_slot(slot) {
         return Err(Refusal::NoSuchSlot);
     }
     if cert.needs_block() != (block != 0) {
         return Err(Refusal::BlockNumber);
     }
-    let beyond = (a | b) & !nodes_of_table(stakes) != 0;
-    let in_both = a & b != 0;
-    let b_not_due = b != 0 && !cert.allows_fallback_signers();
+    let signers = &a | &b;
+    let beyond = signers.iter().any(|&node| !stakes.has_node(node as u64));
+    let in_both = !a.is_disjoint(&b);
+    let b_not_due = !b.is_empty() && !cert.allows_fallback_signers();
     if beyond || in_both || b_not_due {
         return Err(Refusal::Signers);
     }
-    let weight = stakes.weight_of_mask(a | b);
+    let weight = stakes.weight(&signers);
     let missing = stakes.missing(weight, cert.threshold());
     if missing > 0 {
         return Err(Refusal::TooLight(missing));
     }
-    Ok(Checked { kind, slot, block, count: u64::from((a | b).count_ones()), weight })
-}
-
-fn nodes_of_table(stakes: &Stakes) -> u64 {
-    (0..stakes.count()).map(|node| 1u64 << node).sum()
+    Ok((cert, Checked { kind, slot, block, count: signers.len() as u64, weight }))
 }

@@ -1,12 +1,17 @@
 //! The script: one command a line, one answer a command.
 
 use crate::message::{self, Message};
-use crate::node::{Node, Record};
+use crate::node::{is_slot, Node, Record, Vote};
 use crate::packet;
 use crate::refusal::Refusal;
+use crate::stakes::Family;
+use std::collections::BTreeSet;
 
 /// Counted without the line's end.
-pub const LONGEST_LINE: usize = 4096;
+pub const LONGEST_LINE: usize = 65_536;
+
+/// Nodes whose votes a page of `votes SLOT FROM` has.
+pub const VOTERS_A_PAGE: usize = 64;
 
 const NOT_A_COMMAND: &str = "?";
 
@@ -56,6 +61,7 @@ enum Command {
     Pack { count: u64, message: Message },
     Unpack { count: u64, bytes: Vec<u8> },
     Votes,
+    VotesOfSlot { slot: u64, from: u64 },
     Board,
     Help,
     Why,
@@ -111,7 +117,10 @@ impl Panel {
             Command::CheckProof { packet, stakes } => show_checked(packet::check_proof(&packet, &stakes)?),
             Command::Pack { count, message } => show_packet(&message::write(count, message)?),
             Command::Unpack { count, bytes } => show_message(message::read(count, &bytes)?),
-            Command::Votes => return Ok(Answer::Lines(show_votes(self.node()?))),
+            Command::Votes => return self.node().map(|node| answer_votes(node)),
+            Command::VotesOfSlot { slot, from } => {
+                return Ok(Answer::Lines(page_of_votes(self.node()?, slot, from)?))
+            }
             Command::Board => return self.node().map(|_| Answer::FreeText),
             Command::Help | Command::Why => return Ok(Answer::FreeText),
         };
@@ -164,9 +173,12 @@ fn parse(words: &[&[u8]]) -> Result<Command, Malformed> {
             Ok(Command::Timeout { slot })
         }
         b"look" => numbers::<0>(rest).map(|_| Command::Look),
-        b"votes" => numbers::<0>(rest).map(|_| Command::Votes),
-        b"board" if rest.is_empty() => Ok(Command::Board),
-        b"board" => numbers::<1>(rest).map(|_| Command::Board),
+        b"votes" if rest.is_empty() => Ok(Command::Votes),
+        b"votes" => {
+            let [slot, from] = numbers(rest)?;
+            Ok(Command::VotesOfSlot { slot, from })
+        }
+        b"board" if rest.len() <= 2 => all_numbers(rest).map(|_| Command::Board),
         b"help" => numbers::<0>(rest).map(|_| Command::Help),
         b"why" => numbers::<1>(rest).map(|_| Command::Why),
         b"cert" => {
@@ -273,9 +285,34 @@ fn show_message(m: Message) -> String {
     format!("0 {} {} {} {}", m.kind, m.node, m.slot, m.block)
 }
 
-fn show_votes(node: &Node) -> Vec<String> {
-    let show = |(slot, node, vote): (u64, usize, crate::node::Vote)| {
-        format!("{slot} {node} {} {}", vote.kind(), vote.block())
-    };
-    node.stored_votes().into_iter().map(show).collect()
+/// For large tables this is text for people.
+/// Every stored vote; of a large table what people read.
+fn answer_votes(node: &Node) -> Answer {
+    match node.stakes().family() {
+        Family::Small => Answer::Lines(node.stored_votes().iter().map(show_stored).collect()),
+        Family::Large => Answer::FreeText,
+    }
+}
+
+/// The votes of a slot by the nodes from one on, as many nodes as a page has,
+/// and where the next page begins.
+fn page_of_votes(node: &Node, slot: u64, from: u64) -> Result<Vec<String>, Refusal> {
+    if !is_slot(slot) {
+        return Err(Refusal::NoSuchSlot);
+    }
+    if !node.stakes().has_node(from) {
+        return Err(Refusal::NoSuchNode);
+    }
+    let mut votes = node.stored_votes();
+    votes.retain(|&(its_slot, its_node, _)| its_slot == slot && its_node as u64 >= from);
+    let voters: BTreeSet<usize> = votes.iter().map(|&(_, node, _)| node).collect();
+    let next = voters.into_iter().nth(VOTERS_A_PAGE);
+    let on_page = |node: usize| next.map_or(true, |next| node < next);
+    let mut lines: Vec<String> = votes.iter().filter(|vote| on_page(vote.1)).map(show_stored).collect();
+    lines.extend(next.map(|next| format!("more: votes {slot} {next}")));
+    Ok(lines)
+}
+
+fn show_stored((slot, node, vote): &(u64, usize, Vote)) -> String {
+    format!("{slot} {node} {} {}", vote.kind(), vote.block())
 }

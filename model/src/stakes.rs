@@ -1,8 +1,10 @@
 //! The stake table and the thresholds.
 
 use crate::refusal::Refusal;
+use std::collections::BTreeSet;
 
-pub const MOST_NODES: usize = 64;
+pub const MOST_NODES: usize = 2048;
+pub const MOST_NODES_OF_SMALL: usize = 64;
 pub const MOST_TOTAL: u64 = 1 << 48;
 
 /// A share of the total in fifths, so that a percentage needs no division.
@@ -13,6 +15,43 @@ pub const P80: Threshold = Threshold(4);
 pub const P60: Threshold = Threshold(3);
 pub const P40: Threshold = Threshold(2);
 pub const P20: Threshold = Threshold(1);
+
+/// Small tables have certificates of kinds 1 to 5 with masks of one word,
+/// large ones those of kinds 11 to 15 with masks of 32.
+#[derive(Clone, Copy, PartialEq, Eq, Debug)]
+pub enum Family {
+    Small,
+    Large,
+}
+
+impl Family {
+    /// What a packet's kind tells, whatever the table.
+    pub fn of_kind(kind: u64) -> Family {
+        if (11..=15).contains(&kind) {
+            Family::Large
+        } else {
+            Family::Small
+        }
+    }
+
+    pub fn mask_words(self) -> usize {
+        match self {
+            Family::Small => 1,
+            Family::Large => MOST_NODES / 64,
+        }
+    }
+
+    /// What is added to the kinds 1 to 5.
+    pub fn kinds_after(self) -> u64 {
+        match self {
+            Family::Small => 0,
+            Family::Large => 10,
+        }
+    }
+}
+
+/// The nodes that a signer mask names.
+pub type Signers = BTreeSet<usize>;
 
 #[derive(Clone, PartialEq, Eq, Debug)]
 pub struct Stakes {
@@ -35,8 +74,16 @@ impl Stakes {
         self.each.len()
     }
 
-    pub fn each(&self) -> &[u64] {
-        &self.each
+    pub fn of(&self, node: usize) -> u64 {
+        self.each[node]
+    }
+
+    pub fn family(&self) -> Family {
+        if self.count() <= MOST_NODES_OF_SMALL {
+            Family::Small
+        } else {
+            Family::Large
+        }
     }
 
     pub fn has_node(&self, node: u64) -> bool {
@@ -54,9 +101,7 @@ impl Stakes {
         self.missing(weight, threshold) == 0
     }
 
-    /// The weight of the nodes in a signer mask; bits past the table weigh nothing.
-    pub fn weight_of_mask(&self, mask: u64) -> u64 {
-        let signed = |node: usize| mask >> node & 1 == 1;
-        self.each.iter().enumerate().filter(|&(n, _)| signed(n)).map(|(_, &s)| s).sum()
+    pub fn weight(&self, signers: &Signers) -> u64 {
+        signers.iter().map(|&node| self.of(node)).sum()
     }
 }

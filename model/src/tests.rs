@@ -5,9 +5,9 @@ use crate::gen;
 use crate::message::{self, Message};
 use crate::node::{Cert, Node, Record};
 use crate::packet::{check, check_proof, put_number, take_number, write_cert, write_proof, Checked};
-use crate::panel::{lines, Answer, Panel};
+use crate::panel::{lines, Answer, Panel, LONGEST_LINE};
 use crate::refusal::Refusal;
-use crate::stakes::{Stakes, MOST_NODES, P20, P40, P60, P80};
+use crate::stakes::{Signers, Stakes, MOST_NODES, P20, P40, P60, P80};
 
 // ---- helpers ----
 
@@ -136,7 +136,7 @@ fn b6_two_votes_of_one_node_weigh_once() {
     assert_eq!(refused(write_cert(&n, 4, 3, 0)), 18);
     vote(&mut n, 4, 6, 3, 0);
     assert!(n.holds(3, Cert::Skip));
-    assert_eq!(n.signers(3, Cert::Skip), (0b11_1110, 0b100_0000));
+    assert_eq!(n.signers(3, Cert::Skip), (Signers::from([1, 2, 3, 4, 5]), Signers::from([6])));
 }
 
 #[test]
@@ -222,9 +222,13 @@ fn start_refuses_what_breaks_the_sizes() {
     let start =
         |own, genesis, stakes: &[u64]| Node::start(own, genesis, stakes).map(|_| ()).map_err(Refusal::number);
     assert_eq!(start(0, 1, &[]), Err(1));
-    assert_eq!(start(0, 1, &[1; 65]), Err(1));
+    assert_eq!(start(0, 1, &[1; 2049]), Err(1));
     assert_eq!(start(63, u64::MAX, &[1; 64]), Ok(()));
     assert_eq!(start(64, 1, &[1; 64]), Err(1));
+    assert_eq!(start(2047, 1, &[1; 2048]), Ok(()));
+    assert_eq!(start(2048, 1, &[1; 2048]), Err(1));
+    assert_eq!(start(0, 1, &[1 << 37; 2048]), Ok(()));
+    assert_eq!(start(0, 1, &[(1 << 37) + 1; 2048]), Err(1));
     assert_eq!(start(1, 1, &[1]), Err(1));
     assert_eq!(start(0, 0, &[1]), Err(1));
     assert_eq!(start(0, 1, &[1, 0, 1]), Err(1));
@@ -593,7 +597,8 @@ fn a_node_with_both_votes_is_in_mask_a_alone() {
     look(&mut n);
     votes(&mut n, 1, 1..=4, 2, 7);
     votes(&mut n, 2, 3..=7, 2, 7);
-    assert_eq!(n.signers(2, Cert::NotarFallback(7)), (0b1_1110, 0b1110_0000));
+    let masks = (Signers::from([1, 2, 3, 4]), Signers::from([5, 6, 7]));
+    assert_eq!(n.signers(2, Cert::NotarFallback(7)), masks);
     let packet = write_cert(&n, 3, 2, 7).unwrap();
     assert_eq!(packet, bytes("03 02 07 1E E0 01"));
     assert_eq!(check(&packet, &[1; 10]), Ok(Checked { kind: 3, slot: 2, block: 7, count: 7, weight: 7 }));
@@ -685,6 +690,145 @@ fn the_writer_prefers_kind_1() {
     votes(&mut n, 1, 7..=8, 2, 7);
     assert_eq!(write_proof(&n, 2, 7).unwrap(), bytes("01 02 07 FE 03 00"));
     assert_eq!(refused(write_proof(&n, 2, 8)), 18);
+}
+
+// ---- large tables ----
+
+/// A mask of the large family, by its words that are not 0.
+fn wide(words: &[(usize, u64)]) -> Vec<u8> {
+    let mut mask = vec![0; 32];
+    for &(place, word) in words {
+        mask[place] = word;
+    }
+    let mut packet = Vec::new();
+    mask.into_iter().for_each(|word| put_number(&mut packet, word));
+    packet
+}
+
+fn wide_cert(kind: u8, slot: u8, block: u8, a: &[(usize, u64)], b: &[(usize, u64)]) -> Vec<u8> {
+    [vec![kind, slot, block], wide(a), wide(b)].concat()
+}
+
+#[test]
+fn large_tables_write_the_large_kinds_only() {
+    let mut n = node(0, &[1; 65]);
+    look(&mut n);
+    votes(&mut n, 1, 26..=64, 2, 7);
+    assert_eq!(refused(write_cert(&n, 2, 2, 7)), 4);
+    assert_eq!(refused(write_cert(&n, 10, 2, 7)), 4);
+    assert_eq!(refused(write_cert(&n, 16, 2, 7)), 4);
+    assert_eq!(refused(write_cert(&n, 14, 0, 7)), 3);
+    assert_eq!(refused(write_cert(&n, 14, 2, 7)), 5);
+    assert_eq!(refused(write_cert(&n, 11, 2, 7)), 18);
+    let packet = write_cert(&n, 12, 2, 7).unwrap();
+    assert_eq!(packet, wide_cert(12, 2, 7, &[(0, !0 << 26), (1, 1)], &[]));
+    let answer = Checked { kind: 12, slot: 2, block: 7, count: 39, weight: 39 };
+    assert_eq!(check(&packet, &[1; 65]), Ok(answer));
+    votes(&mut n, 5, 26..=64, 2, 0);
+    let proof = write_proof(&n, 2, 7).unwrap();
+    assert_eq!(proof[..packet.len()], packet);
+    assert_eq!(proof[packet.len()..], wide_cert(15, 2, 0, &[(0, !0 << 26), (1, 1)], &[]));
+    assert_eq!(check_proof(&proof, &[1; 65]), Ok(answer));
+    // 64 nodes are a small table still.
+    let mut small = node(0, &[1; 64]);
+    votes(&mut small, 1, 25..=63, 2, 7);
+    assert_eq!(refused(write_cert(&small, 12, 2, 7)), 4);
+    assert!(write_cert(&small, 2, 2, 7).is_ok());
+}
+
+#[test]
+fn the_kind_fixes_how_many_numbers_are_read() {
+    let (small, large): (&[u64], &[u64]) = (&[1; 64], &[1; 65]);
+    let no = |packet: &[u8], stakes: &[u64]| refused(check(packet, stakes));
+    let good = wide_cert(12, 1, 7, &[(0, !0), (1, 1)], &[]);
+    assert!(check(&good, large).is_ok());
+    // The other family is 4, after its numbers were read.
+    assert_eq!(no(&good, small), 4);
+    assert_eq!(no(&good[..66], small), 12);
+    assert_eq!(no(&[&good[..66], &[0x80, 0]].concat(), small), 13);
+    assert_eq!(no(&bytes("02 01 07 01"), large), 12);
+    assert_eq!(no(&bytes("02 00 00 01 01"), large), 4);
+    assert_eq!(no(&bytes("10 00 00 00 00"), large), 4);
+    assert_eq!(no(&bytes("0A 00 00 00"), large), 12);
+    // As many bytes as numbers, ended one number early and one late.
+    let light = wide_cert(11, 1, 7, &[], &[]);
+    assert_eq!(light.len(), 67);
+    assert_eq!(no(&light[..66], large), 12);
+    assert_eq!(no(&light, large), 15);
+    assert_eq!(no(&[good, vec![0]].concat(), large), 12);
+}
+
+#[test]
+fn masks_of_large_tables() {
+    let stakes = [1; 130];
+    let no = |packet: Vec<u8>| refused(check(&packet, &stakes));
+    assert!(check(&wide_cert(14, 1, 0, &[(0, !0)], &[(1, !0)]), &stakes).is_ok());
+    assert!(check(&wide_cert(14, 1, 0, &[(0, !0), (2, 0b11)], &[(1, !0)]), &stakes).is_ok());
+    // Node 130 and the last place of the mask are beyond the table.
+    assert_eq!(no(wide_cert(14, 1, 0, &[(0, !0), (2, 0b100)], &[(1, !0)])), 14);
+    assert_eq!(no(wide_cert(14, 1, 0, &[(0, !0)], &[(1, !0), (31, 1 << 63)])), 14);
+    assert_eq!(no(wide_cert(14, 1, 0, &[(0, !0), (1, 1)], &[(1, !0)])), 14);
+    assert_eq!(no(wide_cert(15, 1, 0, &[(0, !0), (1, !0)], &[(2, 1)])), 14);
+    assert_eq!(refused(check(&wide_cert(15, 1, 0, &[(0, !0)], &[]), &stakes)), 15);
+    let all: Vec<(usize, u64)> = (0..32).map(|place| (place, !0)).collect();
+    let answer = Checked { kind: 11, slot: 1, block: 7, count: 2048, weight: 2048 };
+    assert_eq!(check(&wide_cert(11, 1, 7, &all, &[]), &[1; 2048]), Ok(answer));
+}
+
+#[test]
+fn proofs_of_large_tables() {
+    let stakes = [1; 65];
+    let signers = &[(0, !0)][..];
+    let proof =
+        |first: Vec<u8>, second: Vec<u8>| check_proof(&[first, second].concat(), &stakes).map(|c| c.kind);
+    let notar = || wide_cert(12, 1, 7, signers, &[]);
+    assert_eq!(proof(wide_cert(11, 1, 7, signers, &[]), vec![]), Ok(11));
+    assert_eq!(proof(notar(), wide_cert(15, 1, 0, signers, &[])), Ok(12));
+    assert_eq!(proof(notar(), wide_cert(15, 2, 0, signers, &[])), Err(Refusal::NotAProof));
+    assert_eq!(proof(notar(), bytes("05 01 00 01 00")), Err(Refusal::NoSuchKind));
+    assert_eq!(proof(wide_cert(13, 1, 7, signers, &[]), vec![]), Err(Refusal::NotAProof));
+}
+
+#[test]
+fn the_longest_packets_of_large_tables_fit_their_buffers() {
+    let mut n = node(0, &[1; 2048]);
+    votes(&mut n, 1, 819..=2047, 16, u64::MAX);
+    votes(&mut n, 2, 1..=818, 16, u64::MAX);
+    assert!(write_cert(&n, 13, 16, u64::MAX).unwrap().len() <= 768);
+    votes(&mut n, 5, 800..=2047, 16, 0);
+    assert!(write_proof(&n, 16, u64::MAX).unwrap().len() <= 1536);
+}
+
+#[test]
+fn votes_as_bytes_of_large_tables() {
+    assert_eq!(pack(2048, [1, 2047, 16, u64::MAX]).unwrap().len(), 14);
+    assert_eq!(unpack(2048, "03 FF 0F 10 00"), Ok([3, 2047, 16, 0]));
+    assert_eq!(unpack(2047, "03 FF 0F 10 00"), Err(2));
+    assert_eq!(pack(2049, [1, 1, 1, 7]), Err(1));
+}
+
+#[test]
+fn pages_of_votes() {
+    let start = format!("start 0 1{}", " 1".repeat(66));
+    let everyone: String = (1..66).map(|node| format!(" 3 {node} 2 0 5 {node} 2 0")).collect();
+    let page = |words: &str| run(&format!("{start}\ntray{everyone}\nvotes {words}"))[2..].to_vec();
+    let all: Vec<String> = (1..66).flat_map(|n| [format!("2 {n} 3 0"), format!("2 {n} 5 0")]).collect();
+    let first = page("2 0");
+    assert_eq!(first[..128], all[..128]);
+    assert_eq!(first[128..], ["more: votes 2 65"]);
+    assert_eq!(page("2 2"), all[2..]);
+    assert_eq!(page("2 65"), all[128..]);
+    assert_eq!(page("1 0"), [""; 0]);
+    assert_eq!(page("17 66"), ["3"]);
+    assert_eq!(page("16 66"), ["2"]);
+    assert_eq!(run("votes 17 0"), ["17"]);
+}
+
+#[test]
+fn the_longest_tray() {
+    let votes = (LONGEST_LINE - "tray".len()) / " 9 9 9 9".len();
+    let answer = run(&format!("start 0 1 1\ntray{}", " 9 9 9 9".repeat(votes)));
+    assert_eq!(answer[1], format!("0 0 :{}", " 4".repeat(votes)));
 }
 
 // ---- votes as bytes ----
@@ -818,10 +962,10 @@ fn text_for_people_is_left_open() {
     }
     assert_eq!(run("board\nboard 1\nboard 99"), ["17", "17", "17"]);
     panel.line(b"start 0 1 5");
-    for line in ["board", "board 1", "board 17"] {
+    for line in ["board", "board 1", "board 17", "board 1 2"] {
         assert_eq!(panel.line(line.as_bytes()), Some(Answer::FreeText), "{line}");
     }
-    let malformed = ["why", "why x", "why 1 2", "help 1", "board x", "board 1 2"];
+    let malformed = ["why", "why x", "why 1 2", "help 1", "board x", "board 1 2 3"];
     assert_eq!(run(&malformed.join("\n")), ["?"; 6]);
 }
 
@@ -832,21 +976,22 @@ fn lines_over_the_buffer() {
     let blank = |length: usize| " ".repeat(length);
     let comment = |length: usize| format!("#{}", "-".repeat(length - 1));
     for end in ["", "\n", "\r", "\r\n"] {
-        assert_eq!(run(&(command(4096) + end)), ["17"], "{end:?}");
-        assert_eq!(run(&(blank(4096) + end)), [""; 0], "{end:?}");
-        assert_eq!(run(&(comment(4096) + end)), [""; 0], "{end:?}");
-        for length in [4097, 4098, 4099, 8193] {
+        assert_eq!(run(&(command(LONGEST_LINE) + end)), ["17"], "{end:?}");
+        assert_eq!(run(&(blank(LONGEST_LINE) + end)), [""; 0], "{end:?}");
+        assert_eq!(run(&(comment(LONGEST_LINE) + end)), [""; 0], "{end:?}");
+        for length in [1, 2, 3, LONGEST_LINE + 1].map(|past| LONGEST_LINE + past) {
             for long in [command(length), blank(length), comment(length)] {
                 assert_eq!(run(&(long + end)), ["?"], "{length} {end:?}");
             }
         }
     }
     // One CR belongs to the line's end, a second one and one inside do not.
-    assert_eq!(run(&(blank(4096) + "\r\r\n")), ["?"]);
-    assert_eq!(run(&(comment(4096) + "\r\r\n")), ["?"]);
-    assert_eq!(run(&(blank(4097) + "\r \n")), ["?"]);
+    assert_eq!(run(&(blank(LONGEST_LINE) + "\r\r\n")), ["?"]);
+    assert_eq!(run(&(comment(LONGEST_LINE) + "\r\r\n")), ["?"]);
+    assert_eq!(run(&(blank(LONGEST_LINE + 1) + "\r \n")), ["?"]);
     // Such a line changes nothing, and the next one is read as it stands.
-    let script = format!("start 0 1 5\n{}\nlook\n{}\nvotes\n{}", blank(4097), comment(9000), blank(4096));
+    let (long, longer) = (blank(LONGEST_LINE + 1), comment(2 * LONGEST_LINE));
+    let script = format!("start 0 1 5\n{long}\nlook\n{longer}\nvotes\n{}", blank(LONGEST_LINE));
     assert_eq!(run(&script), ["0", "?", "0 1 7,1,0", "?"]);
 }
 
@@ -911,6 +1056,15 @@ const BRANCHES: &[&str] = &[
     "cert written: kind 4 with fallback signers",
     "proof written: kind 1",
     "proof written: kind 2 then 5",
+    "cert written: kind 12",
+    "cert written: kind 13 with fallback signers",
+    "cert written: kind 14 with fallback signers",
+    "cert written: kind 15",
+    "check 4 for a kind of the other family",
+    "checkproof 4 for a kind of the other family",
+    "checkproof 16, large table",
+    "start with 66 to 128 nodes",
+    "start with 129 to 2047 nodes",
     "tray of votes: none",
     "tray of votes: 1",
     "tray of votes: 2 to 99",
@@ -918,8 +1072,17 @@ const BRANCHES: &[&str] = &[
     "tray with records and several accepted votes",
 ];
 
-/// These end a run, so they are seldom.
-const SELDOM: &[&str] = &["quit as the last line", "quit before the last line"];
+/// These end a run or take long, so they are seldom.
+const SELDOM: &[&str] = &[
+    "quit as the last line",
+    "quit before the last line",
+    "cert written: kind 11",
+    "proof written: kind 11",
+    "proof written: kind 12 then 15",
+    "start with 64 nodes",
+    "start with 65 nodes",
+    "start with 2048 nodes",
+];
 
 #[test]
 fn a_thousand_scripts_reach_everything() {
@@ -954,7 +1117,13 @@ fn a_thousand_scripts_reach_everything() {
         let what = format!("tray: {number} between accepted votes");
         assert!(seen.notes(&what) >= 20, "few of: {what}");
     }
-    for bytes in 4..=13 {
+    for number in [0, 3, 4, 5, 12, 13, 14, 15] {
+        for command in ["check", "checkproof"] {
+            let what = format!("{command} {number}, large table");
+            assert!(seen.notes(&what) >= 5, "few of: {what}");
+        }
+    }
+    for bytes in 4..=14 {
         let what = format!("unpack 0, {bytes} bytes");
         assert!(seen.notes(&what) >= 20, "few of: {what}");
     }

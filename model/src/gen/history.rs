@@ -129,7 +129,7 @@ impl Numbers {
 /// A history of as many windows as the script has room for.
 pub fn history(w: &mut Writer) {
     let numbers = Numbers::any(&mut w.random, w.ring.genesis);
-    let votes_a_slot = w.ring.nodes() * 3 / 2 + 2;
+    let votes_a_slot = w.ring.others().len() * 3 / 2 + 3;
     let slots = (w.room() / votes_a_slot).clamp(1, LAST_SLOT as usize) as u64;
     let windows = (slots + WINDOW - 1) / WINDOW;
     let first_window = w.random.below(4 - windows + 1);
@@ -359,8 +359,10 @@ pub fn push(w: &mut Writer, cert: Cert, slot: u64) {
 /// Whether the stake of that node would bring the certificate to be held.
 fn would_complete(w: &Writer, node: usize, slot: u64, cert: Cert) -> bool {
     let (a, b) = w.node().signers(slot, cert);
+    let mut signers = &a | &b;
+    signers.insert(node);
     let table = w.node().stakes();
-    table.reaches(table.weight_of_mask(a | b | 1 << node), cert.threshold())
+    table.reaches(table.weight(&signers), cert.threshold())
 }
 
 pub fn ring_for_history(random: &mut Random) -> Ring {

@@ -12,7 +12,10 @@ const LINES: &[&str] = &[
     "look 1",
     "look look",
     "votes 1",
-    "board 1 2",
+    "votes 1 2 3",
+    "votes 1 x",
+    "board 1 2 3",
+    "board 1 x",
     "board x",
     "board 1x",
     "boards",
@@ -134,11 +137,11 @@ const ODD_BUT_GOOD: &[&str] = &[
 ];
 
 pub fn line(w: &mut Writer) {
-    match w.random.below(14) {
+    match w.random.below(60) {
         0 => long_vote(w),
         1 => long_check(w),
         2 | 3 => long_silence(w),
-        4 | 5 => {
+        4..=12 => {
             let line = w.random.pick(ODD_BUT_GOOD);
             w.raw(line);
         }
@@ -151,7 +154,7 @@ pub fn line(w: &mut Writer) {
 
 /// At the longest length and on both sides of it.
 fn some_length(w: &mut Writer) -> usize {
-    let past = w.random.pick(&[1, 2, 3, LONGEST_LINE + 1]);
+    let past = w.random.pick(&[1, 2, 3, 4096]);
     w.random.pick(&[LONGEST_LINE - 1, LONGEST_LINE, LONGEST_LINE + past])
 }
 

@@ -48,16 +48,24 @@ pub fn script(seed: u64) -> Script {
     }
 }
 
-fn begin(mut random: Random, ring: Ring, least: u64, most: u64) -> Writer {
-    let budget = random.range(least, most) as usize;
+/// Some rings are widened to a large table, with fewer lines where these are
+/// long.
+fn begin(mut random: Random, mut ring: Ring, least: u64, most: u64) -> Writer {
+    let mut budget = random.range(least, most) as usize;
+    if random.percent(15) {
+        ring = ring.widened(&mut random);
+    }
+    if ring.nodes() > 300 {
+        budget = budget.min(80);
+    }
     let mut w = Writer::new(random, ring, budget);
     w.start();
     w
 }
 
 fn end(mut w: Writer) -> Script {
-    w.say("votes");
-    if w.random.percent(20) {
+    w.ask_for_votes();
+    if w.random.percent(5) {
         malformed::long_silence(&mut w);
     }
     if w.random.percent(4) {
@@ -189,14 +197,18 @@ fn before_start(mut random: Random) -> Script {
         "timeout 1",
         "timeout 99",
         "look",
+        "look",
         "cert 1 1 7",
         "cert 0 0 0",
         "proof 1 7",
         "proof 0 0",
         "votes",
         "board",
+        "votes 1 0",
+        "votes 99 99",
         "board 1",
         "board 99",
+        "board 1 7",
     ];
     let ring = Ring::small(&mut random);
     let budget = random.range(3, 40) as usize;
@@ -233,11 +245,14 @@ fn restarts(mut random: Random) -> Script {
         scenes::soup(&mut w);
         let line = noise::bad_start(&mut w);
         w.say(line);
-        w.say("votes");
+        w.ask_for_votes();
         w.say("look");
-        let ring = Ring::any(&mut w.random);
+        let mut ring = Ring::any(&mut w.random);
+        if w.random.percent(20) {
+            ring = ring.widened(&mut w.random);
+        }
         w.restart(ring);
-        w.say("votes");
+        w.ask_for_votes();
         let room = w.random.range(5, 40) as usize;
         w.add_room(room);
     }
@@ -275,7 +290,11 @@ fn faults(mut random: Random) -> Script {
 }
 
 fn trays(mut random: Random) -> Script {
-    let ring = if random.percent(70) { Ring::small(&mut random) } else { Ring::any(&mut random) };
+    let ring = match random.below(10) {
+        0..=5 => Ring::small(&mut random),
+        6..=8 => Ring::any(&mut random),
+        _ => Ring::crowd(&mut random),
+    };
     let mut w = begin(random, ring, 10, 80);
     trays::trays(&mut w);
     finish_with_audit(w, 8)
@@ -292,7 +311,7 @@ fn messages(mut random: Random) -> Script {
 }
 
 fn packets_only(mut random: Random) -> Script {
-    let ring = Ring::any(&mut random);
+    let ring = if random.percent(80) { Ring::any(&mut random) } else { Ring::crowd(&mut random) };
     let mut w = begin(random, ring, 10, 200);
     match w.random.below(6) {
         0 => packets::taken_apart(&mut w),

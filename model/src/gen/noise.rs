@@ -5,6 +5,7 @@ use super::malformed;
 use super::writer::Writer;
 use crate::node::{Vote, LAST_SLOT};
 use crate::random::Random;
+use crate::stakes::{MOST_NODES, MOST_TOTAL};
 
 pub fn some(w: &mut Writer, numbers: &Numbers) {
     match w.random.below(16) {
@@ -36,14 +37,24 @@ pub fn some(w: &mut Writer, numbers: &Numbers) {
 
 /// What people read, for its own sake and for what it must leave alone.
 fn for_people(w: &mut Writer) {
-    let line = match w.random.below(5) {
+    let slot = w.random.pick(&[1, 1, 2, 5, LAST_SLOT, 0, LAST_SLOT + 1, 1 << 32 | 1, u64::MAX]);
+    let line = match w.random.below(7) {
         0 => "board".to_string(),
-        1 => format!("board {}", w.random.range(1, LAST_SLOT)),
-        2 => format!("board {}", w.random.pick(&[0, 17, 1 << 32 | 1, u64::MAX])),
-        3 => "help".to_string(),
-        _ => format!("why {}", w.random.pick(&[0, 1, 9, 15, 18, 19, 257, u64::MAX])),
+        1 | 2 => format!("board {slot}"),
+        3 => format!("board {slot} {}", w.random.any_number()),
+        4 => "help".to_string(),
+        5 => format!("why {}", w.random.pick(&[0, 1, 9, 15, 18, 19, 257, u64::MAX])),
+        _ => return page_of_votes(w, slot),
     };
     w.ask_for_text(&line);
+}
+
+/// Mostly from a node of the table on.
+fn page_of_votes(w: &mut Writer, slot: u64) {
+    let nodes = w.ring.nodes() as u64;
+    let any = w.random.below(nodes);
+    let from = w.random.pick(&[0, 0, any, any, nodes - 1, nodes, 1 << 32, u64::MAX]);
+    w.say(format!("votes {slot} {from}"));
 }
 
 fn block_of(w: &mut Writer, numbers: &Numbers, slot: u64) -> u64 {
@@ -146,6 +157,7 @@ pub fn faulty_cert(w: &mut Writer, numbers: &Numbers) {
     let slot = faults.or_bad_slot(&mut w.random);
     let right = if (1..=3).contains(&kind) { numbers.of_slot(slot.min(LAST_SLOT))[0] } else { 0 };
     let block = faults.or_wrong_block(&mut w.random, right);
+    let kind = if (1..=5).contains(&kind) { some_family(w, kind) } else { kind };
     w.say(format!("cert {kind} {slot} {block}"));
 }
 
@@ -160,12 +172,23 @@ pub fn faulty_proof(w: &mut Writer, numbers: &Numbers) {
 fn ask_plausible(w: &mut Writer, numbers: &Numbers) {
     let slot = w.random.range(1, LAST_SLOT);
     let block = block_of(w, numbers, slot);
-    let kind = w.random.range(1, 6);
-    match kind {
+    let meaning = w.random.range(1, 6);
+    let kind = some_family(w, meaning);
+    match meaning {
         6 => w.say(format!("proof {slot} {block}")),
         4 | 5 => w.say(format!("cert {kind} {slot} 0")),
         _ => w.say(format!("cert {kind} {slot} {block}")),
     };
+}
+
+/// A certificate kind of that meaning, seldom of the other family.
+fn some_family(w: &mut Writer, meaning: u64) -> u64 {
+    let other = w.random.pick(&[meaning, meaning + 10]);
+    if w.random.percent(15) {
+        other
+    } else {
+        w.ring.kind(meaning)
+    }
 }
 
 /// A start that is refused, and so leaves the node as it was.
@@ -175,8 +198,8 @@ pub fn bad_start(w: &mut Writer) -> String {
     let (mut own, mut genesis) = (ring.own as u64, ring.genesis);
     match w.random.below(8) {
         0 => stakes.clear(),
-        1 => stakes.resize(65, 1),
-        2 => own = w.random.pick(&[stakes.len() as u64, 64, u64::MAX]),
+        1 => stakes.resize(w.random.pick(&[MOST_NODES + 1, MOST_NODES + 1, 2 * MOST_NODES, 30_000]), 1),
+        2 => own = w.random.pick(&[stakes.len() as u64, MOST_NODES as u64, u64::MAX]),
         3 => genesis = 0,
         _ => spoil_table(&mut w.random, &mut stakes),
     }
@@ -186,7 +209,7 @@ pub fn bad_start(w: &mut Writer) -> String {
 
 /// A table that breaks the sizes by its stakes.
 pub fn spoil_table(random: &mut Random, stakes: &mut Vec<u64>) {
-    let most = crate::stakes::MOST_TOTAL;
+    let most = MOST_TOTAL;
     let at = random.index(stakes.len());
     match random.below(5) {
         0 => stakes[at] = 0,
@@ -215,7 +238,7 @@ impl FaultRate {
 
     pub fn or_bad_kind(&self, random: &mut Random) -> u64 {
         if self.hits(random) {
-            random.pick(&[0, 6, 7, 257, 1 << 32 | 1, u64::MAX])
+            random.pick(&[0, 6, 7, 10, 11, 15, 16, 257, 1 << 32 | 1, u64::MAX])
         } else {
             random.range(1, 5)
         }

@@ -5,10 +5,10 @@ use super::noise::spoil_table;
 use super::ring::{words, Ring};
 use super::writer::Writer;
 use crate::node::{Cert, LAST_SLOT};
-use crate::packet::put_number;
+use crate::packet::{mask, put_number};
 use crate::panel::show_hex;
 use crate::random::Random;
-use crate::stakes::{Threshold, P40, P60, P80};
+use crate::stakes::{Family, Signers, Threshold, P40, P60, P80};
 
 // ---- written packets ----
 
@@ -45,12 +45,13 @@ fn questions(w: &Writer) -> Vec<(String, bool)> {
         for block in node.named_blocks(slot) {
             for kind in 1..=3 {
                 let held = node.holds(slot, Cert::of_kind(kind, block).unwrap());
-                all.push((format!("cert {kind} {slot} {block}"), held));
+                all.push((format!("cert {} {slot} {block}", w.ring.kind(kind)), held));
             }
             all.push((format!("proof {slot} {block}"), node.is_final(slot, block)));
         }
         for kind in 4..=5 {
-            all.push((format!("cert {kind} {slot} 0"), node.holds(slot, Cert::of_kind(kind, 0).unwrap())));
+            let held = node.holds(slot, Cert::of_kind(kind, 0).unwrap());
+            all.push((format!("cert {} {slot} 0", w.ring.kind(kind)), held));
         }
     }
     all
@@ -141,72 +142,104 @@ pub fn damage(random: &mut Random, packet: &[u8]) -> Vec<u8> {
 
 // ---- hand-made packets ----
 
-/// The five numbers of a certificate.
-#[derive(Clone, Copy)]
+/// What a certificate says.
+#[derive(Clone)]
 struct Fields {
     kind: u64,
     slot: u64,
     block: u64,
-    a: u64,
-    b: u64,
+    a: Signers,
+    b: Signers,
 }
 
 impl Fields {
-    /// A certificate that the ring's table accepts.
-    fn good(random: &mut Random, ring: &Ring, kind: u64, slot: u64) -> Fields {
-        let threshold = if kind == 1 { P80 } else { P60 };
+    /// A certificate that the ring's table accepts, of a kind 1 to 5 by meaning.
+    fn good(random: &mut Random, ring: &Ring, meaning: u64, slot: u64) -> Fields {
+        let threshold = if meaning == 1 { P80 } else { P60 };
         let mut signers = ring.reaching(random, threshold);
         if random.percent(40) {
             signers.push(random.index(ring.nodes()));
         }
-        let fallbacks = if kind == 3 || kind == 4 { random.pick(&[0, 50, 100]) } else { 0 };
-        let block = if kind <= 3 { random.any_number().max(1) } else { 0 };
-        let mut fields = Fields { kind, slot, block, a: 0, b: 0 };
+        let fallbacks = if meaning == 3 || meaning == 4 { random.pick(&[0, 50, 100]) } else { 0 };
+        let block = if meaning <= 3 { random.any_number().max(1) } else { 0 };
+        let (mut a, mut b) = (Signers::new(), Signers::new());
         for node in signers {
-            let bit = 1 << node;
-            let signed = (fields.a | fields.b) & bit != 0;
-            match (signed, random.percent(fallbacks)) {
-                (true, _) => {}
-                (false, true) => fields.b |= bit,
-                (false, false) => fields.a |= bit,
-            }
+            match random.percent(fallbacks) {
+                true if !a.contains(&node) => b.insert(node),
+                false if !b.contains(&node) => a.insert(node),
+                _ => false,
+            };
         }
-        fields
+        Fields { kind: ring.kind(meaning), slot, block, a, b }
     }
 
     /// One fault that a checker must see, among those of 4, 3, 5, 14, 15.
     fn spoil(&mut self, random: &mut Random, ring: &Ring) {
-        let nodes = ring.nodes() as u64;
-        let any_bit = 1 << random.below(nodes);
+        let nodes = ring.nodes();
+        let any_node = random.index(nodes);
+        let places = 64 * ring.table().family().mask_words();
+        let beyond = nodes + random.index((places - nodes).max(1));
         match random.below(9) {
-            0 => {
-                self.kind = random.pick(&[0, 6, 7, 127, 128, 256 | self.kind, 1 << 32 | self.kind, u64::MAX])
-            }
+            0 => self.kind = other_kind(random, self.kind),
             1 => {
                 self.slot =
                     random.pick(&[0, 17, 18, 127, 128, 256 | self.slot, 1 << 32 | self.slot, u64::MAX])
             }
             2 => self.block = if self.block == 0 { random.any_number().max(1) } else { 0 },
-            3 if nodes < 64 => self.a |= 1 << random.range(nodes, 63),
-            4 if nodes < 64 => self.b |= 1 << random.range(nodes, 63),
-            5 if self.a != 0 => self.b |= self.a,
-            6 => self.b |= any_bit,
+            3 if beyond < places => {
+                self.a.insert(beyond);
+            }
+            4 if beyond < places => {
+                self.b.insert(beyond);
+            }
+            5 if !self.a.is_empty() => self.b = &self.a | &self.b,
+            6 => {
+                self.b.insert(any_node);
+            }
             7 => self.lighten(random, ring),
-            _ => (self.a, self.b) = random.pick(&[(0, 0), (self.b, self.a), (self.a & any_bit, 0)]),
+            _ => {
+                let alone = Signers::from([any_node]);
+                let choice = random.below(3);
+                (self.a, self.b) = match choice {
+                    0 => (Signers::new(), Signers::new()),
+                    1 => (self.b.clone(), self.a.clone()),
+                    _ => (&self.a & &alone, Signers::new()),
+                }
+            }
         }
     }
 
     /// As many signers as can be without reaching the threshold.
     fn lighten(&mut self, random: &mut Random, ring: &Ring) {
-        let threshold = if self.kind == 1 { P80 } else { P60 };
+        let threshold = if self.kind % 10 == 1 { P80 } else { P60 };
         let mut signers = ring.reaching(random, threshold);
         signers.pop();
-        self.a = signers.into_iter().map(|node| 1u64 << node).sum();
-        self.b = 0;
+        self.a = signers.into_iter().collect();
+        self.b = Signers::new();
     }
 
-    fn numbers(&self) -> [u64; 5] {
-        [self.kind, self.slot, self.block, self.a, self.b]
+    /// As many as the kind asks for, seldom as many as the other family has.
+    fn numbers(&self, random: &mut Random) -> Vec<u64> {
+        let mut family = Family::of_kind(self.kind);
+        if random.percent(2) {
+            family = random.pick(&[Family::Small, Family::Large]);
+        }
+        let mut numbers = vec![self.kind, self.slot, self.block];
+        for signers in [&self.a, &self.b] {
+            let fitting = signers.iter().copied().filter(|node| node / 64 < family.mask_words()).collect();
+            numbers.extend(mask(&fitting, family));
+        }
+        numbers
+    }
+}
+
+/// No kind, or one of the other family.
+fn other_kind(random: &mut Random, kind: u64) -> u64 {
+    let other_family = if kind > 10 { kind - 10 } else { kind + 10 };
+    match random.below(3) {
+        0 => other_family,
+        1 => random.pick(&[0, 6, 7, 8, 9, 10, 16, 17]),
+        _ => random.pick(&[127, 128, 256 | kind, 1 << 32 | kind, u64::MAX]),
     }
 }
 
@@ -245,17 +278,18 @@ fn ten_bytes(random: &mut Random) -> Vec<u8> {
 }
 
 fn encode(random: &mut Random, fields: &Fields, odd: bool) -> Vec<u8> {
-    let odd_one = if odd { random.index(5) } else { 5 };
+    let numbers = fields.numbers(random);
+    let odd_one = if odd { random.index(numbers.len()) } else { numbers.len() };
     let mut packet = Vec::new();
-    for (i, &number) in fields.numbers().iter().enumerate() {
+    for (i, &number) in numbers.iter().enumerate() {
         packet.extend(if i == odd_one { odd_form(random, number) } else { shortest(number) });
     }
     packet
 }
 
 /// A certificate with that chance, in percent, of each sort of fault.
-fn certificate(random: &mut Random, ring: &Ring, kind: u64, slot: u64, fault: u64) -> Vec<u8> {
-    let mut fields = Fields::good(random, ring, kind, slot);
+fn certificate(random: &mut Random, ring: &Ring, meaning: u64, slot: u64, fault: u64) -> Vec<u8> {
+    let mut fields = Fields::good(random, ring, meaning, slot);
     while random.percent(fault) {
         fields.spoil(random, ring);
     }
@@ -281,8 +315,12 @@ pub fn hand_made(w: &mut Writer) {
     let fault = w.random.pick(&[0, 20, 40, 60]);
     while !w.full() {
         if w.random.percent(10) {
-            let any = w.random.percent(50);
-            w.ring = if any { Ring::any(&mut w.random) } else { Ring::small(&mut w.random) };
+            w.ring = match w.random.below(10) {
+                0 => Ring::crowd(&mut w.random),
+                1 => Ring::small(&mut w.random).widened(&mut w.random),
+                2..=5 => Ring::small(&mut w.random),
+                _ => Ring::any(&mut w.random),
+            };
         }
         let ring = w.ring.clone();
         let mut packet = if w.random.percent(50) {
@@ -302,8 +340,8 @@ pub fn hand_made(w: &mut Writer) {
     }
 }
 
-/// One good packet, then each of its prefixes and each single bit flipped,
-/// as far as the script has room.
+/// One good packet, then its prefixes and its single bits flipped, as far as
+/// the script has room.
 pub fn taken_apart(w: &mut Writer) {
     let ring = w.ring.clone();
     let mut packet = proof(&mut w.random, &ring, 0);
@@ -312,10 +350,15 @@ pub fn taken_apart(w: &mut Writer) {
         packet = certificate(&mut w.random, &ring, kind, 16, 0);
     }
     check(w, &packet, &ring.stakes);
-    for length in 0..packet.len() {
+    let mut lengths: Vec<usize> = (0..packet.len()).collect();
+    w.random.shuffle(&mut lengths);
+    lengths.truncate(40);
+    for length in lengths {
         check(w, &packet[..length], &ring.stakes);
     }
-    for bit in 0..packet.len() * 8 {
+    let mut bits: Vec<usize> = (0..packet.len() * 8).collect();
+    w.random.shuffle(&mut bits);
+    for bit in bits {
         if w.full() {
             return;
         }
@@ -364,13 +407,13 @@ pub fn weighed(w: &mut Writer) {
 }
 
 /// A certificate that is heavy enough, or too light by little, much or all.
-fn around_threshold(random: &mut Random, ring: &Ring, kind: u64, slot: u64) -> Vec<u8> {
+fn around_threshold(random: &mut Random, ring: &Ring, meaning: u64, slot: u64) -> Vec<u8> {
     let threshold: Threshold = random.pick(&[P40, P60, P60, P80, P80]);
     let mut signers = ring.reaching(random, threshold);
     for _ in 0..random.pick(&[0, 0, 1, 1, 1, 2, 3, ring.nodes()]) {
         signers.pop();
     }
-    let a = signers.into_iter().map(|node| 1u64 << node).sum();
-    let block = if kind <= 3 { 7 } else { 0 };
-    encode(random, &Fields { kind, slot, block, a, b: 0 }, false)
+    let block = if meaning <= 3 { 7 } else { 0 };
+    let a = signers.into_iter().collect();
+    encode(random, &Fields { kind: ring.kind(meaning), slot, block, a, b: Signers::new() }, false)
 }

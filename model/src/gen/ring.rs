@@ -1,11 +1,12 @@
 //! Rings of nodes: how many, with which stakes, and who leans with whom.
 
 use crate::random::Random;
-use crate::stakes::{Stakes, Threshold, MOST_TOTAL};
+use crate::stakes::{Family, Stakes, Threshold, MOST_NODES, MOST_NODES_OF_SMALL, MOST_TOTAL};
 
 /// The table of a script, with its nodes split into five camps of about a
 /// fifth of the stake each. The own node is in camp 0. Camps that vote alike
-/// bring a slot exactly to, or one short of, the thresholds.
+/// bring a slot exactly to, or one short of, the thresholds. In a large table
+/// most of the light nodes are in no camp.
 #[derive(Clone)]
 pub struct Ring {
     pub stakes: Vec<u64>,
@@ -122,6 +123,71 @@ impl Ring {
         ring
     }
 
+    /// The same ring among many light nodes, as a table of the large family.
+    pub fn widened(mut self, random: &mut Random) -> Ring {
+        if self.nodes() > MOST_NODES_OF_SMALL {
+            return self;
+        }
+        let any = random.range(MOST_NODES_OF_SMALL as u64 + 1, 300) as usize;
+        let nodes = random.pick(&[65, 65, 66, 100, 127, 128, 129, 192, any, any, 1000, 2047, 2048]);
+        let lights: Vec<u64> = (self.nodes()..nodes).map(|_| random.pick(&[1, 1, 1, 2, 3])).collect();
+        self.pay_for(random, lights.iter().sum());
+        let heavies = self.nodes();
+        self.stakes.extend(lights);
+        for camp in 0..5 {
+            let some_light = random.range(heavies as u64, nodes as u64 - 1) as usize;
+            if random.percent(30) && !self.camps.iter().any(|camp| camp.contains(&some_light)) {
+                self.camps[camp].push(some_light);
+            }
+        }
+        if random.percent(20) {
+            self.own = *self.camps[0].last().expect("the own node is in camp 0");
+        }
+        self.strew(random)
+    }
+
+    /// Makes the stakes heavy beside that of the light nodes, and mostly takes
+    /// theirs off one of them, so that the thresholds stay where they were.
+    fn pay_for(&mut self, random: &mut Random, lights: u64) {
+        let heaviest = (0..self.nodes()).max_by_key(|&node| self.stakes[node]).expect("a ring has nodes");
+        if self.stakes[heaviest] <= 2 * lights {
+            let times = 4 * lights / self.stakes[heaviest] + 1;
+            self.stakes.iter_mut().for_each(|stake| *stake *= times);
+        }
+        let total: u64 = self.stakes.iter().sum();
+        if random.percent(70) || total + lights > MOST_TOTAL {
+            self.stakes[heaviest] -= lights;
+        }
+    }
+
+    /// Puts every node at another place, some at the edges of a mask's words.
+    fn strew(self, random: &mut Random) -> Ring {
+        let mut places: Vec<usize> = (0..self.nodes()).collect();
+        random.shuffle(&mut places);
+        for (node, edge) in [0, 63, 64, self.nodes() - 1].into_iter().enumerate() {
+            if random.percent(50) {
+                let at = places.iter().position(|&place| place == edge).expect("a place of the table");
+                places.swap(node, at);
+            }
+        }
+        let mut stakes = self.stakes.clone();
+        for (node, &place) in places.iter().enumerate() {
+            stakes[place] = self.stakes[node];
+        }
+        let camps = self.camps.iter().map(|camp| camp.iter().map(|&node| places[node]).collect()).collect();
+        Ring { stakes, own: places[self.own], genesis: self.genesis, camps }
+    }
+
+    /// A large table in which no node stands out.
+    pub fn crowd(random: &mut Random) -> Ring {
+        let nodes = random.pick(&[65, 66, 90, 128, 129, 200, 2047, 2048]);
+        match random.below(3) {
+            0 => Ring::with(random, vec![1; nodes]),
+            1 => Ring::with(random, vec![MOST_TOTAL / MOST_NODES as u64; nodes]),
+            _ => Ring::of(random, nodes),
+        }
+    }
+
     fn move_own_to(&mut self, node: usize) {
         let home = self.camps.iter().position(|camp| camp.contains(&node)).expect("every node has a camp");
         self.camps.swap(0, home);
@@ -142,8 +208,17 @@ impl Ring {
         Stakes::new(&self.stakes).expect("generated rings fit the sizes")
     }
 
+    /// The certificate kind of that meaning, 1 to 5, in this table's family.
+    pub fn kind(&self, meaning: u64) -> u64 {
+        self.table().family().kinds_after() + meaning
+    }
+
+    /// The other nodes that are in a camp.
     pub fn others(&self) -> Vec<usize> {
-        (0..self.nodes()).filter(|&node| node != self.own).collect()
+        let mut others: Vec<usize> = self.camps.concat();
+        others.retain(|&node| node != self.own);
+        others.sort_unstable();
+        others
     }
 
     pub fn start_line(&self) -> String {
@@ -159,6 +234,10 @@ impl Ring {
         let table = self.table();
         let mut order: Vec<usize> = (0..self.nodes()).collect();
         random.shuffle(&mut order);
+        // In a large table few heavy nodes may do, or it takes many light ones.
+        if table.family() == Family::Large && random.percent(50) {
+            order.sort_by_key(|&node| std::cmp::Reverse(self.stakes[node]));
+        }
         let mut weight = 0;
         let enough = order.iter().position(|&node| {
             weight += self.stakes[node];

@@ -121,9 +121,9 @@ pub fn brink(w: &mut Writer) {
         }
         w.vote(kind, node, slot, block);
         if w.random.percent(30) {
-            let cert = w.random.range(1, 5);
-            let block = if cert <= 3 { blocks[0] } else { 0 };
-            w.say(format!("cert {cert} {slot} {block}"));
+            let meaning = w.random.range(1, 5);
+            let block = if meaning <= 3 { blocks[0] } else { 0 };
+            w.say(format!("cert {} {slot} {block}", w.ring.kind(meaning)));
         }
     }
 }

@@ -30,6 +30,10 @@ pub fn trays(w: &mut Writer) {
                 catch_up(w, &numbers, slots, fault);
                 continue;
             }
+            7 if w.random.percent(30) => {
+                everyone(w, &numbers, slot);
+                continue;
+            }
             _ => {
                 let votes = w.random.pick(&[1, 1, 2, 3, 5, 10, 20]);
                 let line = some_tray(w, &numbers, slots, fault, votes);
@@ -41,7 +45,8 @@ pub fn trays(w: &mut Writer) {
 
 /// As many votes as a line has room for, at times a few more.
 fn catch_up(w: &mut Writer, numbers: &Numbers, slots: u64, fault: u64) {
-    let votes = w.random.pick(&[100, 200, 400]);
+    let most = if w.ring.nodes() <= 20 { 6000 } else { 300 };
+    let votes = w.random.pick(&[100, 200, 300, 300, most]);
     let mut line = some_tray(w, numbers, slots, fault, votes);
     if !w.random.percent(20) && line.len() > LONGEST_LINE {
         line.truncate(LONGEST_LINE);
@@ -52,6 +57,21 @@ fn catch_up(w: &mut Writer, numbers: &Numbers, slots: u64, fault: u64) {
         }
     }
     w.raw(&line);
+}
+
+/// Every node but the own votes alike in one slot, in random order; where they
+/// are very many, mostly some of them.
+fn everyone(w: &mut Writer, numbers: &Numbers, slot: u64) {
+    let blocks = numbers.of_slot(slot);
+    let (kind, block) =
+        w.random.pick(&[(1, blocks[0]), (1, blocks[1]), (2, blocks[0]), (3, 0), (4, 0), (5, 0)]);
+    let mut nodes: Vec<usize> = (0..w.ring.nodes()).filter(|&node| node != w.ring.own).collect();
+    w.random.shuffle(&mut nodes);
+    if nodes.len() > 300 && !w.random.percent(5) {
+        nodes.truncate(100);
+    }
+    let votes: Vec<String> = nodes.iter().map(|node| format!(" {kind} {node} {slot} {block}")).collect();
+    w.raw(&format!("tray{}", votes.concat()));
 }
 
 /// A part of a vote may stand at the end.
@@ -79,7 +99,7 @@ fn some_vote(w: &mut Writer, numbers: &Numbers, slots: u64, fault: u64) -> [u64;
     }
     let mut vote = [kind, node as u64, slot, if kind <= 2 { w.random.pick(&blocks[..choices]) } else { 0 }];
     if w.random.percent(fault) {
-        let wrong = [0, 6, 17, 64, u64::MAX];
+        let wrong = [0, 6, 17, w.ring.nodes() as u64, u64::MAX];
         vote[w.random.index(4)] = w.random.pick(&wrong);
     }
     vote

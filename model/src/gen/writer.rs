@@ -6,6 +6,7 @@ use crate::node::Node;
 use crate::packet::put_number;
 use crate::panel::{show_hex, Answer, Panel};
 use crate::random::Random;
+use crate::stakes::Family;
 
 pub struct Writer {
     pub random: Random,
@@ -91,9 +92,28 @@ impl Writer {
         answer
     }
 
+    /// Where the table is large, all is free text, and a page of two slots is
+    /// not.
+    pub fn ask_for_votes(&mut self) {
+        match &self.panel.node {
+            Some(node) if node.stakes().family() == Family::Large => {
+                let voted: Vec<u64> = node.stored_votes().iter().map(|vote| vote.0).collect();
+                self.ask_for_text("votes");
+                for _ in 0..2 {
+                    let slot = if voted.is_empty() { 1 } else { self.random.pick(&voted) };
+                    self.say(format!("votes {slot} 0"));
+                }
+            }
+            _ => {
+                self.say("votes");
+            }
+        }
+    }
+
     /// A line that free text may answer. A check follows whose answer stands
     /// nowhere in such text, so that its end can be told.
     pub fn ask_for_text(&mut self, line: &str) {
+        self.empty_tray();
         let laid_out = self.lay_out(line);
         self.raw(&laid_out);
         let mut packet = vec![1, 1];
