@@ -36,7 +36,7 @@ fn is_first(s: Slot) -> bool
 }
 
 // Rule A's first part: a first slot of a window that is not yet armed.
-fn may_arm(rec: &[u64], s: Slot) -> bool
+pub fn may_arm(rec: &[u64], s: Slot) -> bool
     requires { ⌜ InWindow (now rec) (s .0) ⌝ }
     ensures { λ r. ⌜ r ≡ (isFirst (s .0) && not (isArmed (ledgerOf (now (rec .entry))) (s .0))) ⌝ }
 {

@@ -1,2 +1,4 @@
 -- Laws of the search and of the run, as code goes through them.
+pub mod SlotLaws
+pub mod DormantLaws
 pub mod ScanLaws

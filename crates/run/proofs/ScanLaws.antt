@@ -1,36 +1,26 @@
 -- The search for the first rule that applies and the run, as the loops go through them over the lent memory. Assumes nothing.
 use mathlib.Core.Path.{_≡_, refl, sym, ap, _∙_, subst}
 use mathlib.Core.List.{List}
-use Prim.Native.Nat.{ℕ, zero, suc, _+_, _≤_, _<_}
+use Prim.Native.Nat.{ℕ, _+_, _-_, _≤_, _<_}
 use native.Mathlib.Omega.{arith}
 use lib.ListN.{length}
 use Rattle.rulebook.specs.Weights.{lastSlot, totalTo}
 use Rattle.rulebook.specs.Rules.{State}
-use Rattle.rulebook.specs.Run.{made, ruleAt, scan, run}
+use Rattle.rulebook.specs.Run.{made, firstRule, firstSlot, scan, run}
 use Rattle.record.specs.Layout.{recordWords, placesIn, ledgerOf}
 use Rattle.record.specs.Tabled.{Tabled}
 use Rattle.record.proofs.Places.{places-words}
 use Rattle.settling.specs.Spare.{spare}
-use Rattle.settling.specs.Steps.{Passed, Running}
-use Rattle.settling.proofs.Spending.{rule-comes, scan-comes}
-use Rattle.settling.proofs.Search.{passed-start, passed-quiet, passed-slot, passed-found, passed-none}
+use Rattle.settling.specs.Steps.{Running}
+use Rattle.settling.proofs.RunLaws.{slot-step, slot-stop, slot-end, scan-is}
+use Rattle.settling.proofs.Spending.{rules-come, scan-comes}
 use Rattle.settling.proofs.Settling.{running-start, running-more, running-less, running-done}
 use Rattle.voter.specs.Outbox.{stateIn, Moved}
-use Rattle.voter.specs.Voting.{Live, Onward}
+use Rattle.voter.specs.Voting.{Live, LiveAt, Onward}
 use Rattle.voter.proofs.OutboxLaws.{made-in}
 use Rattle.voter.proofs.LiveLaws.{live-placed, onward-none, onward-is, onward-then}
 use Rattle.fallbacks.specs.UnderWay.{UnderWay, UnderWayAt}
-
--- There is no seventh rule.
-pub rule-beyond : (r : ℕ) (o : State) (s : ℕ) → (r ≡ 0 → ⊥) → (r ≡ 1 → ⊥) → (r ≡ 2 → ⊥) → (r ≡ 3 → ⊥) → (r ≡ 4 → ⊥) → (r ≡ 5 → ⊥) → o ≡ ruleAt r o s
-unfolding ruleAt
-rule-beyond zero o s a b c d e f = absurd (a refl)
-rule-beyond (suc zero) o s a b c d e f = absurd (b refl)
-rule-beyond (suc (suc zero)) o s a b c d e f = absurd (c refl)
-rule-beyond (suc (suc (suc zero))) o s a b c d e f = absurd (d refl)
-rule-beyond (suc (suc (suc (suc zero)))) o s a b c d e f = absurd (e refl)
-rule-beyond (suc (suc (suc (suc (suc zero))))) o s a b c d e f = absurd (f refl)
-rule-beyond (suc (suc (suc (suc (suc (suc r)))))) o s a b c d e f = refl
+use Rattle.run.proofs.SlotLaws.{rules-on, rules-off}
 
 -- The stakes stay a table.
 pub under-way : {ws out ws' left : List ℕ} {at now : ℕ} {q : State} → Tabled (ledgerOf ws) → Onward ws out at ws' left now q → UnderWay ws' left now
@@ -51,6 +41,10 @@ under-way h a =
 pub under-way-at : {ws out : List ℕ} {at s : ℕ} → UnderWay ws out at → 1 ≤ s → s ≤ lastSlot → UnderWayAt ws out at s
 under-way-at v a b = record { live = record { live = v .live; low = a; high = b }; table = v .table }
 
+-- A part of the call was run at slot s: it can go on there.
+pub still-under-way : {ws out ws' left : List ℕ} {at now s : ℕ} {q : State} → UnderWayAt ws out at s → Onward ws out at ws' left now q → UnderWayAt ws' left now s
+still-under-way v a = under-way-at (under-way (v .table) a) (v .live .low) (v .live .high)
+
 -- The words of one node are as many as before: its stakes tell the places.
 pub held-long : {ws out ws' left : List ℕ} {at now : ℕ} {q : State} → Live ws out at → Onward ws out at ws' left now q → length ws' ≡ length ws
 held-long {ws = ws} {ws' = ws'} v a =
@@ -61,43 +55,48 @@ held-long {ws = ws} {ws' = ws'} v a =
 pub moved-made : {ws out ws' left : List ℕ} {at now : ℕ} {q : State} → Moved ws out at ws' left now q → made q ≡ now
 moved-made {left = left} {now = now} m = sym (ap (λ (x : State). length (x .records)) (m .is)) ∙ made-in left now
 
--- ---- one rule more, from memory that still holds the state of the scan's start
+-- ---- n rules of slot s, from rule r on, are left of the search that ends in state q; the memory still holds the state of its start
 
-module _ {ws out ws' out' ws'' out'' : List ℕ} {at now now' : ℕ} (s r : ℕ) (v : Live ws out at) (low : 1 ≤ s) (high : s ≤ lastSlot)
-    (held : Onward ws out at ws' out' now (stateIn ws out at))
-    (took : Onward ws' out' now ws'' out'' now' (ruleAt r (stateIn ws' out' now) s)) where
-  pub ruled : Onward ws out at ws'' out'' now' (ruleAt r (stateIn ws out at) s)
-  ruled = onward-then (λ (x : State). ruleAt r x s) held took
-
-  quiet-made : now' ≡ at → made (ruleAt r (stateIn ws out at) s) ≡ made (stateIn ws out at)
-  quiet-made e = moved-made (ruled .moved) ∙ e ∙ sym (made-in out at)
-
-  -- It made no record: the memory holds the same state.
-  pub still-held : now' ≡ at → Onward ws out at ws'' out'' now' (stateIn ws out at)
-  still-held e = onward-is ruled (rule-comes (stateIn ws out at) (live-placed v) s low high r .still (quiet-made e))
-
-  pub rule-passed : now' ≡ at → Passed (stateIn ws out at) s r → Passed (stateIn ws out at) s (r + 1)
-  rule-passed e h = passed-quiet (stateIn ws out at) s r (live-placed v) low high h (quiet-made e)
-
-  -- It made one: it is the first that applies.
-  pub rule-found : (now' ≡ at → ⊥) → r < 6 → Passed (stateIn ws out at) s r → Onward ws out at ws'' out'' now' (scan (stateIn ws out at))
-  rule-found ne few h =
-      onward-is ruled
-      (sym (passed-found (stateIn ws out at) s r low high few h (λ e. ne (sym (moved-made (ruled .moved)) ∙ e ∙ made-in out at))))
-
--- All slots are passed: no rule applies.
-pub none-found : {ws out ws' left : List ℕ} {at now : ℕ} → Onward ws out at ws' left now (stateIn ws out at)
-    → Passed (stateIn ws out at) 17 0 → Onward ws out at ws' left now (scan (stateIn ws out at))
-none-found {ws = ws} {out = out} {at = at} a h = onward-is a (sym (passed-none (stateIn ws out at) h))
-
--- ---- the invariants of the two loops: the memory still holds the state of the scan's start, and what was tried does not apply
-
-pub record Trying (ws out : List ℕ) (at : ℕ) (ws' left : List ℕ) (now s r : ℕ) : Type 0 where
-  pub few : r ≤ 6
+pub record Going (ws out : List ℕ) (at : ℕ) (ws' left : List ℕ) (now s n r : ℕ) (q : State) : Type 0 where
   pub still : now ≡ at
-  pub kept : length left ≡ length out
   pub held : Onward ws out at ws' left now (stateIn ws out at)
-  pub passed : Passed (stateIn ws out at) s r
+  pub ends : firstRule n r (stateIn ws out at) s ≡ q
+
+-- The search begins.
+pub going-start : {ws out : List ℕ} {at : ℕ} (s n r : ℕ) → Live ws out at → Going ws out at ws out at s n r (firstRule n r (stateIn ws out at) s)
+going-start s n r v = record { still = refl; held = onward-none v refl; ends = refl }
+
+-- ---- the first k of them are tried
+
+module _ {ws out ws' out' ws'' out'' : List ℕ} {at now now' : ℕ} {q : State} (s k n r : ℕ) (h : Going ws out at ws' out' now s (k + n) r q)
+    (took : Onward ws' out' now ws'' out'' now' (firstRule k r (stateIn ws' out' now) s)) where
+  tried : Onward ws out at ws'' out'' now' (firstRule k r (stateIn ws out at) s)
+  tried = onward-then (λ (x : State). firstRule k r x s) (h .held) took
+
+  -- They made no record: the others are left.
+  pub going-more : LiveAt ws out at s → now' ≡ at → Going ws out at ws'' out'' now' s n (r + k) q
+  going-more v e =
+      let o : State = stateIn ws out at in
+      let same : made (firstRule k r o s) ≡ made o = moved-made (tried .moved) ∙ e ∙ sym (made-in out at) in
+      let back : firstRule k r o s ≡ o = rules-come o (live-placed (v .live)) s (v .low) (v .high) k r .still same in
+      record {
+        still = e;
+        held = onward-is tried back;
+        ends = ap (λ (x : State). firstRule n (r + k) x s) (sym back) ∙ sym (rules-on k n r o s same) ∙ h .ends;
+      }
+
+  -- They made one: that is the end.
+  pub going-found : (now' ≡ at → ⊥) → Onward ws out at ws'' out'' now' q
+  going-found ne =
+      let o : State = stateIn ws out at in
+      onward-is tried (sym (rules-off k n r o s (λ e. ne (sym (moved-made (tried .moved)) ∙ e ∙ made-in out at))) ∙ h .ends)
+
+-- The last are tried.
+pub going-last : {ws out ws' out' ws'' out'' : List ℕ} {at now now' : ℕ} {q : State} (s k r : ℕ) → Going ws out at ws' out' now s k r q
+    → Onward ws' out' now ws'' out'' now' (firstRule k r (stateIn ws' out' now) s) → Onward ws out at ws'' out'' now' q
+going-last s k r h took = onward-is (onward-then (λ (x : State). firstRule k r x s) (h .held) took) (h .ends)
+
+-- ---- the invariant of the search: the memory still holds the state of its start, and the slots from s on are left
 
 pub record Searching (ws out : List ℕ) (at : ℕ) (ws' left : List ℕ) (now s : ℕ) : Type 0 where
   pub low : 1 ≤ s
@@ -105,7 +104,7 @@ pub record Searching (ws out : List ℕ) (at : ℕ) (ws' left : List ℕ) (now s
   pub still : now ≡ at
   pub kept : length left ≡ length out
   pub held : Onward ws out at ws' left now (stateIn ws out at)
-  pub passed : Passed (stateIn ws out at) s 0
+  pub ends : firstSlot (17 - s) s (stateIn ws out at) ≡ scan (stateIn ws out at)
 
 -- The search begins at slot 1.
 pub searching-start : {ws out : List ℕ} {at : ℕ} → Live ws out at → Searching ws out at ws out at 1
@@ -116,47 +115,47 @@ searching-start {ws = ws} {out = out} {at = at} v =
       still = refl;
       kept = refl;
       held = onward-none v refl;
-      passed = passed-start (stateIn ws out at);
+      ends = sym (scan-is (stateIn ws out at));
     }
 
-module _ {ws out ws' out' : List ℕ} {at now s : ℕ} (h : Searching ws out at ws' out' now s) where
-  -- A slot's rules begin at rule A.
-  pub trying-start : Trying ws' out' now ws' out' now s 0
-  trying-start =
-      record {
-        few = omega arith;
-        still = refl;
-        kept = refl;
-        held = onward-none (h .held .live) refl;
-        passed = subst (λ (x : State). Passed x s 0) (sym (h .held .moved .is)) (h .passed);
-      }
+-- ---- slot s is tried
 
-  -- All six were tried: on to the next slot.
-  pub searching-more : {ws'' out'' : List ℕ} {now' r : ℕ} → s < 17 → 6 ≤ r → Trying ws' out' now ws'' out'' now' s r → Searching ws out at ws'' out'' now' (s + 1)
-  searching-more {r = r} b six t =
-      let e : r ≡ 6 = omega (arith, t .few) in
+module _ {ws out ws' out' ws'' out'' : List ℕ} {at now now' s : ℕ} (h : Searching ws out at ws' out' now s) (b : s < 17)
+    (took : Onward ws' out' now ws'' out'' now' (firstRule 6 0 (stateIn ws' out' now) s)) where
+  slot-tried : Onward ws out at ws'' out'' now' (firstRule 6 0 (stateIn ws out at) s)
+  slot-tried = onward-then (λ (x : State). firstRule 6 0 x s) (h .held) took
+
+  one-less : 17 - s ≡ (17 - (s + 1)) + 1
+  one-less = omega arith
+
+  -- No rule of it applies: on to the next slot.
+  pub searching-more : Live ws out at → length out'' ≡ length out' → now' ≡ at → Searching ws out at ws'' out'' now' (s + 1)
+  searching-more v k e =
+      let o : State = stateIn ws out at in
+      let p : State = firstRule 6 0 o s in
+      let same : made p ≡ made o = moved-made (slot-tried .moved) ∙ e ∙ sym (made-in out at) in
+      let back : p ≡ o = rules-come o (live-placed v) s (h .low) (omega arith) 6 0 .still same in
       record {
         low = omega (arith, h .low);
         high = omega arith;
-        still = t .still ∙ h .still;
-        kept = t .kept ∙ h .kept;
-        held = onward-then (λ (x : State). x) (h .held) (t .held);
-        passed =
-            passed-slot (stateIn ws out at) s
-            (subst (λ (x : State). Passed x s 6) (h .held .moved .is) (subst (λ (i : ℕ). Passed (stateIn ws' out' now) s i) e (t .passed)));
+        still = e;
+        kept = k ∙ h .kept;
+        held = onward-is slot-tried back;
+        ends = ap (firstSlot (17 - (s + 1)) (s + 1)) (sym back) ∙ sym (slot-step o p s (17 - s) (17 - (s + 1)) one-less refl same) ∙ h .ends;
       }
 
-  -- All slots were searched.
-  pub searching-end : 17 ≤ s → Onward ws out at ws' out' now (scan (stateIn ws out at))
-  searching-end b = let e : s ≡ 17 = omega (arith, h .high) in none-found (h .held) (subst (λ (i : ℕ). Passed (stateIn ws out at) i 0) e (h .passed))
+  -- One does: it is what the scan does.
+  pub searching-found : (now' ≡ at → ⊥) → Onward ws out at ws'' out'' now' (scan (stateIn ws out at))
+  searching-found ne =
+      let o : State = stateIn ws out at in
+      let p : State = firstRule 6 0 o s in
+      onward-is slot-tried
+      (sym (slot-stop o p s (17 - s) (17 - (s + 1)) one-less refl (λ e. ne (sym (moved-made (slot-tried .moved)) ∙ e ∙ made-in out at))) ∙ h .ends)
 
--- A rule of the slot made a record: it is the first that applies.
-pub searching-found : {ws out ws' out' ws'' out'' left box : List ℕ} {at now now' made : ℕ} (s r : ℕ) → Searching ws out at ws' out' now s → Trying ws' out' now ws'' out'' now' s r
-    → Onward ws'' out'' now' left box made (ruleAt r (stateIn ws'' out'' now') s) → (made ≡ at → ⊥) → s < 17 → r < 6
-    → Onward ws out at left box made (scan (stateIn ws out at))
-searching-found s r h t took ne low few =
-    onward-then (λ (x : State). scan x) (h .held)
-    (rule-found s r (h .held .live) (h .low) (omega arith) (t .held) took (λ z. ne (z ∙ h .still)) few (t .passed))
+-- All slots were searched.
+pub searching-end : {ws out ws' out' : List ℕ} {at now s : ℕ} → Searching ws out at ws' out' now s → 17 ≤ s → Onward ws out at ws' out' now (scan (stateIn ws out at))
+searching-end {ws = ws} {out = out} {at = at} {s = s} h b =
+    onward-is (h .held) (sym (slot-end (stateIn ws out at) s (17 - s) (omega arith)) ∙ h .ends)
 
 -- ---- the invariant of settling: the memory holds a state that the run goes through
 

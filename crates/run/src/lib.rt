@@ -1,30 +1,108 @@
 // The first of the rules A to F that applies, and settling: again from slot 1 until none applies.
-ghost use Rattle.rulebook.specs.Run.{ruleAt, scan, run};
+ghost use mathlib.Core.Path.{_≡_};
+ghost use Rattle.rulebook.specs.declared.Who.the-variants as who;
+ghost use Rattle.rulebook.specs.Run.{firstRule, scan, run};
+ghost use Rattle.record.specs.Layout.{OwnIn, ledgerOf};
 ghost use Rattle.voter.specs.Outbox.{stateIn};
 ghost use Rattle.voter.specs.Voting.{Onward};
 ghost use Rattle.fallbacks.specs.UnderWay.{UnderWay, UnderWayAt};
+ghost use Rattle.pool.specs.Weighing.{countedBefore};
+ghost use Rattle.candidates.specs.Judging.{Judging};
+ghost use Rattle.run.specs.Idle.{isIdle, isDormant};
 use fallbacks::rule_d;
 use fallbacks::rule_e;
+use record::count;
+use record::final_block;
+use record::kept_block;
+use record::load_cell;
+use record::own_cell;
+use rulebook::Node;
 use rulebook::Slot;
+use rules::may_arm;
 use rules::rule_a;
 use rules::rule_b;
 use rules::rule_c;
 use rules::rule_f;
+use voter::no_initial;
 
-// Rules A to F by their place in the order, from 0.
-fn rule(rec: &mut [u64], outbox: &mut [u64], at: usize, s: Slot, r: u64) -> usize
-    requires { ⌜ UnderWayAt (now rec) (now outbox) at (s .0) ⌝ }
-    ensures { λ m. ⌜ Onward (now (rec .entry)) (now (outbox .entry)) at (now (rec .exit)) (now (outbox .exit)) m (ruleAt r (stateIn (now (rec .entry)) (now (outbox .entry)) at) (s .0)) ⌝ }
+// Whether a slot has neither a kept block nor an own initial vote: rules B to E each ask for one of them.
+fn is_idle(rec: &[u64], s: Slot) -> bool
+    requires { ⌜ OwnIn (now rec) (s .0) ⌝ }
+    ensures { λ r. ⌜ r ≡ isIdle (ledgerOf (now (rec .entry))) (s .0) ⌝ }
 {
-    match r {
-        0 => rule_a(rec, outbox, at, s),
-        1 => rule_b(rec, outbox, at, s),
-        2 => rule_c(rec, outbox, at, s),
-        3 => rule_d(rec, outbox, at, s),
-        4 => rule_e(rec, outbox, at, s),
-        5 => rule_f(rec, outbox, at, s),
-        _ => at,
+    let b = kept_block(rec, s);
+    no_initial(own_cell(rec, s)) & (b.number == 0)
+}
+
+// Whether a node has a notar vote in a slot.
+fn has_notar(rec: &[u64], s: Slot) -> bool
+    requires { ⌜ Judging (now rec) (s .0) ⌝ }
+    ensures { λ r. ⌜ r ≡ countedBefore (ledgerOf (now (rec .entry))) (s .0) (ledgerOf (now (rec .entry)) .count) who.AnyNotar ⌝ }
+{
+    let nodes = count(rec);
+    for n in 0..nodes {
+        let c = load_cell(rec, s, Node(n));
+        if c.notar != 0 {
+            return true;
+        }
     }
+    false
+}
+
+// Whether a look that weighs nothing shows that no rule applies in a slot.
+fn is_dormant(rec: &[u64], s: Slot) -> bool
+    requires { ⌜ Judging (now rec) (s .0) ⌝ }
+    ensures { λ r. ⌜ r ≡ isDormant (ledgerOf (now (rec .entry))) (s .0) ⌝ }
+{
+    if may_arm(rec, s) | !is_idle(rec, s) {
+        return false;
+    }
+    if final_block(rec, s) != 0 {
+        return true;
+    }
+    !has_notar(rec, s)
+}
+
+// The first of rules B to E that applies in a slot. In an idle one none is tried.
+fn first_of_b_to_e(rec: &mut [u64], outbox: &mut [u64], at: usize, s: Slot) -> usize
+    requires { ⌜ UnderWayAt (now rec) (now outbox) at (s .0) ⌝ }
+    ensures { λ m. ⌜ Onward (now (rec .entry)) (now (outbox .entry)) at (now (rec .exit)) (now (outbox .exit)) m (firstRule 4 1 (stateIn (now (rec .entry)) (now (outbox .entry)) at) (s .0)) ⌝ }
+{
+    if is_idle(rec, s) {
+        return at;
+    }
+    let b = rule_b(rec, outbox, at, s);
+    if b != at {
+        return b;
+    }
+    let c = rule_c(rec, outbox, b, s);
+    if c != at {
+        return c;
+    }
+    let d = rule_d(rec, outbox, c, s);
+    if d != at {
+        return d;
+    }
+    rule_e(rec, outbox, d, s)
+}
+
+// The first of rules A to F that applies in a slot. In a dormant one none is tried.
+fn first_in_slot(rec: &mut [u64], outbox: &mut [u64], at: usize, s: Slot) -> usize
+    requires { ⌜ UnderWayAt (now rec) (now outbox) at (s .0) ⌝ }
+    ensures { λ m. ⌜ Onward (now (rec .entry)) (now (outbox .entry)) at (now (rec .exit)) (now (outbox .exit)) m (firstRule 6 0 (stateIn (now (rec .entry)) (now (outbox .entry)) at) (s .0)) ⌝ }
+{
+    if is_dormant(rec, s) {
+        return at;
+    }
+    let a = rule_a(rec, outbox, at, s);
+    if a != at {
+        return a;
+    }
+    let e = first_of_b_to_e(rec, outbox, a, s);
+    if e != at {
+        return e;
+    }
+    rule_f(rec, outbox, e, s)
 }
 
 // The first rule that applies, slots ascending and rules A to F within a slot.
@@ -33,12 +111,10 @@ fn scan_slots(rec: &mut [u64], outbox: &mut [u64], at: usize) -> usize
     ensures { λ m. ⌜ Onward (now (rec .entry)) (now (outbox .entry)) at (now (rec .exit)) (now (outbox .exit)) m (scan (stateIn (now (rec .entry)) (now (outbox .entry)) at)) ⌝ }
 {
     let mut made = at;
-    'scan: for s in 1..17 {
-        for r in 0..6 {
-            made = rule(rec, outbox, made, Slot(s), r);
-            if made != at {
-                break 'scan;
-            }
+    for s in 1..17 {
+        made = first_in_slot(rec, outbox, made, Slot(s));
+        if made != at {
+            break;
         }
     }
     made

@@ -1,0 +1,106 @@
+-- The first rule that applies in one slot: rules tried in two parts, and an idle slot. Assumes nothing.
+use mathlib.Core.Path.{_≡_, refl, sym, ap, _∙_}
+use mathlib.Core.Bool.{Bool, true, false}
+use Prim.Native.Nat.{ℕ, zero, suc, _+_}
+use native.Mathlib.Omega.{arith}
+use native.Mathlib.Numerals.{add-one}
+use Rattle.rulebook.specs.Ledger.{none, rowAt, ownCell, noInitial}
+use Rattle.rulebook.specs.Rules.{State, ruleA, ruleB, ruleC, ruleD, ruleE, ruleF}
+use Rattle.rulebook.specs.Run.{made, quiet, ruleAt, firstRule}
+use Rattle.rulebook.proofs.ToolLaws.{given-off, and-both}
+use Rattle.rulebook.proofs.RuleLaws.{C-needs-vote, D-needs-vote, E-needs-vote}
+use Rattle.settling.proofs.RunLaws.{quiet-true, quiet-false, rule-step, rule-stop, rule-end, rule-A, rule-B, rule-C, rule-D, rule-E, rule-F}
+use Rattle.run.specs.Idle.{isIdle}
+
+-- ---- k rules and then n more
+
+-- A rule made no record, or it made one.
+by-record : {X : Type 0} (o p : State) → (made p ≡ made o → X) → ((made p ≡ made o → ⊥) → X) → X
+by-record {X = X} o p none some = go (quiet o p) refl
+  where
+    go : (t : Bool) → quiet o p ≡ t → X
+    go true e = none (quiet-true o p e)
+    go false e = some (quiet-false o p e)
+
+-- The k made no record: the n are tried.
+pub rules-on : (k n r : ℕ) (o : State) (s : ℕ) → made (firstRule k r o s) ≡ made o → firstRule (k + n) r o s ≡ firstRule n (r + k) (firstRule k r o s) s
+rules-on zero n r o s e =
+    let a : 0 + n ≡ n = omega arith in
+    let b : r + 0 ≡ r = omega arith in
+    rw (a, b, rule-end o s r 0 refl)
+rules-on (suc k) n r o s e =
+    let p : State = ruleAt r o s in
+    let more : suc k + n ≡ (k + n) + 1 = omega arith in
+    let next : (r + 1) + k ≡ r + suc k = omega arith in
+    by-record o p
+    (λ q.
+      let here : firstRule (suc k) r o s ≡ firstRule k (r + 1) p s = rule-step o p s r (suc k) k (sym (add-one k)) refl q in
+      rule-step o p s r (suc k + n) (k + n) more refl q
+      ∙ rules-on k n (r + 1) p s (ap made (sym here) ∙ e ∙ sym q)
+      ∙ ap (λ (x : State). firstRule n ((r + 1) + k) x s) (sym here)
+      ∙ ap (λ (i : ℕ). firstRule n i (firstRule (suc k) r o s) s) next)
+    (λ ne. absurd (ne (ap made (sym (rule-stop o p s r (suc k) k (sym (add-one k)) refl ne)) ∙ e)))
+
+-- The k give the state back: they are passed over.
+pub pass : (o : State) (s k n r : ℕ) → firstRule k r o s ≡ o → firstRule (k + n) r o s ≡ firstRule n (r + k) o s
+pass o s k n r e = rules-on k n r o s (ap made e) ∙ ap (λ (x : State). firstRule n (r + k) x s) e
+
+-- They made one: the n are not tried.
+pub rules-off : (k n r : ℕ) (o : State) (s : ℕ) → (made (firstRule k r o s) ≡ made o → ⊥) → firstRule (k + n) r o s ≡ firstRule k r o s
+rules-off zero n r o s e = absurd (e (ap made (rule-end o s r 0 refl)))
+rules-off (suc k) n r o s e =
+    let p : State = ruleAt r o s in
+    let more : suc k + n ≡ (k + n) + 1 = omega arith in
+    by-record o p
+    (λ q.
+      let here : firstRule (suc k) r o s ≡ firstRule k (r + 1) p s = rule-step o p s r (suc k) k (sym (add-one k)) refl q in
+      rule-step o p s r (suc k + n) (k + n) more refl q
+      ∙ rules-off k n (r + 1) p s (λ z. e (ap made here ∙ z ∙ q))
+      ∙ sym here)
+    (λ ne. rule-stop o p s r (suc k + n) (k + n) more refl ne ∙ sym (rule-stop o p s r (suc k) k (sym (add-one k)) refl ne))
+
+-- One rule alone gives what it gives.
+one-rule : (r : ℕ) (o : State) (s : ℕ) → firstRule 1 r o s ≡ ruleAt r o s
+one-rule r o s =
+    let p : State = ruleAt r o s in
+    by-record o p (λ q. rule-step o p s r 1 0 refl refl q ∙ rule-end p s (r + 1) 0 refl) (λ ne. rule-stop o p s r 1 0 refl refl ne)
+
+module _ (o : State) (s : ℕ) where
+  pub only-A : ruleA o s ≡ firstRule 1 0 o s
+  only-A = sym (one-rule 0 o s ∙ rule-A o s)
+
+  pub only-B : ruleB o s ≡ firstRule 1 1 o s
+  only-B = sym (one-rule 1 o s ∙ rule-B o s)
+
+  pub only-C : ruleC o s ≡ firstRule 1 2 o s
+  only-C = sym (one-rule 2 o s ∙ rule-C o s)
+
+  pub only-D : ruleD o s ≡ firstRule 1 3 o s
+  only-D = sym (one-rule 3 o s ∙ rule-D o s)
+
+  pub only-E : ruleE o s ≡ firstRule 1 4 o s
+  only-E = sym (one-rule 4 o s ∙ rule-E o s)
+
+  pub only-F : ruleF o s ≡ firstRule 1 5 o s
+  only-F = sym (one-rule 5 o s ∙ rule-F o s)
+
+-- ---- an idle slot
+
+module _ (o : State) (s : ℕ) (e : isIdle (o .ledger) s ≡ true) where
+  -- Neither an own initial vote nor a kept block.
+  bare : (noInitial (ownCell (o .ledger) s) ≡ true) × (none (rowAt (o .ledger) s .kept .number) ≡ true)
+  unfolding isIdle
+  bare = and-both (noInitial (ownCell (o .ledger) s)) (none (rowAt (o .ledger) s .kept .number)) e
+
+  B-needs-block : ruleB o s ≡ o
+  unfolding ruleB
+  B-needs-block = given-off _ _ _ (rw (bare .0, bare .1))
+
+  -- None of rules B to E applies.
+  pub idle-quiet : firstRule 4 1 o s ≡ o
+  idle-quiet =
+      pass o s 1 3 1 (sym (only-B o s) ∙ B-needs-block)
+      ∙ pass o s 1 2 2 (sym (only-C o s) ∙ C-needs-vote o s (bare .0))
+      ∙ pass o s 1 1 3 (sym (only-D o s) ∙ D-needs-vote o s (bare .0))
+      ∙ sym (only-E o s)
+      ∙ E-needs-vote o s (bare .0)

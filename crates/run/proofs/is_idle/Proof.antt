@@ -1,0 +1,28 @@
+-- Both parts as the record has them.
+use mathlib.Core.Bool.{_&&_}
+use mathlib.Core.Path.{_∙_, ap}
+use borrow.Author.Needs.{needs}
+use Rattle.rulebook.specs.declared.Cell.{Cell}
+use Rattle.rulebook.specs.Ledger.{none, noInitial}
+use Rattle.run.specs.Idle.{isIdle}
+use Rattle.run.proofs.is_idle.Statement.{statement}
+use Rattle.run.proofs.is_idle.Tie as tie
+
+kept-block-requires : tie.Need-kept-block-requires
+kept-block-requires c κs = search needs
+
+own-cell-requires : tie.Need-own-cell-requires
+own-cell-requires c κs = search needs
+
+no-initial-requires : tie.Need-no-initial-requires
+no-initial-requires c κs = search needs
+
+returns : tie.Need-returns
+unfolding isIdle
+returns c =
+    let initial = c .before .no-initial .ensures ∙ ap (λ (x : Cell). noInitial x) (c .before .before .own-cell .ensures) in
+    λ i. initial i && none (c .before .before .before .kept-block .ensures i .number)
+
+pub is-idle-spec : {M : Type 1} → statement M
+is-idle-spec =
+    tie.close (tie.spec kept-block-requires own-cell-requires no-initial-requires returns)
