@@ -88,10 +88,17 @@ impl Cover {
         }
     }
 
+    /// The branches of the rules, with a large table once more by that name.
     fn take_notes(&mut self, panel: &mut Panel) {
-        if let Some(node) = &mut panel.node {
-            for (what, times) in std::mem::take(&mut node.notes) {
-                *self.notes.entry(what.to_string()).or_insert(0) += times;
+        let node = match &mut panel.node {
+            Some(node) => node,
+            None => return,
+        };
+        let large = node.stakes().family() == Family::Large;
+        for (what, times) in std::mem::take(&mut node.notes) {
+            *self.notes.entry(what.to_string()).or_insert(0) += times;
+            if large {
+                *self.notes.entry(format!("{what}, large table")).or_insert(0) += times;
             }
         }
     }

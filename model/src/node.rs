@@ -11,6 +11,7 @@ use std::collections::{BTreeMap, BTreeSet};
 pub const LAST_SLOT: u64 = 16;
 pub const WINDOW: u64 = 4;
 pub const MOST_FALLBACKS: usize = 3;
+pub const MOST_BLOCKS: usize = 4;
 
 pub const RECORD_FINALIZED: u64 = 6;
 pub const RECORD_ARMED: u64 = 7;
@@ -217,7 +218,7 @@ impl Cell {
     }
 }
 
-/// The block kept for a slot.
+/// A block kept for a slot, with its one parent.
 #[derive(Clone, Copy, PartialEq, Eq, Debug)]
 pub struct Block {
     pub number: u64,
@@ -242,7 +243,8 @@ pub struct Node {
     genesis: u64,
     /// By slot and node, for the nodes with votes in that slot.
     pool: Vec<BTreeMap<usize, Cell>>,
-    kept: [Option<Block>; ROWS],
+    /// In the order in which they were announced.
+    kept: Vec<Vec<Block>>,
     timed_out: [bool; ROWS],
     /// By the window's first slot.
     armed: [bool; ROWS],
@@ -282,7 +284,7 @@ impl Node {
             genesis,
             stakes,
             pool: vec![BTreeMap::new(); ROWS],
-            kept: [None; ROWS],
+            kept: vec![Vec::new(); ROWS],
             timed_out: [false; ROWS],
             armed: [false; ROWS],
             finalized: [false; ROWS],
@@ -311,8 +313,8 @@ impl Node {
         self.pool[slot as usize].get(&self.own).cloned().unwrap_or_default()
     }
 
-    pub fn kept_block(&self, slot: u64) -> Option<Block> {
-        self.kept[slot as usize]
+    pub fn kept_blocks(&self, slot: u64) -> &[Block] {
+        &self.kept[slot as usize]
     }
 
     pub fn is_armed(&self, slot: u64) -> bool {
@@ -427,7 +429,9 @@ impl Node {
             return Err(Refusal::AnotherStands);
         }
         cell.store(vote);
-        Ok(self.run_rules())
+        let records = self.run_rules();
+        self.note_causes(Came::Vote, slot, &records);
+        Ok(records)
     }
 
     /// A run of votes, four words each, every one as if it came alone. With the
@@ -466,12 +470,18 @@ impl Node {
             return Err(Refusal::WrongParent);
         }
         let block = Block { number, parent_slot, parent };
-        match self.kept[slot as usize] {
-            Some(kept) if kept == block => return Err(Refusal::AlreadyKept),
-            Some(_) => return Err(Refusal::AnotherStands),
-            None => self.kept[slot as usize] = Some(block),
+        self.note_announced(slot, block);
+        let kept = &mut self.kept[slot as usize];
+        if kept.contains(&block) {
+            return Err(Refusal::AlreadyKept);
         }
-        Ok(self.run_rules())
+        if kept.len() == MOST_BLOCKS || kept.iter().any(|other| other.number == number) {
+            return Err(Refusal::AnotherStands);
+        }
+        kept.push(block);
+        let records = self.run_rules();
+        self.note_causes(Came::Block(number), slot, &records);
+        Ok(records)
     }
 
     pub fn timeout(&mut self, slot: u64) -> Result<Vec<Record>, Refusal> {
@@ -491,7 +501,9 @@ impl Node {
         } else {
             self.note("timeout that casts nothing");
         }
-        Ok(self.run_rules())
+        let records = self.run_rules();
+        self.note_causes(Came::Timeout, slot, &records);
+        Ok(records)
     }
 
     pub fn look(&mut self) -> Vec<Record> {
@@ -532,10 +544,6 @@ impl Node {
         self.record(vote.kind(), slot, vote.block());
     }
 
-    fn note(&mut self, what: &'static str) {
-        *self.notes.entry(what).or_insert(0) += 1;
-    }
-
     /// Answers whether any skip was cast.
     fn cast_skips_in_window(&mut self, slot: u64) -> bool {
         let mut any = false;
@@ -568,10 +576,10 @@ impl Node {
         true
     }
 
-    /// B: notarize the kept block.
+    /// B: notarize the block that was announced first.
     fn rule_b(&mut self, slot: u64) -> bool {
-        let block = match self.kept_block(slot) {
-            Some(block) => block,
+        let block = match self.kept_blocks(slot).first() {
+            Some(&block) => block,
             None => return false,
         };
         if self.own_cell(slot).initial.is_some() || !self.parent_allows(slot, block) {
@@ -582,6 +590,9 @@ impl Node {
             (true, false) => "B in a first slot, parent over skipped slots",
             (false, _) => "B in a later slot",
         });
+        if self.kept_blocks(slot).len() > 1 {
+            self.note("B after a second block");
+        }
         self.cast(slot, Vote::Notar(block.number));
         true
     }
@@ -623,6 +634,10 @@ impl Node {
         if self.own_cell(slot).notar_is(block) || !self.safe_to_notar(slot, block) {
             return false;
         }
+        if !is_first(slot) && !self.is_kept_upon_certified(slot, block) {
+            self.note_wait(slot, block);
+            return false;
+        }
         let skipped = self.cast_skips_in_window(slot);
         let own = self.own_cell(slot);
         let finished = own.final_vote;
@@ -640,6 +655,16 @@ impl Node {
         let notar = self.notar_weight(slot, block);
         let reaches = |weight, threshold| self.stakes.reaches(weight, threshold);
         reaches(notar, P40) || (reaches(notar, P20) && reaches(self.skip_weight(slot) + notar, P60))
+    }
+
+    /// Whether the block is kept with a parent whose notar-fallback certificate
+    /// is held. Genesis has none.
+    fn is_kept_upon_certified(&self, slot: u64, number: u64) -> bool {
+        self.kept_blocks(slot).iter().any(|kept| {
+            kept.number == number
+                && kept.parent_slot != 0
+                && self.holds(kept.parent_slot, Cert::NotarFallback(kept.parent))
+        })
     }
 
     /// E: the slot may still be skipped.
@@ -694,20 +719,119 @@ impl Node {
         self.holds(slot, Cert::FastFinal(block))
             || (self.holds(slot, Cert::Notar(block)) && self.holds(slot, Cert::Final))
     }
+}
+
+// ---- for `cover` only ----
+
+/// What an accepted input was; a block with its number.
+#[derive(Clone, Copy)]
+enum Came {
+    Vote,
+    Block(u64),
+    Timeout,
+}
+
+impl Node {
+    fn note(&mut self, what: &'static str) {
+        *self.notes.entry(what).or_insert(0) += 1;
+    }
+
+    fn kept_with_number(&self, slot: u64, number: u64) -> Option<Block> {
+        self.kept_blocks(slot).iter().copied().find(|kept| kept.number == number)
+    }
+
+    fn is_kept_first(&self, slot: u64, number: u64) -> bool {
+        self.kept_blocks(slot).first().map(|kept| kept.number) == Some(number)
+    }
+
+    /// How a block that breaks no size fares beside those that are kept.
+    fn note_announced(&mut self, slot: u64, block: Block) {
+        let full = self.kept_blocks(slot).len() == MOST_BLOCKS;
+        let first = self.is_kept_first(slot, block.number);
+        let empty = self.kept_blocks(slot).is_empty();
+        self.note(match self.kept_with_number(slot, block.number) {
+            Some(kept) if kept == block && first => "block: the first one again",
+            Some(kept) if kept == block => "block: a later one again",
+            Some(_) if full => "block: another parent, with four kept",
+            Some(_) => "block: another parent",
+            None if full => "block: a fifth one",
+            None if empty => "block: the first one",
+            None if self.kept_blocks(slot).len() + 1 == MOST_BLOCKS => "block: the fourth one",
+            None => "block: the second or third one",
+        });
+    }
+
+    /// What the input had to do with each fallback to a block outside first slots.
+    fn note_causes(&mut self, came: Came, slot: u64, records: &[Record]) {
+        for made in records.iter().filter(|made| made.kind == 2 && !is_first(made.slot)) {
+            let parent_slot = self.kept_with_number(made.slot, made.block).map(|kept| kept.parent_slot);
+            let first = self.is_kept_first(made.slot, made.block);
+            self.note(match came {
+                Came::Block(number) if (slot, number) != (made.slot, made.block) => "D by another block",
+                Came::Block(_) if first => "D by its block, the first one",
+                Came::Block(_) => "D by its block, a later one",
+                Came::Vote if slot == made.slot => "D by a vote in its slot",
+                Came::Vote if Some(slot) == parent_slot => "D by a vote in the parent's slot",
+                Came::Vote => "D by a vote in another slot",
+                Came::Timeout if slot == made.slot => "D by a timeout in its slot",
+                Came::Timeout => "D by a timeout in another slot",
+            });
+        }
+    }
+
+    fn note_wait(&mut self, slot: u64, block: u64) {
+        self.note(match self.kept_with_number(slot, block) {
+            None => "D waits for the block",
+            Some(kept) if kept.parent_slot == 0 => "D waits upon genesis",
+            Some(_) => "D waits for the parent",
+        });
+        if window_of(slot).any(|s| self.own_cell(s).initial.is_none()) {
+            self.note("D waits with its skips");
+        }
+    }
 
     fn note_fallback(&mut self, slot: u64, block: u64, skipped: bool, fell_back: bool, finished: bool) {
-        if fell_back {
-            let by_40 = self.stakes.reaches(self.notar_weight(slot, block), P40);
-            self.note(if by_40 { "D by 40" } else { "D by 20 and 60" });
-            if self.own_cell(slot).notar_fallbacks.len() == MOST_FALLBACKS {
-                self.note("D for a third block");
-            }
-            if self.own_cell(slot).notar_block().is_some() {
-                self.note("D beside an own notar");
-            }
-        }
         if skipped {
             self.note(if finished { "D beside an own final" } else { "D with skips" });
+        }
+        if !fell_back {
+            return;
+        }
+        let by_40 = self.stakes.reaches(self.notar_weight(slot, block), P40);
+        self.note(if by_40 { "D by 40" } else { "D by 20 and 60" });
+        if self.own_cell(slot).notar_fallbacks.len() == MOST_FALLBACKS {
+            self.note("D for a third block");
+        }
+        if self.own_cell(slot).notar_block().is_some() {
+            self.note("D beside an own notar");
+        }
+        if !is_first(slot) {
+            self.note_later_fallback(slot, block, skipped);
+        }
+    }
+
+    fn note_later_fallback(&mut self, slot: u64, block: u64, skipped: bool) {
+        let kept = self.kept_with_number(slot, block).expect("the rule asks for the block");
+        self.note("D in a later slot");
+        if skipped {
+            self.note("D in a later slot, with skips");
+        }
+        if !self.is_kept_first(slot, block) {
+            self.note("D for a block that is not the first");
+        }
+        if kept.parent_slot + 1 != slot {
+            self.note("D upon a parent not next door");
+        }
+        if !self.holds(kept.parent_slot, Cert::Notar(kept.parent)) {
+            self.note("D upon kind 3 without kind 2");
+        }
+        let waiting = |&lower: &u64| {
+            !self.own_cell(slot).notar_is(lower)
+                && self.safe_to_notar(slot, lower)
+                && !self.is_kept_upon_certified(slot, lower)
+        };
+        if self.notar_blocks(slot).range(..block).any(waiting) {
+            self.note("D past a lower block that waits");
         }
     }
 }

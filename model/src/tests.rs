@@ -323,7 +323,7 @@ fn block_refusals_in_order() {
     assert_eq!(refused(n.block(2, 5, 0, 1)), 7);
     assert_eq!(refused(n.block(2, 5, 0, 2)), 11);
     assert_eq!(refused(n.block(2, 5, 1, 1)), 8);
-    assert_eq!(refused(n.block(2, 6, 0, 1)), 8);
+    block(&mut n, 2, 6, 0, 1);
 }
 
 #[test]
@@ -515,11 +515,112 @@ fn another_block_at_40_beside_an_own_final() {
 }
 
 #[test]
-fn fallback_to_a_block_never_announced() {
+fn fallback_in_a_first_slot_to_a_block_never_announced() {
     let mut n = ten();
     look(&mut n);
     timeout(&mut n, 4);
-    assert_eq!(votes(&mut n, 1, 1..=4, 3, 99), [(2, 3, 99)]);
+    assert_eq!(votes(&mut n, 1, 1..=4, 1, 99), [(2, 1, 99)]);
+}
+
+/// Ten nodes of 1, the own one with skips in slots 1 to 4.
+fn ten_skipping() -> Node {
+    let mut n = ten();
+    look(&mut n);
+    timeout(&mut n, 1);
+    n
+}
+
+#[test]
+fn fallback_waits_for_the_block() {
+    let mut n = ten_skipping();
+    assert_eq!(votes(&mut n, 2, 1..=6, 2, 20), []);
+    assert_eq!(votes(&mut n, 1, 1..=4, 3, 30), []);
+    // Another number does not do, nor the same one in another slot.
+    assert_eq!(block(&mut n, 3, 31, 2, 20), []);
+    assert_eq!(block(&mut n, 4, 30, 2, 20), []);
+    assert_eq!(block(&mut n, 3, 30, 2, 20), [(2, 3, 30)]);
+}
+
+#[test]
+fn fallback_waits_for_the_parents_certificate() {
+    let mut n = ten_skipping();
+    // The parent need not be next door.
+    assert_eq!(block(&mut n, 4, 40, 2, 20), []);
+    assert_eq!(votes(&mut n, 1, 1..=4, 4, 40), []);
+    // Kind 3 is asked for, by fallbacks alone or not.
+    assert_eq!(votes(&mut n, 2, 1..=5, 2, 20), []);
+    assert_eq!(vote(&mut n, 2, 6, 2, 20), [(2, 4, 40)]);
+}
+
+#[test]
+fn a_timeout_in_another_slot_brings_the_fallback() {
+    let mut n = ten();
+    block(&mut n, 1, 10, 0, 1);
+    block(&mut n, 3, 30, 2, 20);
+    assert_eq!(votes(&mut n, 1, 1..=4, 3, 30), []);
+    assert_eq!(votes(&mut n, 2, 1..=6, 2, 20), []);
+    // Block and parent are there, the own initial vote comes last.
+    assert_eq!(timeout(&mut n, 2), [(3, 2, 0), (3, 3, 0), (3, 4, 0), (2, 3, 30)]);
+}
+
+#[test]
+fn the_skips_of_d_wait_too() {
+    let mut n = ten();
+    block(&mut n, 1, 10, 0, 1);
+    assert_eq!(block(&mut n, 2, 20, 1, 10), [(1, 2, 20)]);
+    assert_eq!(votes(&mut n, 1, 1..=4, 2, 21), []);
+    assert_eq!(block(&mut n, 2, 21, 1, 11), []);
+    assert_eq!(votes(&mut n, 2, 1..=5, 1, 11), []);
+    assert_eq!(vote(&mut n, 2, 6, 1, 11), [(3, 3, 0), (3, 4, 0), (2, 2, 21)]);
+}
+
+#[test]
+fn a_child_of_genesis_outside_a_first_slot_gets_no_fallback() {
+    let mut n = ten_skipping();
+    assert_eq!(block(&mut n, 2, 20, 0, 1), []);
+    assert_eq!(votes(&mut n, 1, 1..=9, 2, 20), [(6, 2, 20)]);
+    let mut first = ten_skipping();
+    assert_eq!(block(&mut first, 1, 10, 0, 1), []);
+    assert_eq!(votes(&mut first, 1, 1..=4, 1, 10), [(2, 1, 10)]);
+}
+
+#[test]
+fn a_lower_block_that_waits_holds_no_higher_one_back() {
+    let mut n = ten_skipping();
+    votes(&mut n, 2, 1..=6, 2, 20);
+    assert_eq!(votes(&mut n, 1, 1..=4, 3, 30), []);
+    assert_eq!(block(&mut n, 3, 31, 2, 20), []);
+    assert_eq!(votes(&mut n, 1, 5..=8, 3, 31), [(2, 3, 31)]);
+    assert_eq!(block(&mut n, 3, 30, 2, 20), [(2, 3, 30)]);
+}
+
+#[test]
+fn up_to_four_blocks_are_kept_each_with_one_parent() {
+    let mut n = ten();
+    for number in [20, 21, 22] {
+        block(&mut n, 3, number, 2, 9);
+    }
+    assert_eq!(refused(n.block(3, 20, 2, 9)), 7);
+    assert_eq!(refused(n.block(3, 21, 2, 8)), 8);
+    assert_eq!(refused(n.block(3, 22, 1, 9)), 8);
+    block(&mut n, 3, 23, 0, 1);
+    assert_eq!(refused(n.block(3, 24, 2, 9)), 8);
+    assert_eq!(refused(n.block(3, 23, 0, 1)), 7);
+    // Another slot has places of its own, and the number another parent there.
+    block(&mut n, 4, 20, 0, 1);
+}
+
+#[test]
+fn rule_b_looks_at_the_first_block_alone() {
+    let mut n = ten();
+    assert_eq!(block(&mut n, 2, 20, 1, 11), [(7, 1, 0)]);
+    assert_eq!(block(&mut n, 2, 21, 1, 10), []);
+    // The second would do, the first does not.
+    assert_eq!(block(&mut n, 1, 10, 0, 1), [(1, 1, 10)]);
+    let mut m = ten();
+    block(&mut m, 2, 20, 1, 10);
+    block(&mut m, 2, 19, 1, 11);
+    assert_eq!(block(&mut m, 1, 10, 0, 1), [(1, 1, 10), (1, 2, 20)]);
 }
 
 #[test]
@@ -1043,6 +1144,39 @@ const BRANCHES: &[&str] = &[
     "D by 20 and 60",
     "D for a third block",
     "D with skips",
+    "D in a later slot",
+    "D in a later slot, with skips",
+    "D waits for the block",
+    "D waits for the parent",
+    "D waits upon genesis",
+    "D waits with its skips",
+    "D by its block, the first one",
+    "D by its block, a later one",
+    "D by another block",
+    "D by a vote in its slot",
+    "D by a vote in the parent's slot",
+    "D by a timeout in its slot",
+    "D by a timeout in another slot",
+    "D for a block that is not the first",
+    "D upon a parent not next door",
+    "D upon kind 3 without kind 2",
+    "D past a lower block that waits",
+    "B after a second block",
+    "block: the first one",
+    "block: the second or third one",
+    "block: the fourth one",
+    "block: a fifth one",
+    "block: the first one again",
+    "block: a later one again",
+    "block: another parent",
+    "block: another parent, with four kept",
+    "D in a later slot, large table",
+    "D waits for the block, large table",
+    "D waits for the parent, large table",
+    "D for a block that is not the first, large table",
+    "D upon kind 3 without kind 2, large table",
+    "block: a fifth one, large table",
+    "block: another parent, large table",
     "D beside an own final",
     "D beside an own notar",
     "E with skip-fallback",
@@ -1072,7 +1206,7 @@ const BRANCHES: &[&str] = &[
     "tray with records and several accepted votes",
 ];
 
-/// These end a run or take long, so they are seldom.
+/// These end a run, take long or ask for much at once, so they are seldom.
 const SELDOM: &[&str] = &[
     "quit as the last line",
     "quit before the last line",
@@ -1082,6 +1216,11 @@ const SELDOM: &[&str] = &[
     "start with 64 nodes",
     "start with 65 nodes",
     "start with 2048 nodes",
+    "D by a vote in another slot",
+    "D by its block, a later one, large table",
+    "D by a vote in the parent's slot, large table",
+    "D by a timeout in another slot, large table",
+    "D past a lower block that waits, large table",
 ];
 
 #[test]

@@ -168,6 +168,7 @@ fn bring_parent(w: &mut Writer, numbers: &Numbers, first: u64) {
 fn plan(w: &mut Writer, numbers: &Numbers, first: u64, last: u64) -> Vec<Action> {
     let spread = w.random.pick(&[1, 60, 100, 300, 3000]);
     let absent_percent = w.random.pick(&[0, 0, 5, 15]);
+    let known_percent = w.random.pick(&[0, 30, 80]);
     let mut timed: Vec<(u64, Action)> = Vec::new();
     let mut at = |random: &mut Random, slot: u64, late: u64, action: Action| {
         let time = (slot - first) * 100 + late + random.below(spread);
@@ -192,6 +193,13 @@ fn plan(w: &mut Writer, numbers: &Numbers, first: u64, last: u64) -> Vec<Action>
                 at(random, slot, 40, Action::Timeout { slot: slot_named });
             }
             Lean::Nothing => {}
+        }
+        // Blocks that others vote for come to be known as well, sooner or later.
+        for &number in &blocks {
+            if random.percent(known_percent) {
+                let late = random.range(5, 90);
+                at(random, slot, late, Action::Announce { slot, number });
+            }
         }
         let second = random.pick(SECONDS);
         for (camp, members) in ring.camps.iter().enumerate() {
@@ -301,7 +309,7 @@ fn own_block(w: &Writer, slot: u64) -> Option<u64> {
     if slot == 0 {
         return Some(w.ring.genesis);
     }
-    let kept = w.node().kept_block(slot).map(|kept| kept.number);
+    let kept = w.node().kept_blocks(slot).first().map(|kept| kept.number);
     w.node().own_cell(slot).notar_block().or(kept)
 }
 

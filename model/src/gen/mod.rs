@@ -27,7 +27,7 @@ pub struct Script {
 pub fn script(seed: u64) -> Script {
     // The seed is stirred once, so that seeds in a row share nothing.
     let mut random = Random::new(Random::new(seed).next());
-    match random.below(44) {
+    match random.below(50) {
         0 => tiny(random),
         1 => before_start(random),
         2 => restarts(random),
@@ -44,6 +44,7 @@ pub fn script(seed: u64) -> Script {
         27 | 28 => leaps(random),
         29 | 30 => messages(random),
         31 | 32 => trays(random),
+        33..=38 => waits(random),
         _ => history(random),
     }
 }
@@ -138,6 +139,17 @@ fn standoffs(mut random: Random) -> Script {
     let ring = Ring::of_fifths(&mut random, nodes);
     let mut w = begin(random, ring, 100, 200);
     scenes::standoffs(&mut w);
+    finish_with_audit(w, 5)
+}
+
+fn waits(mut random: Random) -> Script {
+    let nodes = random.pick(&[5, 5, 5, 6, 8]);
+    let mut ring = Ring::of_fifths(&mut random, nodes);
+    if random.percent(20) {
+        ring = ring.widened(&mut random);
+    }
+    let mut w = begin(random, ring, 100, 200);
+    scenes::waits(&mut w);
     finish_with_audit(w, 5)
 }
 

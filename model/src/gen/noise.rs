@@ -80,14 +80,17 @@ fn contradict(w: &mut Writer, numbers: &Numbers) {
     w.vote(kind, node, slot, block);
 }
 
-/// A kept block with one thing changed: another stands in its place.
+/// A kept block again, or with one thing changed.
 fn contradict_block(w: &mut Writer) {
-    let slots: Vec<u64> = (1..=LAST_SLOT).filter(|&slot| w.node().kept_block(slot).is_some()).collect();
+    let slots: Vec<u64> = (1..=LAST_SLOT).filter(|&slot| !w.node().kept_blocks(slot).is_empty()).collect();
     if slots.is_empty() {
         return;
     }
     let slot = w.random.pick(&slots);
-    let kept = w.node().kept_block(slot).unwrap();
+    let kept = {
+        let all = w.node().kept_blocks(slot).to_vec();
+        w.random.pick(&all)
+    };
     let (mut number, mut parent_slot, mut parent) = (kept.number, kept.parent_slot, kept.parent);
     match w.random.below(4) {
         0 => number = w.random.any_number(),

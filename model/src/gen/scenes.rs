@@ -4,7 +4,7 @@
 use super::history::{announce, push, second_votes, some_order, Lean, Numbers, A, B, C, M, N, S, SECONDS};
 use super::noise;
 use super::writer::Writer;
-use crate::node::{is_first, Cert, LAST_SLOT, WINDOW};
+use crate::node::{first_of_window, is_first, Cert, LAST_SLOT, WINDOW};
 use crate::random::Random;
 use crate::stakes::{P40, P60, P80};
 
@@ -167,6 +167,15 @@ pub fn avalanche(w: &mut Writer) {
         }
     }
     w.random.shuffle(&mut actions);
+    // Other blocks are known too, but never first.
+    let known = w.random.pick(&[0, 50, 100]);
+    for slot in 2..=LAST_SLOT {
+        for block in some_order(&mut w.random, numbers.of_slot(slot)) {
+            if w.random.percent(known) {
+                actions.push(format!("block {slot} {block} {} {}", slot - 1, mains[slot as usize - 1]));
+            }
+        }
+    }
     let by_timeout = w.random.percent(40);
     if by_timeout {
         w.say("look");
@@ -321,4 +330,120 @@ pub fn bridges(w: &mut Writer) {
     }
     w.say(announced);
     w.say(format!("timeout {first}"));
+}
+
+/// What the four other camps vote so that rule D's weights may be reached.
+const DOUBTED: &[[Lean; 4]] = &[
+    [M, M, N, N],
+    [M, S, S, N],
+    [M, A, S, S],
+    [M, M, A, A],
+    [A, M, M, S],
+    [M, M, M, N],
+    [S, A, B, C],
+    [S, M, A, B],
+];
+
+#[derive(Clone, Copy)]
+enum Step {
+    OwnVote,
+    Votes(usize, Lean),
+    /// One of the slot's blocks, or a fifth one.
+    Announce(usize),
+    /// One of the slot's blocks, upon the parent of another.
+    AnnounceOtherwise(usize),
+    /// The parent of one of the slot's blocks.
+    Certify(usize),
+}
+
+/// Fallbacks outside first slots: the votes, the block, its parent's
+/// certificate and the own vote come in any order, or not at all.
+pub fn waits(w: &mut Writer) {
+    let numbers = Numbers::any(&mut w.random, w.ring.genesis);
+    w.say("look");
+    let mut slot = 1;
+    while !w.full() {
+        slot += w.random.range(1, 3);
+        if slot > LAST_SLOT {
+            return;
+        }
+        if !w.node().is_armed(slot) {
+            lead_over(w, first_of_window(slot));
+        }
+        if w.random.percent(60) {
+            follow(w, &numbers, slot);
+        }
+        wait_in(w, &numbers, slot);
+    }
+}
+
+/// Blocks of the window up to the slot, for which the own node may vote.
+fn follow(w: &mut Writer, numbers: &Numbers, slot: u64) {
+    for earlier in first_of_window(slot)..=slot {
+        if w.node().own_cell(earlier).initial.is_none() {
+            let block = w.random.pick(&numbers.of_slot(earlier));
+            announce(w, numbers, earlier, block);
+        }
+    }
+}
+
+fn wait_in(w: &mut Writer, numbers: &Numbers, slot: u64) {
+    let blocks = some_order(&mut w.random, numbers.of_slot(slot));
+    let parents = some_parents(w, numbers, slot);
+    for step in some_steps(&mut w.random) {
+        match step {
+            Step::OwnVote => {
+                let any = w.random.range(first_of_window(slot), slot);
+                let named = w.random.pick(&[slot, any]);
+                w.say(format!("timeout {named}"));
+            }
+            Step::Votes(camp, lean) => camp_votes(w, &[camp], slot, lean, &blocks),
+            Step::Announce(i) => {
+                let number = blocks.get(i).copied().unwrap_or_else(|| w.random.any_number().max(1));
+                let (parent_slot, parent) = parents[i % 4];
+                w.say(format!("block {slot} {number} {parent_slot} {parent}"));
+            }
+            Step::AnnounceOtherwise(i) => {
+                let (parent_slot, parent) = parents[(i + 1) % 4];
+                w.say(format!("block {slot} {} {parent_slot} {parent}", blocks[i]));
+            }
+            Step::Certify(i) => {
+                let (parent_slot, parent) = parents[i];
+                if parent_slot > 0 {
+                    push(w, Cert::NotarFallback(parent), parent_slot);
+                }
+            }
+        }
+    }
+}
+
+/// A parent for each of the slot's blocks, mostly the same for all.
+fn some_parents(w: &mut Writer, numbers: &Numbers, slot: u64) -> [(u64, u64); 4] {
+    let mut any_parent = || {
+        let any_below = w.random.below(slot);
+        let parent_slot = w.random.pick(&[slot - 1, slot - 1, any_below]);
+        let of_slot = numbers.of_slot(parent_slot);
+        (parent_slot, if parent_slot == 0 { w.ring.genesis } else { w.random.pick(&of_slot) })
+    };
+    let (shared, other) = (any_parent(), any_parent());
+    [(); 4].map(|_| w.random.pick(&[shared, shared, shared, other]))
+}
+
+fn some_steps(random: &mut Random) -> Vec<Step> {
+    let mut steps = vec![Step::OwnVote, Step::Announce(0)];
+    steps.extend(random.pick(DOUBTED).into_iter().enumerate().map(|(i, lean)| Step::Votes(i + 1, lean)));
+    let known = random.pick(&[0, 50, 100]);
+    steps.extend((1..4).filter(|_| random.percent(known)).map(Step::Announce).collect::<Vec<_>>());
+    for (percent, step) in [
+        (90, Step::Certify(0)),
+        (40, Step::Certify(random.index(4))),
+        (20, Step::Announce(4)),
+        (20, Step::AnnounceOtherwise(random.index(4))),
+    ] {
+        if random.percent(percent) {
+            steps.push(step);
+        }
+    }
+    random.shuffle(&mut steps);
+    steps
 }
