@@ -38,7 +38,7 @@ enum qr_number {
     QR_BAD_BLOCK = 5,     /* block 0 where one is needed, or not 0 where none is */
     QR_OWN_NAME = 6,      /* vote in the own node's name from outside */
     QR_ALREADY_KEPT = 7,  /* that very vote, block with parent, or timeout is kept */
-    QR_OTHER_STANDS = 8,  /* another stands in its place */
+    QR_OTHER_STANDS = 8,  /* another stands in its place; a fifth block of a slot, or a kept block with another parent */
     QR_NO_ROOM = 9,       /* outbox below 384 words; buffer below its bytes (enum qr_size); too few places for a tray's answers */
     QR_NOT_ARMED = 10,    /* timeout for a window that is not armed */
     QR_BAD_PARENT = 11,   /* parent slot not below the slot, or slot 0 without genesis */
@@ -99,8 +99,8 @@ enum qr_size {
     QR_LAST_SLOT = 16
 };
 
-/* Words of a record of a ring of so many nodes, 1 to QR_MOST_NODES, exactly: 453 for three nodes, 245,853 for 2,048. */
-#define QR_RECORD_WORDS(nodes) (93 + 120 * (size_t)(nodes))
+/* Words of a record of a ring of so many nodes, 1 to QR_MOST_NODES, exactly: 606 for three nodes, 246,006 for 2,048. */
+#define QR_RECORD_WORDS(nodes) (246 + 120 * (size_t)(nodes))
 
 /*
  * The same of the library that is linked, which a host compares with those of this header. qr_record_words: by the number
@@ -128,7 +128,11 @@ uint64_t qr_start(uint64_t *record, size_t record_words, const uint64_t *stakes,
 uint64_t qr_vote(uint64_t *record, size_t record_words, uint64_t *outbox, size_t outbox_words, size_t *made, uint64_t kind,
                  size_t node, size_t slot, uint64_t block);
 
-/* A block with its parent. Refusals: 17, 9, 3, 5, 11, 7, 8. */
+/*
+ * A block with its parent. Up to four are kept of a slot, each number with one parent; the node may cast notar for the
+ * first alone, and outside a window's first slot it falls back only to a block that is kept. Refusals: 17, 9, 3, 5, 11; 7
+ * where that very block is kept; 8 for a kept number with another parent, and for a fifth block.
+ */
 uint64_t qr_block(uint64_t *record, size_t record_words, uint64_t *outbox, size_t outbox_words, size_t *made, size_t slot,
                   uint64_t number, size_t parent_slot, uint64_t parent);
 

@@ -54,6 +54,25 @@ static void show_tray(uint64_t *record, uint64_t *outbox)
     printf("; a part at the end: %" PRIu64 "\n", number);
 }
 
+/* Up to four blocks of a slot are kept, each number with one parent. */
+static void show_blocks(uint64_t *record, uint64_t *outbox)
+{
+    const uint64_t stakes[3] = {4, 3, 3};
+    uint64_t number;
+    size_t made;
+    if (qr_start(record, QR_RECORD_WORDS(3), stakes, 3, 0, 1) != QR_DONE)
+        return;
+    printf("blocks 21 to 25 of slot 2:");
+    for (uint64_t block = 21; block <= 25; block++) {
+        number = qr_block(record, QR_RECORD_WORDS(3), outbox, QR_OUTBOX_WORDS, &made, 2, block, 1, 10);
+        printf(" %" PRIu64, number);
+    }
+    number = qr_block(record, QR_RECORD_WORDS(3), outbox, QR_OUTBOX_WORDS, &made, 2, 21, 1, 10);
+    printf("; 21 again: %" PRIu64, number);
+    number = qr_block(record, QR_RECORD_WORDS(3), outbox, QR_OUTBOX_WORDS, &made, 2, 21, 1, 11);
+    printf("; 21 with another parent: %" PRIu64 "\n", number);
+}
+
 /* The first bytes of a packet, with their number. */
 static void show_packet(const char *what, uint64_t number, const uint8_t *packet, size_t written)
 {
@@ -163,6 +182,7 @@ int main(void)
     show_check("B9: kind 5 without signers", number, values, missing);
     show_message();
     show_tray(record, outbox);
+    show_blocks(record, outbox);
     show_large(outbox);
     return 0;
 }

@@ -50,6 +50,9 @@ const SMALL_RING: usize = 64;
 
 const MOST_BLOCKS: usize = 256;
 
+// So many announced blocks are kept of a slot.
+const KEPT_BLOCKS: usize = 4;
+
 // Whether a ring is shown in sum.
 fn is_large(rec: &[u64]) -> bool {
     nodes_of(rec) > SMALL_RING
@@ -206,9 +209,9 @@ fn put_if(page: &mut [u8], at: usize, there: bool, text: &[u8]) -> usize {
     at
 }
 
-// The kept block with its parent.
-fn kept_line(page: &mut [u8], at: usize, rec: &[u64], s: Slot) -> usize {
-    let b = kept_of(rec, s);
+// The block in one of a slot's places for kept blocks, with its parent, where there is one.
+fn kept_line(page: &mut [u8], at: usize, rec: &[u64], s: Slot, place: usize) -> usize {
+    let b = kept_of(rec, s, place);
     let slot = b.parentslot;
     if b.number == 0 {
         return at;
@@ -217,6 +220,15 @@ fn kept_line(page: &mut [u8], at: usize, rec: &[u64], s: Slot) -> usize {
     let q = put_named(page, p, b", parent ", b.parent);
     let r = put_named(page, q, b" in slot ", slot.0 as u64);
     end_line(page, r)
+}
+
+// The kept blocks, as they were announced: first the one that the node may notarize.
+fn kept_lines(page: &mut [u8], at: usize, rec: &[u64], s: Slot) -> usize {
+    let mut next = at;
+    for place in 0..KEPT_BLOCKS {
+        next = kept_line(page, next, rec, s, place);
+    }
+    next
 }
 
 // The own votes.
@@ -466,7 +478,7 @@ fn slot_line(page: &mut [u8], at: usize, rec: &[u64], s: Slot) -> usize {
 // What is kept of a slot.
 fn slot_board(page: &mut [u8], at: usize, rec: &[u64], s: Slot) -> usize {
     let p = slot_line(page, at, rec, s);
-    let q = kept_line(page, p, rec, s);
+    let q = kept_lines(page, p, rec, s);
     let r = own_line(page, q, rec, s);
     let t = votes_board(page, r, rec, s);
     reported_line(page, t, rec, s)

@@ -5,7 +5,7 @@ ghost use Prim.Native.Nat.{max};
 ghost use Rattle.rulebook.specs.declared.Who.the-variants as who;
 ghost use Rattle.rulebook.specs.Tools.{lower, lowest, largest};
 ghost use Rattle.rulebook.specs.Pool.{weigh, names};
-ghost use Rattle.rulebook.specs.Rules.{fallbackWeights, fallsBack, fallbackBlock, skipWeights, isFinal};
+ghost use Rattle.rulebook.specs.Rules.{fallbackWeights, parentBacked, isBacked, isGrounded, fallsBack, fallbackBlock, skipWeights, isFinal};
 ghost use Rattle.record.specs.Layout.{ledgerOf};
 ghost use Rattle.pool.specs.Weighing.{Weighing, Passed};
 ghost use Rattle.candidates.specs.Judging.{Judging, isNew};
@@ -13,11 +13,15 @@ use own_votes::may_fallback;
 use own_votes::window_open;
 use pool::counted_before;
 use pool::held;
+use pool::is_first;
 use pool::weigh;
+use record::MOST_BLOCKS;
 use record::count;
+use record::load_block;
 use record::load_cell;
 use record::own_cell;
 use record::total;
+use rulebook::Block;
 use rulebook::CertificateKind;
 use rulebook::Node;
 use rulebook::Slot;
@@ -45,7 +49,53 @@ pub fn fallback_weights(rec: &[u64], s: Slot, b: u64) -> bool
     to_sixty.0 == 0
 }
 
-// Whether D applies to b: the own vote is not notar b, something would be cast, and the weights.
+// Whether kind 3 is held for the parent (p, x) of a block of slot s: genesis has none, and a parent stands below.
+fn parent_backed(rec: &[u64], s: Slot, p: Slot, x: u64) -> bool
+    requires { ⌜ Weighing (now rec) (s .0) ⌝ }
+    ensures { λ r. ⌜ r ≡ parentBacked (ledgerOf (now (rec .entry))) (s .0) (p .0) x ⌝ }
+{
+    if p.0 == 0 {
+        return false;
+    }
+    if s.0 <= p.0 {
+        return false;
+    }
+    held(rec, CertificateKind::NotarFallback, p, x)
+}
+
+// Whether k, in one of slot s's places, is block b, and its parent backed.
+fn is_backed(rec: &[u64], s: Slot, b: u64, k: Block) -> bool
+    requires { ⌜ Weighing (now rec) (s .0) ⌝ }
+    ensures { λ r. ⌜ r ≡ isBacked (ledgerOf (now (rec .entry))) (s .0) b k ⌝ }
+{
+    if k.number == 0 {
+        return false;
+    }
+    if k.number != b {
+        return false;
+    }
+    let p = k.parentslot;
+    parent_backed(rec, s, p, k.parent)
+}
+
+// Whether D need not wait for b: in a first slot; elsewhere where b is kept and its parent backed.
+fn is_grounded(rec: &[u64], s: Slot, b: u64) -> bool
+    requires { ⌜ Weighing (now rec) (s .0) ⌝ }
+    ensures { λ r. ⌜ r ≡ isGrounded (ledgerOf (now (rec .entry))) (s .0) b ⌝ }
+{
+    if is_first(s) {
+        return true;
+    }
+    for n in 0..MOST_BLOCKS {
+        let k = load_block(rec, s, n);
+        if is_backed(rec, s, b, k) {
+            return true;
+        }
+    }
+    false
+}
+
+// Whether D applies to b: the own vote is not notar b, something would be cast, the weights, the block and its parent.
 fn falls_back(rec: &[u64], s: Slot, b: u64) -> bool
     requires { ⌜ Judging (now rec) (s .0) ⌝ }
     ensures { λ r. ⌜ r ≡ fallsBack (ledgerOf (now (rec .entry))) (s .0) b ⌝ }
@@ -58,7 +108,11 @@ fn falls_back(rec: &[u64], s: Slot, b: u64) -> bool
     if !casts {
         return false;
     }
-    fallback_weights(rec, s, b)
+    let heavy = fallback_weights(rec, s, b);
+    if !heavy {
+        return false;
+    }
+    is_grounded(rec, s, b)
 }
 
 // The lower of b, where it passes, and m; 0 stands for none.

@@ -160,7 +160,7 @@ fn middle_refusal(page: &mut [u8], at: usize, n: u64) -> usize {
         8 => tell_line(
             page,
             at,
-            b"8: Another stands in its place: a second initial vote, a fourth notar-fallback, another block.",
+            b"8: Another stands in its place: a second initial vote, a fourth notar-fallback, a fifth block of a slot, a kept block with another parent.",
         ),
         9 => tell_line(
             page,
@@ -208,7 +208,7 @@ fn refusal(page: &mut [u8], at: usize, n: u64) -> usize {
         17 => tell_line(
             page,
             at,
-            b"17: No node is started; or the record has a wrong length, a field outside its range, a total that is not the sum, a fallback block kept twice for one node, or an unused place that is not 0.",
+            b"17: No node is started; or the record has a wrong length, a field outside its range, a total that is not the sum, a fallback block kept twice for one node, a block kept twice in a slot, or an unused place that is not 0.",
         ),
         18 => tell_line(
             page,

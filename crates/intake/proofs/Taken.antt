@@ -12,11 +12,11 @@ use Rattle.rulebook.specs.declared.Input.{Input}
 use Rattle.rulebook.specs.declared.Input.the-variants as input
 use Rattle.rulebook.specs.declared.Verdict.the-variants.{Fine}
 use Rattle.rulebook.specs.Weights.{lastSlot}
-use Rattle.rulebook.specs.Ledger.{Ledger, noInitial, ownCell, putKept, putTimedOut}
+use Rattle.rulebook.specs.Ledger.{Ledger, noInitial, ownCell, putTimedOut}
 use Rattle.rulebook.specs.Votes.{storeVote}
 use Rattle.rulebook.specs.Rules.{State, stateOf, castSkips}
 use Rattle.rulebook.specs.Run.{mostRecords}
-use Rattle.rulebook.specs.Inputs.{verdict, voteVerdict, blockVerdict, timeoutVerdict, timeOut, intake}
+use Rattle.rulebook.specs.Inputs.{verdict, voteVerdict, blockVerdict, keepBlock, timeoutVerdict, timeOut, intake}
 use Rattle.rulebook.proofs.ToolLaws.{given-on, given-off}
 use Rattle.record.specs.Layout.{InSlot, Placed, ledgerOf}
 use Rattle.record.proofs.Places.{long-same}
@@ -113,7 +113,7 @@ module _ {ws out : List ℕ} (s : Slot) (b : Block) (h : Taking ws out (input.Bl
   pub block-placed : InSlot ws (s .0)
   block-placed = record { long = h .long; slot = omega (arith, block-fits .high) }
 
-  pub block-taken : (ws' : List ℕ) → length ws' ≡ length ws → ledgerOf ws' ≡ putKept (ledgerOf ws) (s .0) b
+  pub block-taken : (ws' : List ℕ) → length ws' ≡ length ws → ledgerOf ws' ≡ keepBlock (ledgerOf ws) (s .0) b
       → Onward ws out 0 ws' out 0 (intake (ledgerOf ws) (input.Block s b))
   unfolding intake
   block-taken ws' long is =

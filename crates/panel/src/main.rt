@@ -17,7 +17,7 @@ const LONGEST: usize = 65536;
 const PAGE_ROOM: usize = 34816;
 
 // The words of the largest record, that of 2,048 nodes.
-const RECORD_WORDS: usize = 245853;
+const RECORD_WORDS: usize = 246006;
 
 const OUTBOX_WORDS: usize = 384;
 

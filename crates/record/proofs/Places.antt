@@ -1,4 +1,4 @@
--- Where the rows and cells of a record with p places stand: the only product of two variables, and its laws. Assumes nothing.
+-- Where the rows, blocks and cells of a record with p places stand: the only product of two variables, and its laws. Assumes nothing.
 use mathlib.Core.Path.{_≡_, refl, sym, ap, _∙_}
 use mathlib.Core.Bool.{true}
 use mathlib.Core.List.{List}
@@ -10,8 +10,8 @@ use native.Mathlib.Decide.{ℕ-discrete}
 use lib.ListN.{length}
 use borrow.Author.Tests.{eqb-true, eq-eqb}
 use Rattle.rulebook.specs.Weights.{lastSlot}
-use Rattle.rulebook.specs.Ledger.{places}
-use Rattle.record.specs.Layout.{wordAt, stakeStart, headWords, rowHead, rowWords, cellWords, rowStart, cellStart, bareWords, placeWords, recordWords, placesIn, isLong, Long, ledgerAt, ledgerOf, InSlot, Placed, InTable, Counted, RowAt, CellAt}
+use Rattle.rulebook.specs.Ledger.{mostBlocks, places}
+use Rattle.record.specs.Layout.{wordAt, stakeStart, headWords, rowHead, rowWords, blockWords, cellWords, rowStart, blockStart, cellStart, timeoutAt, bareWords, placeWords, recordWords, placesIn, isLong, Long, ledgerAt, ledgerOf, InSlot, InBlocks, Placed, InTable, Counted, RowAt, BlockAt, CellAt}
 use Rattle.record.proofs.Tables.{lt-or-gt, length-tabulate}
 
 module _ (p : ℕ) where
@@ -39,6 +39,13 @@ module _ (p : ℕ) where
   -- Cells of two nodes in a row never share a word, and none is in the row's head.
   pub cells-apart : (s n m i : ℕ) → cellStart p s n ≤ i → i < cellStart p s n + cellWords → cellStart p s m ≤ i → i < cellStart p s m + cellWords → n ≡ m
   cells-apart s n m i a b c d = omega arith
+
+  -- Two places for blocks in a row never share a word, and all lie in the row's head, before its marks.
+  pub blocks-apart : (s n m i : ℕ) → blockStart p s n ≤ i → i < blockStart p s n + blockWords → blockStart p s m ≤ i → i < blockStart p s m + blockWords → n ≡ m
+  blocks-apart s n m i a b c d = omega arith
+
+  pub block-inside : (s n : ℕ) → n < mostBlocks → (rowStart p s ≤ blockStart p s n) × (blockStart p s n + blockWords ≤ rowStart p s + timeoutAt)
+  block-inside s n h = (omega arith, omega arith)
 
   -- A node's cell lies in its slot's row.
   pub cell-inside : (s n : ℕ) → n < p → (rowStart p s + rowHead ≤ cellStart p s n) × (cellStart p s n + cellWords ≤ rowStart p s + rowWords p)
@@ -106,15 +113,18 @@ words-in ws e = e ∙ record-long (placesIn ws)
 
 -- ---- as code computes it: no sum and no product wraps, since all lie within the words
 
-pub row-sum : (ws : List ℕ) (s : ℕ) → InSlot ws s → 8 + placesIn ws + (5 + 7 * placesIn ws) * s + (5 + 7 * placesIn ws) ≤ length ws
+pub row-sum : (ws : List ℕ) (s : ℕ) → InSlot ws s → 8 + placesIn ws + (14 + 7 * placesIn ws) * s + (14 + 7 * placesIn ws) ≤ length ws
 unfolding rowStart
 row-sum ws s h = omega (arith, row-inside (placesIn ws) s (h .slot), h .long)
 
-pub row-here : (ws : List ℕ) (s : ℕ) → InSlot ws s → RowAt ws s (8 + placesIn ws + (5 + 7 * placesIn ws) * s)
+pub row-here : (ws : List ℕ) (s : ℕ) → InSlot ws s → RowAt ws s (8 + placesIn ws + (14 + 7 * placesIn ws) * s)
 unfolding rowStart
 row-here ws s h = record { is = refl; inside = row-sum ws s h }
 
-pub cell-here : (ws : List ℕ) (s n i : ℕ) → Placed ws s n → RowAt ws s i → CellAt ws s n (i + 5 + 7 * n)
+pub block-here : (ws : List ℕ) (s n i : ℕ) → InBlocks ws s n → RowAt ws s i → BlockAt ws s n (i + 3 * n)
+block-here ws s n i h r = record { is = omega (arith, r .is); inside = omega (arith, r .inside, h .place) }
+
+pub cell-here : (ws : List ℕ) (s n i : ℕ) → Placed ws s n → RowAt ws s i → CellAt ws s n (i + 14 + 7 * n)
 cell-here ws s n i h r = record { is = omega (arith, r .is); inside = omega (arith, r .inside, h .node, places-words (placesIn ws) ws) }
 
 pub node-there : (ws : List ℕ) (n : ℕ) → InTable ws n → 8 + n < length ws

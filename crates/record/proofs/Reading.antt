@@ -6,9 +6,9 @@ use Prim.Native.Nat.{ℕ, suc, _+_, _*_, _≤_, _<_}
 use lib.ListN.{length, getD}
 use Rattle.rulebook.specs.declared.Cell.{Cell}
 use Rattle.rulebook.specs.Weights.{lastSlot, windows, windowOf, stakeIn}
-use Rattle.rulebook.specs.Ledger.{Ledger, Row, noRow, noCell, places, rowAt, cellAt}
+use Rattle.rulebook.specs.Ledger.{Ledger, Row, noRow, noCell, noBlock, mostBlocks, blocksAt, places, rowAt, cellAt}
 use Rattle.rulebook.specs.WellFormed.{Shaped}
-use Rattle.record.specs.Layout.{wordAt, armedStart, stakeStart, rowStart, cellStart, tabulate, placesIn, cellFrom, blockFrom, cellOf, rowOf, ledgerAt, ledgerOf, Placed, InSlot, InWindow}
+use Rattle.record.specs.Layout.{wordAt, armedStart, stakeStart, rowStart, timeoutAt, finalAt, blockStart, cellStart, tabulate, placesIn, cellFrom, blockFrom, blockOf, cellOf, rowOf, ledgerAt, ledgerOf, Placed, InSlot, InBlocks, InWindow}
 use Rattle.record.proofs.Tables.{length-tabulate, getD-tabulate}
 use Rattle.record.proofs.Places.{node-placed}
 
@@ -44,6 +44,9 @@ module _ (p : ℕ) (ws : List ℕ) where
   pub cell-words : (s n : ℕ) → s < suc lastSlot → n < p → cellAt (ledgerAt p ws) s n ≡ cellOf p ws s n
   cell-words s n h k = ap (λ (r : Row). getD (r .cells) n noCell) (row-words s h) ∙ getD-tabulate p n (cellOf p ws s) noCell k
 
+  pub block-words : (s n : ℕ) → s < suc lastSlot → n < mostBlocks → getD (blocksAt (ledgerAt p ws) s) n noBlock ≡ blockOf p ws s n
+  block-words s n h k = ap (λ (r : Row). getD (r .blocks) n noBlock) (row-words s h) ∙ getD-tabulate mostBlocks n (blockOf p ws s) noBlock k
+
   shaped : Shaped (places (ledgerAt p ws)) (ledgerAt p ws)
   unfolding ledgerAt
   shaped =
@@ -51,6 +54,7 @@ module _ (p : ℕ) (ws : List ℕ) where
         armed = length-tabulate windows (λ w. wordAt ws (armedStart + w));
         stakes = refl;
         rows = length-tabulate (suc lastSlot) (rowOf p ws);
+        blocks = λ s h. ap (λ (r : Row). length (r .blocks)) (getD-tabulate (suc lastSlot) s (rowOf p ws) noRow h) ∙ length-tabulate mostBlocks (blockOf p ws s);
         cells = λ s h.
             ap (λ (r : Row). length (r .cells)) (getD-tabulate (suc lastSlot) s (rowOf p ws) noRow h)
             ∙ length-tabulate p (cellOf p ws s)
@@ -66,18 +70,18 @@ ledger-shaped ws = shaped (placesIn ws) ws
 pub cell-read : (ws : List ℕ) (s n i : ℕ) → Placed ws s n → i ≡ cellStart (placesIn ws) s n → cellFrom ws i ≡ cellAt (ledgerOf ws) s n
 cell-read ws s n i h e = ap (cellFrom ws) e ∙ sym (cell-words (placesIn ws) ws s n (h .slot) (node-placed ws n (h .node)))
 
+pub block-read : (ws : List ℕ) (s n i : ℕ) → InBlocks ws s n → i ≡ blockStart (placesIn ws) s n → blockFrom ws i ≡ getD (blocksAt (ledgerOf ws) s) n noBlock
+block-read ws s n i h e = ap (blockFrom ws) e ∙ sym (block-words (placesIn ws) ws s n (h .slot) (h .place))
+
 module _ (ws : List ℕ) (s i : ℕ) (h : InSlot ws s) (e : i ≡ rowStart (placesIn ws) s) where
   here : rowOf (placesIn ws) ws s ≡ rowAt (ledgerOf ws) s
   here = sym (row-words (placesIn ws) ws s (h .slot))
 
-  pub kept-read : blockFrom ws i ≡ rowAt (ledgerOf ws) s .kept
-  kept-read = ap (blockFrom ws) e ∙ ap (λ (r : Row). r .kept) here
+  pub timed-out-read : wordAt ws (i + timeoutAt) ≡ rowAt (ledgerOf ws) s .timedOut
+  timed-out-read = ap (λ (k : ℕ). wordAt ws (k + timeoutAt)) e ∙ ap (λ (r : Row). r .timedOut) here
 
-  pub timed-out-read : wordAt ws (i + 3) ≡ rowAt (ledgerOf ws) s .timedOut
-  timed-out-read = ap (λ (k : ℕ). wordAt ws (k + 3)) e ∙ ap (λ (r : Row). r .timedOut) here
-
-  pub final-read : wordAt ws (i + 4) ≡ rowAt (ledgerOf ws) s .final
-  final-read = ap (λ (k : ℕ). wordAt ws (k + 4)) e ∙ ap (λ (r : Row). r .final) here
+  pub final-read : wordAt ws (i + finalAt) ≡ rowAt (ledgerOf ws) s .final
+  final-read = ap (λ (k : ℕ). wordAt ws (k + finalAt)) e ∙ ap (λ (r : Row). r .final) here
 
 -- A slot's window is one of the four.
 pub window-small : (s : ℕ) → 1 ≤ s → s < suc lastSlot → windowOf s < windows

@@ -10,8 +10,8 @@ use lib.Seq.{getD-set-same, getD-set-other, sets, length-sets}
 use Rattle.rulebook.specs.declared.Cell.{Cell}
 use Rattle.rulebook.specs.declared.Block.{Block}
 use Rattle.rulebook.specs.Weights.{lastSlot, windows, windowOf}
-use Rattle.rulebook.specs.Ledger.{Ledger, Row, noRow, noCell, rowAt, cellAt, putRow, putCell, putKept, putTimedOut, putFinal, putArmed}
-use Rattle.record.specs.Layout.{wordAt, armedStart, stakeStart, headWords, rowHead, rowWords, cellWords, rowStart, cellStart, recordWords, placesIn, tabulate, cellFrom, blockFrom, cellOf, rowOf, ledgerAt, ledgerOf, Placed, InSlot, InWindow}
+use Rattle.rulebook.specs.Ledger.{Ledger, Row, noRow, noCell, noBlock, mostBlocks, rowAt, cellAt, blocksAt, putRow, putCell, putBlocks, putTimedOut, putFinal, putArmed}
+use Rattle.record.specs.Layout.{wordAt, armedStart, stakeStart, headWords, rowHead, rowWords, blockWords, cellWords, rowStart, timeoutAt, finalAt, blockStart, cellStart, recordWords, placesIn, tabulate, cellFrom, blockFrom, blockOf, cellOf, rowOf, ledgerAt, ledgerOf, Placed, InSlot, InBlocks, InWindow}
 use Rattle.record.specs.Spelling.{spellCell, spellBlock}
 use Rattle.record.proofs.Tables.{lt-or-gt, tabulate-same, tabulate-set, sets-out, sets-in}
 use Rattle.record.proofs.Places.{head-before, row-later, row-inside, node-placed, same-shape}
@@ -40,13 +40,27 @@ module _ (p : ℕ) (ws' ws : List ℕ) (a e : ℕ) (h : Apart ws' ws a e) where
       tabulate-same p (cellOf p ws' s) (cellOf p ws s)
       (λ n b. cell-kept (cellStart p s n) (⊎-elim (λ o. inl (omega arith)) (λ o. inr (omega arith)) q))
 
+  block-kept : (b : ℕ) → (b + blockWords ≤ a) ⊎ (e ≤ b) → blockFrom ws' b ≡ blockFrom ws b
+  block-kept b q =
+      let g : (j : ℕ) → j < blockWords → wordAt ws' (b + j) ≡ wordAt ws (b + j) = (λ j l. h (b + j) (⊎-elim (λ o. inl (omega arith)) (λ o. inr (omega arith)) q)) in
+      λ i. record {
+        number = h b (⊎-elim (λ o. inl (omega arith)) (λ o. inr (omega arith)) q) i;
+        parentslot = record { 0 = g 1 (omega arith) i };
+        parent = g 2 (omega arith) i;
+      }
+
+  blocks-kept : (s : ℕ) → (rowStart p s + timeoutAt ≤ a) ⊎ (e ≤ rowStart p s) → tabulate mostBlocks (blockOf p ws' s) ≡ tabulate mostBlocks (blockOf p ws s)
+  blocks-kept s q =
+      tabulate-same mostBlocks (blockOf p ws' s) (blockOf p ws s)
+      (λ n b. block-kept (blockStart p s n) (⊎-elim (λ o. inl (omega arith)) (λ o. inr (omega arith)) q))
+
   pub row-kept : (s : ℕ) → (rowStart p s + rowWords p ≤ a) ⊎ (e ≤ rowStart p s) → rowOf p ws' s ≡ rowOf p ws s
   row-kept s q =
       let g : (j : ℕ) → j < rowWords p → wordAt ws' (rowStart p s + j) ≡ wordAt ws (rowStart p s + j) = (λ j l. h (rowStart p s + j) (⊎-elim (λ o. inl (omega arith)) (λ o. inr (omega arith)) q)) in
       λ i. record {
-        kept = record { number = h (rowStart p s) (⊎-elim (λ o. inl (omega arith)) (λ o. inr (omega arith)) q) i; parentslot = record { 0 = g 1 (omega arith) i }; parent = g 2 (omega arith) i };
-        timedOut = g 3 (omega arith) i;
-        final = g 4 (omega arith) i;
+        blocks = blocks-kept s (⊎-elim (λ o. inl (omega arith)) (λ o. inr o) q) i;
+        timedOut = g timeoutAt (omega arith) i;
+        final = g finalAt (omega arith) i;
         cells = cells-kept s (⊎-elim (λ o. inl o) (λ o. inr (omega arith)) q) i;
       }
 
@@ -90,13 +104,13 @@ cell-put p ws s n c long slot node =
     let h : Apart ws' ws (cellStart p s n) (cellStart p s n + cellWords) = (λ k o. sets-out (spellCell c) ws (cellStart p s n) k 0 o) in
     let last = row-inside p s slot in
     put-row p ws' ws s (cellStart p s n) (cellStart p s n + cellWords)
-    (record { kept = rowAt (ledgerAt p ws) s .kept; timedOut = rowAt (ledgerAt p ws) s .timedOut; final = rowAt (ledgerAt p ws) s .final; cells = set (rowAt (ledgerAt p ws) s .cells) n c })
+    (record { blocks = rowAt (ledgerAt p ws) s .blocks; timedOut = rowAt (ledgerAt p ws) s .timedOut; final = rowAt (ledgerAt p ws) s .final; cells = set (rowAt (ledgerAt p ws) s .cells) n c })
     h slot (omega arith) (omega arith)
     (rw (row-words p ws s slot)
     (λ i. record {
-      kept = record { number = h (rowStart p s) (inl (omega arith)) i; parentslot = record { 0 = h (rowStart p s + 1) (inl (omega arith)) i }; parent = h (rowStart p s + 2) (inl (omega arith)) i };
-      timedOut = h (rowStart p s + 3) (inl (omega arith)) i;
-      final = h (rowStart p s + 4) (inl (omega arith)) i;
+      blocks = blocks-kept p ws' ws (cellStart p s n) (cellStart p s n + cellWords) h s (inl (omega arith)) i;
+      timedOut = h (rowStart p s + timeoutAt) (inl (omega arith)) i;
+      final = h (rowStart p s + finalAt) (inl (omega arith)) i;
       cells = tabulate-set p n (cellOf p ws s) (cellOf p ws' s) c (cell-in ws (cellStart p s n) c (omega arith))
           (λ k b q. cell-kept p ws' ws (cellStart p s n) (cellStart p s n + cellWords) h (cellStart p s k) (⊎-elim (λ o. inl (omega arith)) (λ o. inr (omega arith)) (lt-or-gt k n q))) i;
     }))
@@ -107,73 +121,81 @@ cell-stored ws s n i c h e =
     ∙ ap (λ (k : ℕ). ledgerAt (placesIn ws) (sets ws k (spellCell c))) e
     ∙ cell-put (placesIn ws) ws s n c (h .long) (h .slot) (node-placed ws n (h .node))
 
--- ---- a row's head: a change among its five words
+-- ---- a row's head
+
+block-in : (ws : List ℕ) (at : ℕ) (b : Block) → at + blockWords ≤ length ws → blockFrom (sets ws at (spellBlock b)) at ≡ b
+block-in ws at b k =
+    let f : (j : ℕ) → j < blockWords → wordAt (sets ws at (spellBlock b)) (at + j) ≡ getD (spellBlock b) j 0 = (λ j l. sets-in (spellBlock b) ws at j 0 l k) in
+    let z : wordAt (sets ws at (spellBlock b)) at ≡ b .number = rw add-zero at (f 0 (omega arith)) in
+    λ i. record { number = z i; parentslot = record { 0 = f 1 (omega arith) i }; parent = f 2 (omega arith) i }
 
 module _ (p : ℕ) (ws : List ℕ) (s : ℕ) (long : length ws ≡ recordWords p) (slot : s < suc lastSlot) where
   here : rowOf p ws s ≡ rowAt (ledgerAt p ws) s
   here = sym (row-words p ws s slot)
 
-  head-put : (ws' : List ℕ) (a e : ℕ) (b : Block) (t f : ℕ) → Apart ws' ws a e → rowStart p s ≤ a → e ≤ rowStart p s + rowHead
-      → blockFrom ws' (rowStart p s) ≡ b → wordAt ws' (rowStart p s + 3) ≡ t → wordAt ws' (rowStart p s + 4) ≡ f
-      → ledgerAt p ws' ≡ putRow (ledgerAt p ws) s (record { kept = b; timedOut = t; final = f; cells = rowAt (ledgerAt p ws) s .cells })
-  head-put ws' a e b t f h lo hi eb et ef =
-      put-row p ws' ws s a e (record { kept = b; timedOut = t; final = f; cells = rowAt (ledgerAt p ws) s .cells }) h slot lo (omega arith)
+  -- A change in the head alone.
+  head-put : (ws' : List ℕ) (a e : ℕ) (bs : List Block) (t f : ℕ) → Apart ws' ws a e → rowStart p s ≤ a → e ≤ rowStart p s + rowHead
+      → tabulate mostBlocks (blockOf p ws' s) ≡ bs → wordAt ws' (rowStart p s + timeoutAt) ≡ t → wordAt ws' (rowStart p s + finalAt) ≡ f
+      → ledgerAt p ws' ≡ putRow (ledgerAt p ws) s (record { blocks = bs; timedOut = t; final = f; cells = rowAt (ledgerAt p ws) s .cells })
+  head-put ws' a e bs t f h lo hi eb et ef =
+      put-row p ws' ws s a e (record { blocks = bs; timedOut = t; final = f; cells = rowAt (ledgerAt p ws) s .cells }) h slot lo (omega arith)
       (rw (row-words p ws s slot)
-      (λ i. record { kept = eb i; timedOut = et i; final = ef i; cells = cells-kept p ws' ws a e h s (inr hi) i }))
+      (λ i. record { blocks = eb i; timedOut = et i; final = ef i; cells = cells-kept p ws' ws a e h s (inr hi) i }))
 
-  kept-in : (b : Block) → ledgerAt p (sets ws (rowStart p s) (spellBlock b)) ≡ putKept (ledgerAt p ws) s b
-  kept-in b =
-      let vs : List ℕ = spellBlock b in
-      let ws' : List ℕ = sets ws (rowStart p s) vs in
+  block-put : (n : ℕ) (b : Block) → n < mostBlocks → ledgerAt p (sets ws (blockStart p s n) (spellBlock b)) ≡ putBlocks (ledgerAt p ws) s (set (blocksAt (ledgerAt p ws) s) n b)
+  block-put n b place =
+      let ws' : List ℕ = sets ws (blockStart p s n) (spellBlock b) in
       let last = row-inside p s slot in
-      let f : (j : ℕ) → j < 3 → wordAt ws' (rowStart p s + j) ≡ getD vs j 0 = (λ j l. sets-in vs ws (rowStart p s) j 0 l (omega arith)) in
-      let h : Apart ws' ws (rowStart p s) (rowStart p s + 3) = (λ k o. sets-out vs ws (rowStart p s) k 0 o) in
-      let z : wordAt ws' (rowStart p s) ≡ b .number = rw add-zero at (f 0 (omega arith)) in
-      head-put ws' (rowStart p s) (rowStart p s + 3) b (rowAt (ledgerAt p ws) s .timedOut) (rowAt (ledgerAt p ws) s .final) h (omega arith) (omega arith)
-      (λ i. record { number = z i; parentslot = record { 0 = f 1 (omega arith) i }; parent = f 2 (omega arith) i })
-      (h (rowStart p s + 3) (inr (omega arith)) ∙ ap (λ (r : Row). r .timedOut) here)
-      (h (rowStart p s + 4) (inr (omega arith)) ∙ ap (λ (r : Row). r .final) here)
+      let h : Apart ws' ws (blockStart p s n) (blockStart p s n + blockWords) = (λ k o. sets-out (spellBlock b) ws (blockStart p s n) k 0 o) in
+      head-put ws' (blockStart p s n) (blockStart p s n + blockWords) (set (blocksAt (ledgerAt p ws) s) n b) (rowAt (ledgerAt p ws) s .timedOut) (rowAt (ledgerAt p ws) s .final) h (omega arith) (omega arith)
+      (tabulate-set mostBlocks n (blockOf p ws s) (blockOf p ws' s) b (block-in ws (blockStart p s n) b (omega arith))
+      (λ k l q. block-kept p ws' ws (blockStart p s n) (blockStart p s n + blockWords) h (blockStart p s k) (⊎-elim (λ o. inl (omega arith)) (λ o. inr (omega arith)) (lt-or-gt k n q)))
+      ∙ ap (λ (r : Row). set (r .blocks) n b) here)
+      (h (rowStart p s + timeoutAt) (inr (omega arith)) ∙ ap (λ (r : Row). r .timedOut) here)
+      (h (rowStart p s + finalAt) (inr (omega arith)) ∙ ap (λ (r : Row). r .final) here)
 
-  -- One word of the head stored: the others stay.
+  -- One word behind the blocks stored: they stay.
   set-apart : (i v : ℕ) → Apart (set ws i v) ws i (i + 1)
   set-apart i v k o = getD-set-other ws i k v 0 (⊎-elim (λ q e. omega arith) (λ q e. omega arith) o)
 
-  timed-out-in : ledgerAt p (set ws (rowStart p s + 3) 1) ≡ putTimedOut (ledgerAt p ws) s
-  timed-out-in =
-      let h : Apart (set ws (rowStart p s + 3) 1) ws (rowStart p s + 3) (rowStart p s + 3 + 1) = set-apart (rowStart p s + 3) 1 in
-      let last = row-inside p s slot in
-      head-put (set ws (rowStart p s + 3) 1) (rowStart p s + 3) (rowStart p s + 3 + 1) (rowAt (ledgerAt p ws) s .kept) 1 (rowAt (ledgerAt p ws) s .final) h (omega arith) (omega arith)
-      ((λ i. record { number = h (rowStart p s) (inl (omega arith)) i; parentslot = record { 0 = h (rowStart p s + 1) (inl (omega arith)) i }; parent = h (rowStart p s + 2) (inl (omega arith)) i }) ∙ ap (λ (r : Row). r .kept) here)
-      (getD-set-same ws (rowStart p s + 3) 1 0 (omega arith))
-      (h (rowStart p s + 4) (inr (omega arith)) ∙ ap (λ (r : Row). r .final) here)
+  blocks-stay : (i v : ℕ) → rowStart p s + timeoutAt ≤ i → tabulate mostBlocks (blockOf p (set ws i v) s) ≡ blocksAt (ledgerAt p ws) s
+  blocks-stay i v h = blocks-kept p (set ws i v) ws i (i + 1) (set-apart i v) s (inl h) ∙ ap (λ (r : Row). r .blocks) here
 
-  final-in : (b : ℕ) → ledgerAt p (set ws (rowStart p s + 4) b) ≡ putFinal (ledgerAt p ws) s b
-  final-in b =
-      let h : Apart (set ws (rowStart p s + 4) b) ws (rowStart p s + 4) (rowStart p s + 4 + 1) = set-apart (rowStart p s + 4) b in
+  timed-out-in : ledgerAt p (set ws (rowStart p s + timeoutAt) 1) ≡ putTimedOut (ledgerAt p ws) s
+  timed-out-in =
       let last = row-inside p s slot in
-      head-put (set ws (rowStart p s + 4) b) (rowStart p s + 4) (rowStart p s + 4 + 1) (rowAt (ledgerAt p ws) s .kept) (rowAt (ledgerAt p ws) s .timedOut) b h (omega arith) (omega arith)
-      ((λ i. record { number = h (rowStart p s) (inl (omega arith)) i; parentslot = record { 0 = h (rowStart p s + 1) (inl (omega arith)) i }; parent = h (rowStart p s + 2) (inl (omega arith)) i }) ∙ ap (λ (r : Row). r .kept) here)
-      (h (rowStart p s + 3) (inl (omega arith)) ∙ ap (λ (r : Row). r .timedOut) here)
-      (getD-set-same ws (rowStart p s + 4) b 0 (omega arith))
+      head-put (set ws (rowStart p s + timeoutAt) 1) (rowStart p s + timeoutAt) (rowStart p s + timeoutAt + 1) (blocksAt (ledgerAt p ws) s) 1 (rowAt (ledgerAt p ws) s .final) (set-apart (rowStart p s + timeoutAt) 1) (omega arith) (omega arith)
+      (blocks-stay (rowStart p s + timeoutAt) 1 (omega arith))
+      (getD-set-same ws (rowStart p s + timeoutAt) 1 0 (omega arith))
+      (set-apart (rowStart p s + timeoutAt) 1 (rowStart p s + finalAt) (inr (omega arith)) ∙ ap (λ (r : Row). r .final) here)
+
+  final-in : (b : ℕ) → ledgerAt p (set ws (rowStart p s + finalAt) b) ≡ putFinal (ledgerAt p ws) s b
+  final-in b =
+      let last = row-inside p s slot in
+      head-put (set ws (rowStart p s + finalAt) b) (rowStart p s + finalAt) (rowStart p s + finalAt + 1) (blocksAt (ledgerAt p ws) s) (rowAt (ledgerAt p ws) s .timedOut) b (set-apart (rowStart p s + finalAt) b) (omega arith) (omega arith)
+      (blocks-stay (rowStart p s + finalAt) b (omega arith))
+      (set-apart (rowStart p s + finalAt) b (rowStart p s + timeoutAt) (inl (omega arith)) ∙ ap (λ (r : Row). r .timedOut) here)
+      (getD-set-same ws (rowStart p s + finalAt) b 0 (omega arith))
 
 -- The same at a place that code computed.
-module _ (ws : List ℕ) (s i : ℕ) (h : InSlot ws s) (e : i ≡ rowStart (placesIn ws) s) where
-  pub kept-put : (b : Block) → ledgerOf (sets ws i (spellBlock b)) ≡ putKept (ledgerOf ws) s b
-  kept-put b =
-      same-shape ws (sets ws i (spellBlock b)) (length-sets ws i (spellBlock b))
-      ∙ ap (λ (k : ℕ). ledgerAt (placesIn ws) (sets ws k (spellBlock b))) e
-      ∙ kept-in (placesIn ws) ws s (h .long) (h .slot) b
+pub block-stored : (ws : List ℕ) (s n i : ℕ) (b : Block) → InBlocks ws s n → i ≡ blockStart (placesIn ws) s n
+    → ledgerOf (sets ws i (spellBlock b)) ≡ putBlocks (ledgerOf ws) s (set (blocksAt (ledgerOf ws) s) n b)
+block-stored ws s n i b h e =
+    same-shape ws (sets ws i (spellBlock b)) (length-sets ws i (spellBlock b))
+    ∙ ap (λ (k : ℕ). ledgerAt (placesIn ws) (sets ws k (spellBlock b))) e
+    ∙ block-put (placesIn ws) ws s (h .long) (h .slot) n b (h .place)
 
-  pub timed-out-put : ledgerOf (set ws (i + 3) 1) ≡ putTimedOut (ledgerOf ws) s
+module _ (ws : List ℕ) (s i : ℕ) (h : InSlot ws s) (e : i ≡ rowStart (placesIn ws) s) where
+  pub timed-out-put : ledgerOf (set ws (i + timeoutAt) 1) ≡ putTimedOut (ledgerOf ws) s
   timed-out-put =
-      same-shape ws (set ws (i + 3) 1) (length-set ws (i + 3) 1)
-      ∙ ap (λ (k : ℕ). ledgerAt (placesIn ws) (set ws (k + 3) 1)) e
+      same-shape ws (set ws (i + timeoutAt) 1) (length-set ws (i + timeoutAt) 1)
+      ∙ ap (λ (k : ℕ). ledgerAt (placesIn ws) (set ws (k + timeoutAt) 1)) e
       ∙ timed-out-in (placesIn ws) ws s (h .long) (h .slot)
 
-  pub final-put : (b : ℕ) → ledgerOf (set ws (i + 4) b) ≡ putFinal (ledgerOf ws) s b
+  pub final-put : (b : ℕ) → ledgerOf (set ws (i + finalAt) b) ≡ putFinal (ledgerOf ws) s b
   final-put b =
-      same-shape ws (set ws (i + 4) b) (length-set ws (i + 4) b)
-      ∙ ap (λ (k : ℕ). ledgerAt (placesIn ws) (set ws (k + 4) b)) e
+      same-shape ws (set ws (i + finalAt) b) (length-set ws (i + finalAt) b)
+      ∙ ap (λ (k : ℕ). ledgerAt (placesIn ws) (set ws (k + finalAt) b)) e
       ∙ final-in (placesIn ws) ws s (h .long) (h .slot) b
 
 -- ---- the armed windows
@@ -210,8 +232,15 @@ armed-put ws s i h e =
 pub row-other : (l : Ledger) (s t : ℕ) (r : Row) → (t ≡ s → ⊥) → rowAt (putRow l s r) t ≡ rowAt l t
 row-other l s t r q = getD-set-other (l .rows) s t r noRow q
 
+-- A block put into one place of a row: the other places stay.
+pub block-other : (l : Ledger) (s n m : ℕ) (b : Block) → s < length (l .rows) → (m ≡ n → ⊥)
+    → getD (blocksAt (putBlocks l s (set (blocksAt l s) n b)) s) m noBlock ≡ getD (blocksAt l s) m noBlock
+block-other l s n m b h q =
+    ap (λ (r : Row). getD (r .blocks) m noBlock) (getD-set-same (l .rows) s (record { blocks = set (rowAt l s .blocks) n b; timedOut = rowAt l s .timedOut; final = rowAt l s .final; cells = rowAt l s .cells }) noRow h)
+    ∙ getD-set-other (rowAt l s .blocks) n m b noBlock q
+
 -- A node's cell stored in a row: the other nodes' stay.
 pub cell-other : (l : Ledger) (s n m : ℕ) (c : Cell) → s < length (l .rows) → (m ≡ n → ⊥) → cellAt (putCell l s n c) s m ≡ cellAt l s m
 cell-other l s n m c h q =
-    ap (λ (r : Row). getD (r .cells) m noCell) (getD-set-same (l .rows) s (record { kept = rowAt l s .kept; timedOut = rowAt l s .timedOut; final = rowAt l s .final; cells = set (rowAt l s .cells) n c }) noRow h)
+    ap (λ (r : Row). getD (r .cells) m noCell) (getD-set-same (l .rows) s (record { blocks = rowAt l s .blocks; timedOut = rowAt l s .timedOut; final = rowAt l s .final; cells = set (rowAt l s .cells) n c }) noRow h)
     ∙ getD-set-other (rowAt l s .cells) n m c noCell q

@@ -9,8 +9,8 @@ use lib.ListN.{length, getD, set, take, drop, replicate, length-drop, length-rep
 use lib.Seq.{getD-set-same, getD-set-other, getD-take, getD-drop, ext-getD, length-take-le, sets, length-sets}
 use Rattle.rulebook.specs.declared.Cell.{Cell}
 use Rattle.rulebook.specs.Weights.{lastSlot, windows}
-use Rattle.rulebook.specs.Ledger.{Ledger, Row, noCell, blankRow, places}
-use Rattle.record.specs.Layout.{wordAt, armedStart, stakeStart, rowStart, cellStart, recordWords, placesIn, tabulate, cellOf, rowOf, ledgerAt, ledgerOf, Long, InTable}
+use Rattle.rulebook.specs.Ledger.{Ledger, Row, noCell, noBlock, mostBlocks, blankRow, places}
+use Rattle.record.specs.Layout.{wordAt, armedStart, stakeStart, rowStart, timeoutAt, finalAt, blockStart, cellStart, recordWords, placesIn, tabulate, blockOf, cellOf, rowOf, ledgerAt, ledgerOf, Long, InTable}
 use Rattle.record.specs.Setting.{noLedger, putHead, putStake}
 use Rattle.record.proofs.Tables.{lt-or-gt, length-tabulate, getD-tabulate, tabulate-same, tabulate-set, sets-out, sets-in}
 use Rattle.record.proofs.Places.{head-before, places-words, node-placed, same-shape}
@@ -45,13 +45,17 @@ module _ (p m : ℕ) where
         finalvote = zeros m (cellStart p s n + 6) i;
       }
 
+  block-zeros : (s n : ℕ) → blockOf p (replicate m 0) s n ≡ noBlock
+  block-zeros s n =
+      λ i. record { number = zeros m (blockStart p s n) i; parentslot = record { 0 = zeros m (blockStart p s n + 1) i }; parent = zeros m (blockStart p s n + 2) i }
+
   row-zeros : (s : ℕ) → rowOf p (replicate m 0) s ≡ blankRow p
   unfolding blankRow
   row-zeros s =
       λ i. record {
-        kept = record { number = zeros m (rowStart p s) i; parentslot = record { 0 = zeros m (rowStart p s + 1) i }; parent = zeros m (rowStart p s + 2) i };
-        timedOut = zeros m (rowStart p s + 3) i;
-        final = zeros m (rowStart p s + 4) i;
+        blocks = tabulate-all mostBlocks (blockOf p (replicate m 0) s) noBlock (block-zeros s) i;
+        timedOut = zeros m (rowStart p s + timeoutAt) i;
+        final = zeros m (rowStart p s + finalAt) i;
         cells = tabulate-all p (cellOf p (replicate m 0) s) noCell (cell-zeros s) i;
       }
 

@@ -7,13 +7,14 @@ use native.Mathlib.Nat.{zero-add, suc-add, zero-mul, add-zero, mul-comm, not-suc
 use lib.ListN.{length, getD, length-append, length-map, List·getD-append}
 use lib.Seq.{getD-append-add}
 use Rattle.rulebook.specs.declared.Cell.{Cell}
+use Rattle.rulebook.specs.declared.Block.{Block}
 use Rattle.rulebook.specs.declared.VoteKind.{VoteKind}
 use Rattle.rulebook.specs.Weights.{lastSlot, windows}
-use Rattle.rulebook.specs.Ledger.{Ledger, Row, noRow, noCell, places, rowAt, putRow}
+use Rattle.rulebook.specs.Ledger.{Ledger, Row, noRow, noCell, noBlock, mostBlocks, places, rowAt, blocksAt, putRow}
 use Rattle.rulebook.specs.Votes.{storeVote}
 use Rattle.rulebook.specs.WellFormed.{Shaped}
-use Rattle.record.specs.Layout.{wordAt, armedStart, stakeStart, headWords, cellWords, rowHead, rowWords, rowStart, cellStart, recordWords, placesIn, tabulate, cellFrom, cellOf, rowOf, ledgerAt, ledgerOf, Long}
-use Rattle.record.specs.Spelling.{joined, spellCell, spellHead, spellRow, wordsOf}
+use Rattle.record.specs.Layout.{wordAt, armedStart, stakeStart, headWords, blockWords, cellWords, timeoutAt, finalAt, rowHead, rowWords, rowStart, blockStart, cellStart, recordWords, placesIn, tabulate, blockFrom, blockOf, cellFrom, cellOf, rowOf, ledgerAt, ledgerOf, Long}
+use Rattle.record.specs.Spelling.{joined, spellCell, spellBlock, spellHead, spellRow, wordsOf}
 use Rattle.record.proofs.Tables.{getD-tabulate, tabulate-same, tabulate-getD}
 use Rattle.record.proofs.Places.{places-back, sized-long, same-shape}
 use Rattle.record.proofs.Reading.{row-words}
@@ -64,11 +65,26 @@ module _ (p : ℕ) (ws : List ℕ) where
       let z : at ≡ at + 0 = omega arith in
       λ i. wordAt ws (z i) ∷ wordAt ws (at + 1) ∷ wordAt ws (at + 2) ∷ wordAt ws (at + 3) ∷ wordAt ws (at + 4) ∷ wordAt ws (at + 5) ∷ wordAt ws (at + 6) ∷ []
 
-  head-spelled : (s : ℕ) → spellHead (rowOf p ws s) ≡ tabulate rowHead (λ j. wordAt ws (rowStart p s + j))
+  block-spelled : (at : ℕ) → spellBlock (blockFrom ws at) ≡ tabulate blockWords (λ j. wordAt ws (at + j))
   unfolding tabulate
+  block-spelled at = let z : at ≡ at + 0 = omega arith in λ i. wordAt ws (z i) ∷ wordAt ws (at + 1) ∷ wordAt ws (at + 2) ∷ []
+
+  blocks-spelled : (s : ℕ) → map spellBlock (tabulate mostBlocks (blockOf p ws s)) ≡ tabulate mostBlocks (λ n. tabulate blockWords (λ j. wordAt ws (rowStart p s + (blockWords * n + j))))
+  blocks-spelled s =
+      tabulate-map spellBlock mostBlocks (blockOf p ws s)
+      ∙ tabulate-same mostBlocks (λ n. spellBlock (blockOf p ws s n)) (λ n. tabulate blockWords (λ j. wordAt ws (rowStart p s + (blockWords * n + j))))
+      (λ n l. block-spelled (blockStart p s n)
+      ∙ tabulate-same blockWords (λ j. wordAt ws (blockStart p s n + j)) (λ j. wordAt ws (rowStart p s + (blockWords * n + j))) (λ j m. ap (wordAt ws) (omega arith)))
+
+  marks-spelled : (s : ℕ) → rowOf p ws s .timedOut ∷ rowOf p ws s .final ∷ [] ≡ tabulate 2 (λ j. wordAt ws (rowStart p s + (timeoutAt + j)))
+  unfolding tabulate
+  marks-spelled s = refl
+
+  head-spelled : (s : ℕ) → spellHead (rowOf p ws s) ≡ tabulate rowHead (λ j. wordAt ws (rowStart p s + j))
   head-spelled s =
-      let z : rowStart p s ≡ rowStart p s + 0 = omega arith in
-      λ i. wordAt ws (z i) ∷ wordAt ws (rowStart p s + 1) ∷ wordAt ws (rowStart p s + 2) ∷ wordAt ws (rowStart p s + 3) ∷ wordAt ws (rowStart p s + 4) ∷ []
+      sym
+      (tabulate-split rowHead timeoutAt 2 (λ j. wordAt ws (rowStart p s + j)) refl
+      ∙ (λ i. (tabulate-rows timeoutAt mostBlocks blockWords (λ j. wordAt ws (rowStart p s + j)) refl ∙ ap joined (sym (blocks-spelled s))) i ++ sym (marks-spelled s) i))
 
   cells-spelled : (s : ℕ) → map spellCell (tabulate p (cellOf p ws s)) ≡ tabulate p (λ n. tabulate cellWords (λ j. wordAt ws (rowStart p s + (rowHead + (cellWords * n + j)))))
   cells-spelled s =
@@ -185,24 +201,60 @@ map-long g k xs d e i h =
     let l : i < length xs = omega (arith, length-map xs g) in
     ap length (map-at g xs i d l) ∙ e i l
 
-cells-long : (cs : List Cell) → length (joined (map spellCell cs)) ≡ cellWords * length cs
-cells-long cs = joined-long cellWords (map spellCell cs) (map-long spellCell cellWords cs noCell (λ i h. refl)) ∙ ap (λ k. cellWords * k) (length-map cs spellCell)
+-- Parts of one length spelled one after the other: how many words, and word j of part n.
+spelled-long : {A : Type 0} (g : A → List ℕ) (k : ℕ) (xs : List A) (d : A) → ((i : ℕ) → i < length xs → length (g (getD xs i d)) ≡ k) → length (joined (map g xs)) ≡ k * length xs
+spelled-long g k xs d e = joined-long k (map g xs) (map-long g k xs d e) ∙ ap (λ (m : ℕ). k * m) (length-map xs g)
 
-row-long : (p : ℕ) (r : Row) → length (r .cells) ≡ p → length (spellRow r) ≡ rowWords p
-row-long p r e = length-append (spellHead r) (joined (map spellCell (r .cells))) ∙ omega (arith, cells-long (r .cells))
+spelled-at : {A : Type 0} (g : A → List ℕ) (k : ℕ) (xs : List A) (d : A) (n j : ℕ) → ((i : ℕ) → i < length xs → length (g (getD xs i d)) ≡ k) → n < length xs → j < k
+    → wordAt (joined (map g xs)) (k * n + j) ≡ wordAt (g (getD xs n d)) j
+spelled-at g k xs d n j e h l =
+    joined-at k (map g xs) n j (map-long g k xs d e) (omega (arith, length-map xs g)) l
+    ∙ ap (λ (x : List ℕ). wordAt x j) (map-at g xs n d h)
 
--- A cell's word in its row's spelling.
-row-cell : (r : Row) (n j : ℕ) → n < length (r .cells) → j < cellWords → wordAt (spellRow r) (rowHead + (cellWords * n + j)) ≡ wordAt (spellCell (getD (r .cells) n noCell)) j
-row-cell r n j h l =
-    getD-append-add (spellHead r) (joined (map spellCell (r .cells))) (cellWords * n + j) 0
-    ∙ joined-at cellWords (map spellCell (r .cells)) n j (map-long spellCell cellWords (r .cells) noCell (λ i h. refl)) (omega (arith, length-map (r .cells) spellCell)) l
-    ∙ ap (λ x. wordAt x j) (map-at spellCell (r .cells) n noCell h)
+-- The marks behind the blocks.
+abbrev spellMarks : Row → List ℕ
+spellMarks r = r .timedOut ∷ r .final ∷ []
+
+module _ (r : Row) (four : length (r .blocks) ≡ mostBlocks) where
+  blocks-long : length (joined (map spellBlock (r .blocks))) ≡ timeoutAt
+  blocks-long = spelled-long spellBlock blockWords (r .blocks) noBlock (λ i h. refl) ∙ ap (λ (k : ℕ). blockWords * k) four
+
+  head-long : length (spellHead r) ≡ rowHead
+  head-long = length-append (joined (map spellBlock (r .blocks))) (spellMarks r) ∙ ap (λ (k : ℕ). k + 2) blocks-long
+
+  row-long : (p : ℕ) → length (r .cells) ≡ p → length (spellRow r) ≡ rowWords p
+  row-long p e =
+      length-append (spellHead r) (joined (map spellCell (r .cells)))
+      ∙ omega (arith, head-long, spelled-long spellCell cellWords (r .cells) noCell (λ i h. refl))
+
+  -- A word of the head in its row's spelling: of a block, of the marks.
+  head-at : (j : ℕ) → j < rowHead → wordAt (spellRow r) j ≡ wordAt (spellHead r) j
+  head-at j h = List·getD-append (spellHead r) (joined (map spellCell (r .cells))) 0 j (omega (arith, head-long))
+
+  row-block : (n j : ℕ) → n < mostBlocks → j < blockWords → wordAt (spellRow r) (blockWords * n + j) ≡ wordAt (spellBlock (getD (r .blocks) n noBlock)) j
+  row-block n j h l =
+      head-at (blockWords * n + j) (omega arith)
+      ∙ List·getD-append (joined (map spellBlock (r .blocks))) (spellMarks r) 0 (blockWords * n + j) (omega (arith, blocks-long))
+      ∙ spelled-at spellBlock blockWords (r .blocks) noBlock n j (λ i h. refl) (omega (arith, four)) l
+
+  row-mark : (j : ℕ) → j < 2 → wordAt (spellRow r) (timeoutAt + j) ≡ wordAt (spellMarks r) j
+  row-mark j h =
+      let z : timeoutAt + j ≡ length (joined (map spellBlock (r .blocks))) + j = ap (λ (k : ℕ). k + j) (sym blocks-long) in
+      head-at (timeoutAt + j) (omega arith) ∙ ap (wordAt (spellHead r)) z ∙ getD-append-add (joined (map spellBlock (r .blocks))) (spellMarks r) j 0
+
+  -- A cell's word in its row's spelling.
+  row-cell : (n j : ℕ) → n < length (r .cells) → j < cellWords → wordAt (spellRow r) (rowHead + (cellWords * n + j)) ≡ wordAt (spellCell (getD (r .cells) n noCell)) j
+  row-cell n j h l =
+      let z : rowHead + (cellWords * n + j) ≡ length (spellHead r) + (cellWords * n + j) = ap (λ (k : ℕ). k + (cellWords * n + j)) (sym head-long) in
+      ap (wordAt (spellRow r)) z
+      ∙ getD-append-add (spellHead r) (joined (map spellCell (r .cells))) (cellWords * n + j) 0
+      ∙ spelled-at spellCell cellWords (r .cells) noCell n j (λ i h. refl) h l
 
 module _ (p : ℕ) (l : Ledger) (w : Shaped p l) where
   rows-long : (i : ℕ) → i < length (map spellRow (l .rows)) → length (getD (map spellRow (l .rows)) i []) ≡ rowWords p
   rows-long =
       map-long spellRow (rowWords p) (l .rows) noRow
-      (λ i h. row-long p (getD (l .rows) i noRow) (w .cells i (omega (arith, w .rows))))
+      (λ i h. row-long (getD (l .rows) i noRow) (w .blocks i (omega (arith, w .rows))) p (w .cells i (omega (arith, w .rows))))
 
   rows-all : length (joined (map spellRow (l .rows))) ≡ rowWords p * suc lastSlot
   rows-all = joined-long (rowWords p) (map spellRow (l .rows)) rows-long ∙ ap (λ (k : ℕ). rowWords p * k) (length-map (l .rows) spellRow ∙ w .rows)
@@ -251,7 +303,7 @@ module _ (p : ℕ) (l : Ledger) (w : Shaped p l) where
       let z : cellStart p s n + j ≡ rowStart p s + (rowHead + (cellWords * n + j)) = omega arith in
       ap (wordAt (wordsOf l)) z
       ∙ row-word s (rowHead + (cellWords * n + j)) h (omega arith)
-      ∙ row-cell (rowAt l s) n j (omega (arith, w .cells s h)) m
+      ∙ row-cell (rowAt l s) (w .blocks s h) n j (omega (arith, w .cells s h)) m
 
   cell-back : (s n : ℕ) → s < suc lastSlot → n < p → cellOf p (wordsOf l) s n ≡ getD (rowAt l s .cells) n noCell
   cell-back s n h k =
@@ -266,13 +318,27 @@ module _ (p : ℕ) (l : Ledger) (w : Shaped p l) where
         finalvote = cell-word s n 6 h k (omega arith) i;
       }
 
+  block-word : (s n j : ℕ) → s < suc lastSlot → n < mostBlocks → j < blockWords → wordAt (wordsOf l) (blockStart p s n + j) ≡ wordAt (spellBlock (getD (blocksAt l s) n noBlock)) j
+  block-word s n j h k m =
+      let z : blockStart p s n + j ≡ rowStart p s + (blockWords * n + j) = omega arith in
+      ap (wordAt (wordsOf l)) z
+      ∙ row-word s (blockWords * n + j) h (omega arith)
+      ∙ row-block (rowAt l s) (w .blocks s h) n j k m
+
+  block-back : (s n : ℕ) → s < suc lastSlot → n < mostBlocks → blockOf p (wordsOf l) s n ≡ getD (blocksAt l s) n noBlock
+  block-back s n h k =
+      let z : wordAt (wordsOf l) (blockStart p s n) ≡ getD (blocksAt l s) n noBlock .number = rw add-zero at (block-word s n 0 h k (omega arith)) in
+      λ i. record { number = z i; parentslot = record { 0 = block-word s n 1 h k (omega arith) i }; parent = block-word s n 2 h k (omega arith) i }
+
   row-back : (s : ℕ) → s < suc lastSlot → rowOf p (wordsOf l) s ≡ rowAt l s
   row-back s h =
-      let z : wordAt (wordsOf l) (rowStart p s) ≡ rowAt l s .kept .number = rw add-zero at (row-word s 0 h (omega arith)) in
+      let mark : (j : ℕ) → j < 2 → wordAt (wordsOf l) (rowStart p s + (timeoutAt + j)) ≡ wordAt (spellMarks (rowAt l s)) j = (λ j m. row-word s (timeoutAt + j) h (omega arith) ∙ row-mark (rowAt l s) (w .blocks s h) j m) in
       λ i. record {
-        kept = record { number = z i; parentslot = record { 0 = row-word s 1 h (omega arith) i }; parent = row-word s 2 h (omega arith) i };
-        timedOut = row-word s 3 h (omega arith) i;
-        final = row-word s 4 h (omega arith) i;
+        blocks = (tabulate-same mostBlocks (blockOf p (wordsOf l) s) (λ n. getD (blocksAt l s) n noBlock) (λ n k. block-back s n h k)
+            ∙ ap (λ k. tabulate k (λ n. getD (blocksAt l s) n noBlock)) (sym (w .blocks s h))
+            ∙ sym (tabulate-getD (blocksAt l s) noBlock)) i;
+        timedOut = mark 0 (omega arith) i;
+        final = mark 1 (omega arith) i;
         cells = (tabulate-same p (cellOf p (wordsOf l) s) (λ n. getD (rowAt l s .cells) n noCell) (λ n k. cell-back s n h k)
             ∙ ap (λ k. tabulate k (λ n. getD (rowAt l s .cells) n noCell)) (sym (w .cells s h))
             ∙ sym (tabulate-getD (rowAt l s .cells) noCell)) i;

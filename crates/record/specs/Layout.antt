@@ -1,5 +1,5 @@
 -- What a node's words mean: a head (count, total, own number, genesis, the armed windows, the stakes), then a row for each
--- slot: the kept block's number, its parent's slot and number, timed out, final block, then a cell for each node.
+-- slot: four places for blocks (number, its parent's slot and number), timed out, final block, then a cell for each node.
 use mathlib.Core.Path.{_≡_}
 use mathlib.Core.Bool.{Bool}
 use mathlib.Core.List.{List, [], _∷_}
@@ -9,7 +9,7 @@ use lib.Dec.{eqb}
 use Rattle.rulebook.specs.declared.Cell.{Cell}
 use Rattle.rulebook.specs.declared.Block.{Block}
 use Rattle.rulebook.specs.Weights.{lastSlot, windows}
-use Rattle.rulebook.specs.Ledger.{Ledger, Row, places}
+use Rattle.rulebook.specs.Ledger.{Ledger, Row, mostBlocks, places}
 
 -- ---- where each thing stands
 
@@ -26,15 +26,28 @@ headWords p = stakeStart + p
 abbrev pub cellWords : ℕ
 cellWords = 7
 
+abbrev pub blockWords : ℕ
+blockWords = 3
+
+-- In a row's head: the mark of its timeout behind the blocks, then its final block.
+abbrev pub timeoutAt : ℕ
+timeoutAt = 12
+
+abbrev pub finalAt : ℕ
+finalAt = 13
+
 abbrev pub rowHead : ℕ
-rowHead = 5
+rowHead = 14
 
 abbrev pub rowWords : ℕ → ℕ
 rowWords p = rowHead + cellWords * p
 
--- The first word of slot s's row, and of node n's cell in it.
+-- The first word of slot s's row, of place i for a block in it, and of node n's cell in it.
 unfoldable pub rowStart : ℕ → ℕ → ℕ
 rowStart p s = headWords p + rowWords p * s
+
+abbrev pub blockStart : ℕ → ℕ → ℕ → ℕ
+blockStart p s i = rowStart p s + blockWords * i
 
 abbrev pub cellStart : ℕ → ℕ → ℕ → ℕ
 cellStart p s n = rowStart p s + rowHead + cellWords * n
@@ -45,7 +58,7 @@ recordWords p = rowStart p (suc lastSlot)
 
 -- That is so many words without any place, and so many more for each.
 abbrev pub bareWords : ℕ
-bareWords = 93
+bareWords = 246
 
 abbrev pub placeWords : ℕ
 placeWords = 120
@@ -83,12 +96,15 @@ blockFrom ws i = record { number = wordAt ws i; parentslot = record { 0 = wordAt
 abbrev pub cellOf : ℕ → List ℕ → ℕ → ℕ → Cell
 cellOf p ws s n = cellFrom ws (cellStart p s n)
 
+abbrev pub blockOf : ℕ → List ℕ → ℕ → ℕ → Block
+blockOf p ws s i = blockFrom ws (blockStart p s i)
+
 abbrev pub rowOf : ℕ → List ℕ → ℕ → Row
 rowOf p ws s =
     record {
-      kept = blockFrom ws (rowStart p s);
-      timedOut = wordAt ws (rowStart p s + 3);
-      final = wordAt ws (rowStart p s + 4);
+      blocks = tabulate mostBlocks (blockOf p ws s);
+      timedOut = wordAt ws (rowStart p s + timeoutAt);
+      final = wordAt ws (rowStart p s + finalAt);
       cells = tabulate p (cellOf p ws s);
     }
 
@@ -129,7 +145,13 @@ pub record InWindow (ws : List ℕ) (s : ℕ) : Type 0 where
   pub later : 1 ≤ s
   pub slot : s < suc lastSlot
 
--- Likewise, and the node has a cell.
+-- Likewise, and i is one of its places for blocks.
+pub record InBlocks (ws : List ℕ) (s i : ℕ) : Type 0 where
+  pub long : Long ws
+  pub slot : s < suc lastSlot
+  pub place : i < mostBlocks
+
+-- The words are as many as their places ask for, the slot has a row, and the node has a cell.
 pub record Placed (ws : List ℕ) (s n : ℕ) : Type 0 where
   pub long : Long ws
   pub slot : s < suc lastSlot
@@ -151,10 +173,14 @@ pub record Counted (ws : List ℕ) : Type 0 where
   pub long : Long ws
   pub few : ledgerOf ws .count ≤ places (ledgerOf ws)
 
--- Where a row, or a cell, begins, and that it lies within the words.
+-- Where a row, a block's place, or a cell, begins, and that it lies within the words.
 pub record RowAt (ws : List ℕ) (s i : ℕ) : Type 0 where
   pub is : i ≡ rowStart (placesIn ws) s
   pub inside : i + rowWords (placesIn ws) ≤ length ws
+
+pub record BlockAt (ws : List ℕ) (s n i : ℕ) : Type 0 where
+  pub is : i ≡ blockStart (placesIn ws) s n
+  pub inside : i + blockWords ≤ length ws
 
 pub record CellAt (ws : List ℕ) (s n i : ℕ) : Type 0 where
   pub is : i ≡ cellStart (placesIn ws) s n

@@ -3,12 +3,14 @@
 ghost use mathlib.Core.Path.{_≡_};
 ghost use mathlib.Core.Bool.{not};
 ghost use Prim.Native.Nat.{_<_};
-ghost use lib.ListN.{length, getD, take, replicate};
+ghost use lib.ListN.{length, getD, set, take, replicate};
 ghost use Rattle.rulebook.specs.Weights.{placesFor, windows, stakeIn};
-ghost use Rattle.rulebook.specs.Ledger.{none, places, rowAt, cellAt, ownCell, isArmed, putCell, putKept, putTimedOut, putFinal, putArmed};
+ghost use Rattle.rulebook.specs.Ledger.{none, noBlock, places, rowAt, cellAt, ownCell, blocksAt, isArmed, putCell, putBlocks, putTimedOut, putFinal, putArmed};
 ghost use Rattle.rulebook.specs.Votes.{storeVote};
-ghost use Rattle.record.specs.Layout.{recordWords, isLong, Long, InSlot, InWindow, InTable, Placed, RowAt, CellAt, OwnIn, Counted, ledgerOf};
+ghost use Rattle.rulebook.specs.Inputs.{keepBlock};
+ghost use Rattle.record.specs.Layout.{recordWords, isLong, Long, InSlot, InWindow, InTable, InBlocks, Placed, RowAt, BlockAt, CellAt, OwnIn, Counted, ledgerOf};
 ghost use Rattle.record.specs.Setting.{putHead, putStake};
+ghost use Rattle.record.specs.BlockPlaces.{freePlace};
 use cells::with_vote;
 use rulebook::Block;
 use rulebook::Cell;
@@ -23,14 +25,24 @@ pub const LAST_SLOT: usize = 16;
 
 pub const WINDOWS: usize = 4;
 
-// The layout: 4 numbers, the armed windows, the stakes; then a row for slot 0 and each slot: 5 words, and 7 for each node.
+// How many blocks of a slot are kept.
+pub const MOST_BLOCKS: usize = 4;
+
+// The layout: 4 numbers, the armed windows, the stakes; then a row for slot 0 and each slot: 3 words for each kept block, the
+// timeout's mark, the final block, and 7 words for each node.
 const ARMED_START: usize = 4;
 
 const STAKE_START: usize = ARMED_START + WINDOWS;
 
 const CELL_WORDS: usize = 7;
 
-const ROW_HEAD: usize = 5;
+const BLOCK_WORDS: usize = 3;
+
+const TIMEOUT_AT: usize = BLOCK_WORDS * MOST_BLOCKS;
+
+const FINAL_AT: usize = TIMEOUT_AT + 1;
+
+const ROW_HEAD: usize = FINAL_AT + 1;
 
 // The words of a record without any place, and how many more each place takes.
 const BARE_WORDS: usize = STAKE_START + ROW_HEAD * (LAST_SLOT + 1);
@@ -120,12 +132,20 @@ pub fn store_cell(rec: &mut [u64], s: Slot, n: Node, c: Cell)
     rec[i + 6] = c.finalvote;
 }
 
-// The block kept in a slot, with its parent.
-pub fn kept_block(rec: &[u64], s: Slot) -> Block
-    requires { ⌜ InSlot (now rec) (s .0) ⌝ }
-    ensures { λ r. ⌜ r ≡ rowAt (ledgerOf (now (rec .entry))) (s .0) .kept ⌝ }
+// The first word of one of a slot's places for blocks.
+fn block_start(rec: &[u64], s: Slot, n: usize) -> usize
+    requires { ⌜ InBlocks (now rec) (s .0) n ⌝ }
+    ensures { λ r. ⌜ BlockAt (now (rec .entry)) (s .0) n r ⌝ }
 {
-    let i = row_start(rec, s);
+    row_start(rec, s) + BLOCK_WORDS * n
+}
+
+// The block in one of a slot's places, with its parent; the first announced is in the first.
+pub fn load_block(rec: &[u64], s: Slot, n: usize) -> Block
+    requires { ⌜ InBlocks (now rec) (s .0) n ⌝ }
+    ensures { λ r. ⌜ r ≡ getD (blocksAt (ledgerOf (now (rec .entry))) (s .0)) n noBlock ⌝ }
+{
+    let i = block_start(rec, s, n);
     Block {
         number: rec[i],
         parentslot: Slot(rec[i + 1] as usize),
@@ -133,16 +153,41 @@ pub fn kept_block(rec: &[u64], s: Slot) -> Block
     }
 }
 
-// Keeps a block in a slot.
-pub fn keep_block(rec: &mut [u64], s: Slot, b: Block)
-    requires { ⌜ InSlot (now rec) (s .0) ⌝ }
-    ensures { λ _. ⌜ ledgerOf (now (rec .exit)) ≡ putKept (ledgerOf (now (rec .entry))) (s .0) b ⌝ }
+// Puts a block into one of a slot's places.
+fn store_block(rec: &mut [u64], s: Slot, n: usize, b: Block)
+    requires { ⌜ InBlocks (now rec) (s .0) n ⌝ }
+    ensures { λ _. ⌜ ledgerOf (now (rec .exit)) ≡ putBlocks (ledgerOf (now (rec .entry))) (s .0) (set (blocksAt (ledgerOf (now (rec .entry))) (s .0)) n b) ⌝ }
 {
-    let i = row_start(rec, s);
+    let i = block_start(rec, s, n);
     let p = b.parentslot;
     rec[i] = b.number;
     rec[i + 1] = p.0 as u64;
     rec[i + 2] = b.parent;
+}
+
+// The first of a slot's places that keeps no block, the number of places where there is none.
+fn free_place(rec: &[u64], s: Slot) -> usize
+    requires { ⌜ InSlot (now rec) (s .0) ⌝ }
+    ensures { λ r. ⌜ r ≡ freePlace (blocksAt (ledgerOf (now (rec .entry))) (s .0)) ⌝ }
+{
+    for n in 0..MOST_BLOCKS {
+        let b = load_block(rec, s, n);
+        if b.number == 0 {
+            return n;
+        }
+    }
+    MOST_BLOCKS
+}
+
+// Keeps a block in the first free place of a slot; where there is none, nothing is kept.
+pub fn keep_block(rec: &mut [u64], s: Slot, b: Block)
+    requires { ⌜ InSlot (now rec) (s .0) ⌝ }
+    ensures { λ _. ⌜ ledgerOf (now (rec .exit)) ≡ keepBlock (ledgerOf (now (rec .entry))) (s .0) b ⌝ }
+{
+    let n = free_place(rec, s);
+    if n < MOST_BLOCKS {
+        store_block(rec, s, n, b);
+    }
 }
 
 // The word that marks a slot's timeout, whatever stands in it.
@@ -151,7 +196,7 @@ pub fn timeout_word(rec: &[u64], s: Slot) -> u64
     ensures { λ r. ⌜ r ≡ rowAt (ledgerOf (now (rec .entry))) (s .0) .timedOut ⌝ }
 {
     let i = row_start(rec, s);
-    rec[i + 3]
+    rec[i + TIMEOUT_AT]
 }
 
 // Whether a slot's timeout was taken.
@@ -168,7 +213,7 @@ pub fn mark_timed_out(rec: &mut [u64], s: Slot)
     ensures { λ _. ⌜ ledgerOf (now (rec .exit)) ≡ putTimedOut (ledgerOf (now (rec .entry))) (s .0) ⌝ }
 {
     let i = row_start(rec, s);
-    rec[i + 3] = 1;
+    rec[i + TIMEOUT_AT] = 1;
 }
 
 // The block reported final in a slot, 0 where there is none.
@@ -177,7 +222,7 @@ pub fn final_block(rec: &[u64], s: Slot) -> u64
     ensures { λ r. ⌜ r ≡ rowAt (ledgerOf (now (rec .entry))) (s .0) .final ⌝ }
 {
     let i = row_start(rec, s);
-    rec[i + 4]
+    rec[i + FINAL_AT]
 }
 
 // Marks a block as reported final in a slot.
@@ -186,7 +231,7 @@ pub fn set_final(rec: &mut [u64], s: Slot, b: u64)
     ensures { λ _. ⌜ ledgerOf (now (rec .exit)) ≡ putFinal (ledgerOf (now (rec .entry))) (s .0) b ⌝ }
 {
     let i = row_start(rec, s);
-    rec[i + 4] = b;
+    rec[i + FINAL_AT] = b;
 }
 
 // The word that marks a window as armed, whatever stands in it.

@@ -18,7 +18,7 @@ use writers::write_certificate;
 use writers::write_proof;
 
 // The words of a record with two places.
-const RECORD_WORDS: usize = 333;
+const RECORD_WORDS: usize = 486;
 
 const MOST_NUMBERS: usize = 64;
 
@@ -207,24 +207,24 @@ fn as_two(rec: &mut [u64], stakes: &[u64]) {
 
 // A record of a wrong length: a word more or less; a place more or less than the count says.
 fn lengths() {
-    let mut short = [0u64; 332];
-    let other = [0u64; 332];
-    say(b"332 words");
+    let mut short = [0u64; 485];
+    let other = [0u64; 485];
+    say(b"485 words");
     ask(&mut short, &other);
-    let mut long = [0u64; 334];
-    let another = [0u64; 334];
-    say(b"334 words");
+    let mut long = [0u64; 487];
+    let another = [0u64; 487];
+    say(b"487 words");
     ask(&mut long, &another);
     let one = [1u64; 1];
-    let mut single = [0u64; 213];
-    let mut same = [0u64; 213];
+    let mut single = [0u64; 366];
+    let mut same = [0u64; 366];
     as_two(&mut single, &one);
     as_two(&mut same, &one);
     say(b"two nodes on one place");
     ask(&mut single, &same);
     let three = [1u64; 3];
-    let mut triple = [0u64; 453];
-    let mut again = [0u64; 453];
+    let mut triple = [0u64; 606];
+    let mut again = [0u64; 606];
     as_two(&mut triple, &three);
     as_two(&mut again, &three);
     say(b"two nodes on three places");
@@ -233,11 +233,11 @@ fn lengths() {
 
 // Start: 17 for a length that the number of stakes does not ask for, then 1.
 fn starts() {
-    let mut none = [0u64; 93];
-    let mut two = [0u64; 333];
-    let mut small = [0u64; 7773];
-    let mut large = [0u64; 7893];
-    let mut most = [0u64; 245853];
+    let mut none = [0u64; 246];
+    let mut two = [0u64; 486];
+    let mut small = [0u64; 7926];
+    let mut large = [0u64; 8046];
+    let mut most = [0u64; 246006];
     let stakes = [1u64; 2049];
     say(b"no stakes on no place");
     tell_start(start(&mut none, &stakes[..0], Node(0), 1));

@@ -1,5 +1,5 @@
 -- Computed cases of 17: a record in range that has something in every place, and the same record with one place spoiled.
-use mathlib.Core.Bool.{Bool, true, false, not, _&&_}
+use mathlib.Core.Bool.{Bool, not}
 use mathlib.Core.List.{List, [], _∷_, _++_}
 use Prim.Native.Nat.{ℕ, suc, _+_, _-_, _^_, min}
 use lib.ListN.{set, replicate}
@@ -8,20 +8,34 @@ use Rattle.rulebook.specs.declared.Cell.{Cell}
 use Rattle.rulebook.specs.declared.Block.{Block}
 use Rattle.rulebook.specs.declared.Input.{Input}
 use Rattle.rulebook.specs.PaperNumbers.{stepPanel}
+use Rattle.rulebook.specs.Tools.{choose}
 use Rattle.rulebook.specs.Weights.{lastSlot, windows}
-use Rattle.rulebook.specs.Ledger.{Ledger, blankRow, rowAt, putRow, putCell, putKept, putTimedOut, putFinal}
-use Rattle.rulebook.specs.WellFormed.{wellFormed, step}
+use Rattle.rulebook.specs.Ledger.{Ledger, none, noBlock, blankRow, rowAt, putRow, putCell, putBlocks, putTimedOut, putFinal}
+use Rattle.rulebook.specs.WellFormed.{blocksFit, wellFormed, step}
 use Rattle.rulebook.specs.Scripts.{vote, cell, ring, equal, all}
 use Rattle.rulebook.specs.Computes.{rules}
 
 abbrev blockOf : ℕ → ℕ → ℕ → Block
 blockOf n p a = record { number = n; parentslot = record { 0 = p }; parent = a }
 
+-- A block of slot 2 with its parent in slot 1, and nothing where its number is 0.
+abbrev keptAs : ℕ → ℕ → Block
+keptAs n a = choose (none n) noBlock (blockOf n 1 a)
+
+-- The ledger with these four places for blocks in slot s.
+abbrev withBlocks : Ledger → ℕ → Block → Block → Block → Block → Ledger
+withBlocks l s a b c d = putBlocks l s (a ∷ b ∷ c ∷ d ∷ [])
+
+-- The ledger with one block kept in slot s.
+abbrev withBlock : Ledger → ℕ → Block → Ledger
+withBlock l s b = withBlocks l s b noBlock noBlock noBlock
+
 -- Two nodes of stakes 6 and 4. In range though odd: own votes and a timeout without an armed window, a final vote beside fallbacks, a
 -- fallback for the block of the notar vote, a final mark without certificates; the last slot is used too.
 abbrev odd : Ledger
 odd =
-    putCell (putFinal (putTimedOut (putKept (putKept (ring (6 ∷ 4 ∷ []) (cell 7 0 7 6 5 1 1 ∷ cell 0 1 5 0 0 0 0 ∷ [])) 1 (blockOf 7 0 1)) 16 (blockOf 7 15 3)) 9) 16 1) 16 1
+    let kept = withBlock (ring (6 ∷ 4 ∷ []) (cell 7 0 7 6 5 1 1 ∷ cell 0 1 5 0 0 0 0 ∷ [])) 1 (blockOf 7 0 1) in
+    putCell (putFinal (putTimedOut (withBlocks kept 16 (blockOf 7 15 3) (blockOf 6 15 3) (blockOf 9 0 1) (blockOf 8 1 7)) 9) 16 1) 16 1
     (cell 0 0 8 9 0 1 0)
 
 -- A cell in the place of node n's in slot s.
@@ -46,19 +60,39 @@ blankOnly s n =
 abbrev unusedCells : Bool
 unusedCells = all (blankOnly 0 0 ∷ blankOnly 0 1 ∷ [])
 
--- A kept block obeys 5 and 11; where none is kept its parent is 0 too.
+-- These four places of slot 2 are in range.
+abbrev fourFit : Block → Block → Block → Block → Bool
+fourFit a b c d = blocksFit odd 2 (a ∷ b ∷ c ∷ d ∷ [])
+
+-- A place of slot 2 with something in it: a parent against 5 or 11, a parent where no block is kept.
+abbrev spoiled : (Block → Bool) → Bool
+spoiled fits =
+    all (fits (blockOf 7 1 5) ∷ not (fits (blockOf 7 1 0)) ∷ not (fits (blockOf 7 2 5)) ∷ not (fits (blockOf 7 3 5)) ∷ not (fits (blockOf 7 0 5)) ∷ not (fits (blockOf 0 1 0))
+    ∷ not (fits (blockOf 0 0 1)) ∷ [])
+
+-- Each of the four places obeys 5 and 11.
 abbrev keptBlocks : Bool
 keptBlocks =
-    let fits : Block → Bool = (λ b. wellFormed (putKept odd 2 b)) in
-    all (not (fits (blockOf 7 1 0)) ∷ not (fits (blockOf 7 2 5)) ∷ not (fits (blockOf 7 3 5)) ∷ not (fits (blockOf 7 0 5)) ∷ not (fits (blockOf 0 1 0)) ∷ not (fits (blockOf 0 0 1)) ∷ [])
+    let a = blockOf 21 1 5 in
+    let b = blockOf 22 1 5 in
+    let c = blockOf 23 1 5 in
+    all (spoiled (λ d. wellFormed (withBlock odd 2 d)) ∷ spoiled (λ d. fourFit a d noBlock noBlock) ∷ spoiled (λ d. fourFit a b d noBlock) ∷ spoiled (λ d. fourFit a b c d) ∷ [])
+
+-- The numbers of the places, with one parent or with two: from the front, and none twice.
+abbrev numbersApart : Bool
+numbersApart =
+    let fits : ℕ → ℕ → ℕ → ℕ → Bool = (λ a b c d. fourFit (keptAs a 5) (keptAs b 5) (keptAs c 6) (keptAs d 5)) in
+    all (fits 0 0 0 0 ∷ fits 7 0 0 0 ∷ fits 7 8 0 0 ∷ fits 9 8 7 0 ∷ fits 7 8 9 10 ∷ not (fits 0 7 0 0) ∷ not (fits 0 0 7 0) ∷ not (fits 0 0 0 7) ∷ not (fits 7 0 8 0) ∷ not (fits 7 0 0 8)
+    ∷ not (fits 7 8 0 9) ∷ not (fits 0 7 8 9) ∷ not (fits 7 7 0 0) ∷ not (fits 7 8 7 0) ∷ not (fits 7 8 9 7) ∷ not (fits 7 8 8 0) ∷ not (fits 7 8 9 8) ∷ not (fits 7 8 9 9) ∷ [])
 
 -- A timeout mark above 1; row 0's words, each.
 abbrev marks : Bool
 marks =
     let r = rowAt odd 2 in
-    all (not (wellFormed (putRow odd 2 (record { kept = r .kept; timedOut = 2; final = r .final; cells = r .cells }))) ∷ not (wellFormed (putTimedOut odd 0))
-    ∷ not (wellFormed (putFinal odd 0 7)) ∷ not (wellFormed (putKept odd 0 (blockOf 7 0 0))) ∷ not (wellFormed (putKept odd 0 (blockOf 0 1 0)))
-    ∷ not (wellFormed (putKept odd 0 (blockOf 0 0 1))) ∷ [])
+    let blankBut : Block → Bool = (λ b. wellFormed (withBlock odd 0 b)) in
+    all (not (wellFormed (putRow odd 2 (record { blocks = r .blocks; timedOut = 2; final = r .final; cells = r .cells }))) ∷ not (wellFormed (putTimedOut odd 0))
+    ∷ not (wellFormed (putFinal odd 0 7)) ∷ not (blankBut (blockOf 7 0 0)) ∷ not (blankBut (blockOf 0 1 0)) ∷ not (blankBut (blockOf 0 0 1))
+    ∷ not (wellFormed (withBlocks odd 0 noBlock noBlock noBlock (blockOf 7 0 0))) ∷ [])
 
 -- The record with another header.
 abbrev headed : ℕ → ℕ → ℕ → ℕ → List ℕ → List ℕ → Bool
@@ -98,6 +132,6 @@ stepOrder =
     let number : Ledger → ℕ → Input → ℕ = (λ l room i. stepPanel (step l room i .answer) .number) in
     equal (number (putTimedOut odd 0) 0 (vote 9 0 0 0) ∷ number odd 383 (vote 9 0 0 0) ∷ number odd 384 (vote 9 0 0 0) ∷ []) (17 ∷ 9 ∷ 4 ∷ [])
 
-cornersOfRecords : T (all (cells ∷ unusedCells ∷ keptBlocks ∷ marks ∷ heads ∷ lengths ∷ stepOrder ∷ []))
+cornersOfRecords : T (all (cells ∷ unusedCells ∷ keptBlocks ∷ numbersApart ∷ marks ∷ heads ∷ lengths ∷ stepOrder ∷ []))
 unfolding rules
 cornersOfRecords = tt

@@ -32,12 +32,21 @@ places =
     ∷ (0 ∷ []) ∷ (7 ∷ []) ∷ (0 ∷ []) ∷ (7 ∷ []) ∷ [])
 
 -- 11 for a parent in the slot itself, above it, or in slot 0 with another number than genesis, also where that very block is kept;
--- 7 needs number, parent's slot and parent equal.
+-- 7 needs number, parent's slot and parent equal; the number with another parent is 8.
 abbrev blockOrder : Bool
 blockOrder =
     equals (answers (stored three (block 2 8 0 7 ∷ block 3 9 1 7 ∷ [])) (block 17 0 18 0 ∷ block 0 0 18 0 ∷ block 2 0 2 0 ∷ block 2 8 2 0 ∷ block 2 8 2 7
-    ∷ block 2 8 3 7 ∷ block 2 8 0 7 ∷ block 3 9 1 7 ∷ block 3 9 1 6 ∷ block 3 9 2 7 ∷ block 3 8 1 7 ∷ []))
-    ((3 ∷ []) ∷ (3 ∷ []) ∷ (5 ∷ []) ∷ (5 ∷ []) ∷ (11 ∷ []) ∷ (11 ∷ []) ∷ (11 ∷ []) ∷ (7 ∷ []) ∷ (8 ∷ []) ∷ (8 ∷ []) ∷ (8 ∷ []) ∷ [])
+    ∷ block 2 8 3 7 ∷ block 2 8 0 7 ∷ block 3 9 1 7 ∷ block 3 9 1 6 ∷ block 3 9 2 7 ∷ []))
+    ((3 ∷ []) ∷ (3 ∷ []) ∷ (5 ∷ []) ∷ (5 ∷ []) ∷ (11 ∷ []) ∷ (11 ∷ []) ∷ (11 ∷ []) ∷ (7 ∷ []) ∷ (8 ∷ []) ∷ (8 ∷ []) ∷ [])
+
+-- Four blocks of a slot are kept, each number with one parent; the fifth is 8, and so is a kept number with another parent, in each
+-- place; that very block is 7 in each place, full or not. The same number in another slot has a parent of its own.
+abbrev fourBlocks : Bool
+fourBlocks =
+    equals (answers three (block 3 9 1 7 ∷ block 3 6 1 7 ∷ block 3 6 1 7 ∷ block 3 6 2 7 ∷ block 3 8 2 6 ∷ block 3 7 0 1 ∷ block 3 5 1 7 ∷ block 4 5 1 7
+    ∷ block 3 9 1 7 ∷ block 3 6 1 7 ∷ block 3 8 2 6 ∷ block 3 7 0 1 ∷ block 3 9 1 6 ∷ block 3 6 1 6 ∷ block 3 8 1 6 ∷ block 3 7 1 1 ∷ block 4 9 3 6 ∷ []))
+    ((0 ∷ []) ∷ (0 ∷ []) ∷ (7 ∷ []) ∷ (8 ∷ []) ∷ (0 ∷ []) ∷ (0 ∷ []) ∷ (8 ∷ []) ∷ (0 ∷ [])
+    ∷ (7 ∷ []) ∷ (7 ∷ []) ∷ (7 ∷ []) ∷ (7 ∷ []) ∷ (8 ∷ []) ∷ (8 ∷ []) ∷ (8 ∷ []) ∷ (8 ∷ []) ∷ (0 ∷ []) ∷ [])
 
 abbrev timeoutOrder : Bool
 timeoutOrder =
@@ -81,6 +90,6 @@ written =
     ((1 ∷ 1 ∷ 7 ∷ 3 ∷ 0 ∷ []) ∷ (2 ∷ 1 ∷ 7 ∷ 3 ∷ 0 ∷ []) ∷ (3 ∷ 1 ∷ 7 ∷ 3 ∷ 4 ∷ []) ∷ (5 ∷ 1 ∷ 0 ∷ 1 ∷ 0 ∷ []) ∷ [] ∷ (1 ∷ 1 ∷ 7 ∷ 3 ∷ 0 ∷ []) ∷ []
     ∷ (4 ∷ 1 ∷ 0 ∷ 1 ∷ 2 ∷ []) ∷ (2 ∷ 1 ∷ 7 ∷ 6 ∷ 0 ∷ 5 ∷ 1 ∷ 0 ∷ 6 ∷ 0 ∷ []) ∷ (1 ∷ 2 ∷ 8 ∷ 9 ∷ []) ∷ (6 ∷ 7 ∷ []) ∷ [])
 
-cornersOfRefusals : T (all (voteOrder ∷ places ∷ blockOrder ∷ timeoutOrder ∷ noRuleRun ∷ starts ∷ writerOrder ∷ written ∷ []))
+cornersOfRefusals : T (all (voteOrder ∷ places ∷ blockOrder ∷ fourBlocks ∷ timeoutOrder ∷ noRuleRun ∷ starts ∷ writerOrder ∷ written ∷ []))
 unfolding rules
 cornersOfRefusals = tt

@@ -1,16 +1,18 @@
 -- The ledger: what a node keeps, as nested records. Row s is slot s; row 0, genesis's slot, stays blank.
-use mathlib.Core.Bool.{Bool, not, _&&_}
+use mathlib.Core.Bool.{Bool, true, false, not, _&&_, _||_}
 use mathlib.Core.List.{List, [], _∷_, _++_}
 use Prim.Native.Nat.{ℕ, zero, suc, _+_, _-_}
 use lib.ListN.{length, getD, set, replicate}
 use lib.Dec.{eqb}
 use Rattle.rulebook.specs.declared.Cell.{Cell}
 use Rattle.rulebook.specs.declared.Block.{Block}
+use Rattle.rulebook.specs.Tools.{choose}
 use Rattle.rulebook.specs.Weights.{placesFor, lastSlot, windows, windowOf, totalTo}
 
--- One slot: the kept block with its parent, whether its timeout was taken, the block reported final, a cell for each node.
+-- One slot: places for blocks with their parents, the first announced in front; whether its timeout was taken; the block reported
+-- final; a cell for each node.
 pub record Row : Type 0 where
-  pub kept : Block
+  pub blocks : List Block
   pub timedOut : ℕ
   pub final : ℕ
   pub cells : List Cell
@@ -35,9 +37,14 @@ noCell =
 abbrev pub noBlock : Block
 noBlock = record { number = 0; parentslot = record { 0 = 0 }; parent = 0 }
 
+-- "up to four announced blocks are kept per slot".
+abbrev pub mostBlocks : ℕ
+mostBlocks = 4
+
 -- A row of so many places with nothing in it; one without a place stands for a slot that has none.
 unfoldable pub blankRow : ℕ → Row
-blankRow places = record { kept = noBlock; timedOut = 0; final = 0; cells = replicate places noCell }
+blankRow places =
+    record { blocks = replicate mostBlocks noBlock; timedOut = 0; final = 0; cells = replicate places noCell }
 
 unfoldable pub noRow : Row
 noRow = blankRow 0
@@ -66,6 +73,46 @@ noInitial c = none (c .notar) && none (c .skip)
 abbrev pub isArmed : Ledger → ℕ → Bool
 isArmed l s = not (none (getD (l .armed) (windowOf s) 0))
 
+-- ---- kept blocks
+
+-- The places of slot s for blocks, the first announced in front.
+abbrev pub blocksAt : Ledger → ℕ → List Block
+blocksAt l s = rowAt l s .blocks
+
+-- The first announced block of slot s.
+abbrev pub firstBlock : Ledger → ℕ → Block
+firstBlock l s = getD (blocksAt l s) 0 noBlock
+
+-- The test holds of some block of a list, of every block of it.
+unfoldable pub someBlock : (Block → Bool) → List Block → Bool
+someBlock p [] = false
+someBlock p (k ∷ ks) = p k || someBlock p ks
+
+unfoldable pub allBlocks : (Block → Bool) → List Block → Bool
+allBlocks p [] = true
+allBlocks p (k ∷ ks) = p k && allBlocks p ks
+
+-- A place that keeps no block.
+abbrev pub isFree : Block → Bool
+isFree k = none (k .number)
+
+-- The place keeps the block of this number.
+abbrev pub hasNumber : ℕ → Block → Bool
+hasNumber b k = eqb (k .number) b
+
+-- A block in the first free place.
+unfoldable pub fillBlock : Block → List Block → List Block
+fillBlock b [] = []
+fillBlock b (k ∷ ks) = choose (isFree k) (b ∷ ks) (k ∷ fillBlock b ks)
+
+-- The place keeps the block of this number with the parent (p, x).
+unfoldable pub isBlock : ℕ → ℕ → ℕ → Block → Bool
+isBlock b p x k = not (isFree k) && (hasNumber b k && (eqb (k .parentslot .0) p && eqb (k .parent) x))
+
+-- Block b of slot s is kept with the parent (p, x).
+unfoldable pub keepsBlock : Ledger → ℕ → ℕ → ℕ → ℕ → Bool
+keepsBlock l s b p x = someBlock (isBlock b p x) (blocksAt l s)
+
 -- ---- writing: each touches the one place that it names
 
 abbrev pub putRow : Ledger → ℕ → Row → Ledger
@@ -83,22 +130,22 @@ putRow l s r =
 abbrev pub putCell : Ledger → ℕ → ℕ → Cell → Ledger
 putCell l s n c =
     let r = rowAt l s in
-    putRow l s (record { kept = r .kept; timedOut = r .timedOut; final = r .final; cells = set (r .cells) n c })
+    putRow l s (record { blocks = r .blocks; timedOut = r .timedOut; final = r .final; cells = set (r .cells) n c })
 
-abbrev pub putKept : Ledger → ℕ → Block → Ledger
-putKept l s b =
+abbrev pub putBlocks : Ledger → ℕ → List Block → Ledger
+putBlocks l s bs =
     let r = rowAt l s in
-    putRow l s (record { kept = b; timedOut = r .timedOut; final = r .final; cells = r .cells })
+    putRow l s (record { blocks = bs; timedOut = r .timedOut; final = r .final; cells = r .cells })
 
 abbrev pub putTimedOut : Ledger → ℕ → Ledger
 putTimedOut l s =
     let r = rowAt l s in
-    putRow l s (record { kept = r .kept; timedOut = 1; final = r .final; cells = r .cells })
+    putRow l s (record { blocks = r .blocks; timedOut = 1; final = r .final; cells = r .cells })
 
 abbrev pub putFinal : Ledger → ℕ → ℕ → Ledger
 putFinal l s b =
     let r = rowAt l s in
-    putRow l s (record { kept = r .kept; timedOut = r .timedOut; final = b; cells = r .cells })
+    putRow l s (record { blocks = r .blocks; timedOut = r .timedOut; final = b; cells = r .cells })
 
 abbrev pub putArmed : Ledger → ℕ → Ledger
 putArmed l s =

@@ -1,6 +1,6 @@
 -- What a node's record keeps to: 17, said of the ledger; and the whole step with 17 and 9 in front.
 use mathlib.Core.Bool.{Bool, true, false, not, _&&_, _||_}
-use mathlib.Core.List.{List}
+use mathlib.Core.List.{List, [], _∷_}
 use mathlib.Core.Path.{_≡_}
 use Prim.Native.Nat.{ℕ, zero, suc, _<_}
 use lib.ListN.{length, getD}
@@ -11,21 +11,22 @@ use Rattle.rulebook.specs.declared.Input.{Input}
 use Rattle.rulebook.specs.declared.Refusal.the-variants as refusal
 use Rattle.rulebook.specs.Tools.{given, allTo}
 use Rattle.rulebook.specs.Weights.{placesFor, lastSlot, windows, stakeIn, stakesFit, totalTo}
-use Rattle.rulebook.specs.Ledger.{Ledger, none, places, rowAt, cellAt}
+use Rattle.rulebook.specs.Ledger.{Ledger, none, places, rowAt, cellAt, mostBlocks, blocksAt, allBlocks, isFree}
 use Rattle.rulebook.specs.Inputs.{Fed, refusedWith, feed, badParent}
 
--- The ledger has a row for every slot, a mark for every window, and p places for nodes wherever there are any.
+-- The ledger has a row for every slot with four places for blocks, a mark for every window, and p places for nodes wherever there are any.
 pub record Shaped (p : ℕ) (l : Ledger) : Type 0 where
   pub armed : length (l .armed) ≡ windows
   pub stakes : length (l .stakes) ≡ p
   pub rows : length (l .rows) ≡ suc lastSlot
+  pub blocks : (s : ℕ) → s < suc lastSlot → length (rowAt l s .blocks) ≡ mostBlocks
   pub cells : (s : ℕ) → s < suc lastSlot → length (rowAt l s .cells) ≡ p
 
 -- A flag is 0 or 1.
 abbrev pub flag : ℕ → Bool
 flag x = leb x 1
 
--- Two fallback places: the later is filled only after the earlier, and not with the same block.
+-- Two places for blocks: the later is filled only after the earlier, and not with the same number.
 unfoldable pub inOrder : ℕ → ℕ → Bool
 inOrder x y = none y || (not (none x) && not (eqb x y))
 
@@ -48,22 +49,34 @@ cellBlank c =
 unfoldable pub cellsFit : Ledger → ℕ → ℕ → Bool
 cellsFit l s used = allTo (places l) (λ n. given (ltb n used) (cellBlank (cellAt l s n)) (λ _. cellFits (cellAt l s n)))
 
--- A kept block has a parent that 5 and 11 let pass; where none is kept all is 0.
+-- A kept block has a parent that 5 and 11 let pass; where none is kept its parent is 0 too.
 unfoldable pub keptFits : Ledger → ℕ → Block → Bool
 keptFits l s b =
-    given (not (none (b .number))) (none (b .parentslot .0) && none (b .parent))
+    given (not (isFree b)) (none (b .parentslot .0) && none (b .parent))
     (λ _. not (none (b .parent)) && not (badParent l s b))
+
+-- Places filled from the front, and no number twice: "a record with one kept twice in a slot is 17".
+unfoldable pub blocksApart : List Block → Bool
+blocksApart [] = true
+blocksApart (b ∷ bs) = allBlocks (λ k. inOrder (b .number) (k .number)) bs && blocksApart bs
+
+-- The kept blocks of a slot.
+unfoldable pub blocksFit : Ledger → ℕ → List Block → Bool
+blocksFit l s bs = allBlocks (keptFits l s) bs && blocksApart bs
 
 -- One of the slots 1 to 16.
 unfoldable pub rowFits : Ledger → ℕ → Bool
-rowFits l s = keptFits l s (rowAt l s .kept) && (flag (rowAt l s .timedOut) && cellsFit l s (l .count))
+rowFits l s = blocksFit l s (blocksAt l s) && (flag (rowAt l s .timedOut) && cellsFit l s (l .count))
+
+-- A place with nothing in it.
+unfoldable pub blockBlank : Block → Bool
+blockBlank b = isFree b && (none (b .parentslot .0) && none (b .parent))
 
 -- Row 0 is unused.
 unfoldable pub rowBlank : Ledger → Bool
 rowBlank l =
     let r = rowAt l 0 in
-    (none (r .kept .number) && (none (r .kept .parentslot .0) && none (r .kept .parent)))
-    && ((none (r .timedOut) && none (r .final)) && cellsFit l 0 0)
+    allBlocks blockBlank (r .blocks) && ((none (r .timedOut) && none (r .final)) && cellsFit l 0 0)
 
 -- "node record of wrong length": as many places as the count asks for. Then count, own number, genesis, stakes and "a total that is not
 -- the sum".

@@ -12,12 +12,13 @@ ghost use Rattle.fallbacks.specs.UnderWay.{UnderWayAt};
 use candidates::final_candidate;
 use own_votes::may_final;
 use pool::held;
+use pool::is_first;
 use pool::ready;
 use pool::some_ready;
 use record::arm;
 use record::final_block;
 use record::is_armed;
-use record::kept_block;
+use record::load_block;
 use record::own_cell;
 use record::set_final;
 use rulebook::Block;
@@ -27,13 +28,6 @@ use rulebook::VoteKind;
 use voter::cast_vote;
 use voter::no_initial;
 use voter::tell;
-
-// Whether a slot is the first of its window.
-fn is_first(s: Slot) -> bool
-    ensures { λ r. ⌜ r ≡ isFirst (s .0) ⌝ }
-{
-    s.0 % 4 == 1
-}
 
 // Rule A's first part: a first slot of a window that is not yet armed.
 pub fn may_arm(rec: &[u64], s: Slot) -> bool
@@ -57,7 +51,7 @@ pub fn rule_a(rec: &mut [u64], outbox: &mut [u64], at: usize, s: Slot) -> usize
     at
 }
 
-// Whether the kept block's parent lets rule B cast.
+// Whether the first block's parent lets rule B cast.
 fn parent_fits(rec: &[u64], s: Slot, b: Block) -> bool
     requires { ⌜ Judging (now rec) (s .0) ⌝ }
     ensures { λ r. ⌜ r ≡ parentFits (ledgerOf (now (rec .entry))) (s .0) (isFirst (s .0)) b ⌝ }
@@ -70,13 +64,13 @@ fn parent_fits(rec: &[u64], s: Slot, b: Block) -> bool
     (p.0 == s.0 - 1) & (before.notar == b.parent)
 }
 
-// B. No own initial vote and a kept block whose parent fits: casts notar for it.
+// B. No own initial vote, and the first block announced has a parent that fits: casts notar for it.
 pub fn rule_b(rec: &mut [u64], outbox: &mut [u64], at: usize, s: Slot) -> usize
     requires { ⌜ UnderWayAt (now rec) (now outbox) at (s .0) ⌝ }
     ensures { λ r. ⌜ Onward (now (rec .entry)) (now (outbox .entry)) at (now (rec .exit)) (now (outbox .exit)) r (ruleB (stateIn (now (rec .entry)) (now (outbox .entry)) at) (s .0)) ⌝ }
 {
     let c = own_cell(rec, s);
-    let b = kept_block(rec, s);
+    let b = load_block(rec, s, 0);
     if no_initial(c) & (b.number != 0) {
         if parent_fits(rec, s, b) {
             return cast_vote(rec, outbox, at, s, VoteKind::Notar, b.number);

@@ -80,8 +80,8 @@ module _ (o : State) (s : ℕ) (some : 1 ≤ o .ledger .total) (e : isDormant (o
       or-cases told unnamed (parts .1 .1)
       (λ h. F-off o s (not-true (none (rowAt (o .ledger) s .final)) h))
       (λ h.
-        let none-final = no-final (o .ledger) s some (not-true (countedBefore (o .ledger) s (o .ledger .count) who.AnyNotar) h) in
-        by-test (none (rowAt (o .ledger) s .final)) (λ t. F-none o s t (eq-eqb (lowest (isFinal (o .ledger) s) (names (o .ledger) s)) 0 none-final)) (F-off o s))
+      let none-final = no-final (o .ledger) s some (not-true (countedBefore (o .ledger) s (o .ledger .count) who.AnyNotar) h) in
+      by-test (none (rowAt (o .ledger) s .final)) (λ t. F-none o s t (eq-eqb (lowest (isFinal (o .ledger) s) (names (o .ledger) s)) 0 none-final)) (F-off o s))
 
   pub dormant-quiet : firstRule 6 0 o s ≡ o
   dormant-quiet =

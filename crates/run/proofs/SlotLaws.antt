@@ -4,7 +4,7 @@ use mathlib.Core.Bool.{Bool, true, false}
 use Prim.Native.Nat.{ℕ, zero, suc, _+_}
 use native.Mathlib.Omega.{arith}
 use native.Mathlib.Numerals.{add-one}
-use Rattle.rulebook.specs.Ledger.{none, rowAt, ownCell, noInitial}
+use Rattle.rulebook.specs.Ledger.{none, firstBlock, ownCell, noInitial}
 use Rattle.rulebook.specs.Rules.{State, ruleA, ruleB, ruleC, ruleD, ruleE, ruleF}
 use Rattle.rulebook.specs.Run.{made, quiet, ruleAt, firstRule}
 use Rattle.rulebook.proofs.ToolLaws.{given-off, and-both}
@@ -34,11 +34,11 @@ rules-on (suc k) n r o s e =
     let next : (r + 1) + k ≡ r + suc k = omega arith in
     by-record o p
     (λ q.
-      let here : firstRule (suc k) r o s ≡ firstRule k (r + 1) p s = rule-step o p s r (suc k) k (sym (add-one k)) refl q in
-      rule-step o p s r (suc k + n) (k + n) more refl q
-      ∙ rules-on k n (r + 1) p s (ap made (sym here) ∙ e ∙ sym q)
-      ∙ ap (λ (x : State). firstRule n ((r + 1) + k) x s) (sym here)
-      ∙ ap (λ (i : ℕ). firstRule n i (firstRule (suc k) r o s) s) next)
+    let here : firstRule (suc k) r o s ≡ firstRule k (r + 1) p s = rule-step o p s r (suc k) k (sym (add-one k)) refl q in
+    rule-step o p s r (suc k + n) (k + n) more refl q
+    ∙ rules-on k n (r + 1) p s (ap made (sym here) ∙ e ∙ sym q)
+    ∙ ap (λ (x : State). firstRule n ((r + 1) + k) x s) (sym here)
+    ∙ ap (λ (i : ℕ). firstRule n i (firstRule (suc k) r o s) s) next)
     (λ ne. absurd (ne (ap made (sym (rule-stop o p s r (suc k) k (sym (add-one k)) refl ne)) ∙ e)))
 
 -- The k give the state back: they are passed over.
@@ -53,10 +53,10 @@ rules-off (suc k) n r o s e =
     let more : suc k + n ≡ (k + n) + 1 = omega arith in
     by-record o p
     (λ q.
-      let here : firstRule (suc k) r o s ≡ firstRule k (r + 1) p s = rule-step o p s r (suc k) k (sym (add-one k)) refl q in
-      rule-step o p s r (suc k + n) (k + n) more refl q
-      ∙ rules-off k n (r + 1) p s (λ z. e (ap made here ∙ z ∙ q))
-      ∙ sym here)
+    let here : firstRule (suc k) r o s ≡ firstRule k (r + 1) p s = rule-step o p s r (suc k) k (sym (add-one k)) refl q in
+    rule-step o p s r (suc k + n) (k + n) more refl q
+    ∙ rules-off k n (r + 1) p s (λ z. e (ap made here ∙ z ∙ q))
+    ∙ sym here)
     (λ ne. rule-stop o p s r (suc k + n) (k + n) more refl ne ∙ sym (rule-stop o p s r (suc k) k (sym (add-one k)) refl ne))
 
 -- One rule alone gives what it gives.
@@ -88,9 +88,9 @@ module _ (o : State) (s : ℕ) where
 
 module _ (o : State) (s : ℕ) (e : isIdle (o .ledger) s ≡ true) where
   -- Neither an own initial vote nor a kept block.
-  bare : (noInitial (ownCell (o .ledger) s) ≡ true) × (none (rowAt (o .ledger) s .kept .number) ≡ true)
+  bare : (noInitial (ownCell (o .ledger) s) ≡ true) × (none (firstBlock (o .ledger) s .number) ≡ true)
   unfolding isIdle
-  bare = and-both (noInitial (ownCell (o .ledger) s)) (none (rowAt (o .ledger) s .kept .number)) e
+  bare = and-both (noInitial (ownCell (o .ledger) s)) (none (firstBlock (o .ledger) s .number)) e
 
   B-needs-block : ruleB o s ≡ o
   unfolding ruleB

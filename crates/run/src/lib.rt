@@ -13,7 +13,7 @@ use fallbacks::rule_d;
 use fallbacks::rule_e;
 use record::count;
 use record::final_block;
-use record::kept_block;
+use record::load_block;
 use record::load_cell;
 use record::own_cell;
 use rulebook::Node;
@@ -30,7 +30,7 @@ fn is_idle(rec: &[u64], s: Slot) -> bool
     requires { ⌜ OwnIn (now rec) (s .0) ⌝ }
     ensures { λ r. ⌜ r ≡ isIdle (ledgerOf (now (rec .entry))) (s .0) ⌝ }
 {
-    let b = kept_block(rec, s);
+    let b = load_block(rec, s, 0);
     no_initial(own_cell(rec, s)) & (b.number == 0)
 }
 

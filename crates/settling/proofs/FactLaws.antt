@@ -10,7 +10,7 @@ use Rattle.rulebook.specs.declared.Cell.{Cell}
 use Rattle.rulebook.specs.Tools.{given, allTo}
 use Rattle.rulebook.specs.Weights.{mostNodes, placesFor, mostStake, lastSlot, windows, stakeIn, stakesFit, totalTo}
 use Rattle.rulebook.specs.Ledger.{Ledger, Row, none, noCell, places, rowAt, cellAt}
-use Rattle.rulebook.specs.WellFormed.{flag, inOrder, cellFits, cellBlank, cellsFit, keptFits, rowFits, rowBlank, headFits, wellFormed}
+use Rattle.rulebook.specs.WellFormed.{flag, inOrder, cellFits, cellBlank, cellsFit, blocksFit, rowFits, rowBlank, headFits, wellFormed}
 use Rattle.rulebook.proofs.ToolLaws.{given-on, given-off, and-both, both-and, or-left, or-right, or-cases, by-test, true-not-false, all-at, all-each}
 use Rattle.rulebook.proofs.PlaceLaws.{nodes-placed}
 use Rattle.settling.specs.Facts.{CellFacts, RowFacts, HeadFacts, Formed}
@@ -66,10 +66,10 @@ pub row-facts : (l : Ledger) (s : ℕ) → rowFits l s ≡ true → RowFacts l s
 unfolding rowFits cellsFit
 row-facts l s e =
     let r : Row = rowAt l s in
-    let p = and-both (keptFits l s (r .kept)) _ e in
+    let p = and-both (blocksFit l s (r .blocks)) _ e in
     let q = and-both (flag (r .timedOut)) (cellsFit l s (l .count)) (p .1) in
     record {
-      kept = p .0;
+      blocks = p .0;
       timedOut = leb-true (r .timedOut) 1 (q .0);
       cells = λ n a b. sym (given-on (ltb n (l .count)) (cellBlank (cellAt l s n)) (λ _. cellFits (cellAt l s n)) (lt-ltb n (l .count) b)) ∙ all-at (places l) n (cellOk r (l .count)) (q .1) a;
       beyond = λ n a b. sym (given-off (ltb n (l .count)) (cellBlank (cellAt l s n)) (λ _. cellFits (cellAt l s n)) (le-ltb n (l .count) (omega arith))) ∙ all-at (places l) n (cellOk r (l .count)) (q .1) a;
@@ -79,7 +79,7 @@ pub facts-row : (l : Ledger) (s : ℕ) → RowFacts l s (rowAt l s) → rowFits 
 unfolding rowFits cellsFit
 facts-row l s f =
     let r : Row = rowAt l s in
-    both-and (keptFits l s (r .kept)) _ (f .kept)
+    both-and (blocksFit l s (r .blocks)) _ (f .blocks)
     (both-and (flag (r .timedOut)) (cellsFit l s (l .count)) (le-leb (r .timedOut) 1 (f .timedOut))
     (all-each (places l) (cellOk r (l .count)) (λ n a.
     by-test (ltb n (l .count))

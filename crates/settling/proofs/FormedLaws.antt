@@ -1,6 +1,7 @@
 -- Each writing keeps a ledger well-formed: a vote into a free place, a block that passed, a timeout, a final block, an armed window.
 use mathlib.Core.Path.{_≡_, refl, sym, ap, _∙_, subst}
 use mathlib.Core.Bool.{Bool, true, false, not, _&&_, _||_}
+use mathlib.Core.List.{List}
 use Prim.Native.Nat.{ℕ, _-_, _<_, _≤_}
 use native.Mathlib.Omega.{arith}
 use lib.ListN.{length, getD, set}
@@ -14,12 +15,13 @@ use Rattle.rulebook.specs.declared.VoteKind.the-variants as vote
 use Rattle.rulebook.specs.declared.Place.the-variants.{Free}
 use Rattle.rulebook.specs.Tools.{given, allTo}
 use Rattle.rulebook.specs.Weights.{lastSlot, windowOf}
-use Rattle.rulebook.specs.Ledger.{Ledger, Row, none, noCell, noInitial, places, rowAt, cellAt, putRow, putKept, putTimedOut, putFinal, putArmed}
+use Rattle.rulebook.specs.Ledger.{Ledger, Row, none, noCell, noInitial, places, rowAt, cellAt, blocksAt, allBlocks, isFree, fillBlock, putRow, putBlocks, putTimedOut, putFinal, putArmed}
 use Rattle.rulebook.specs.Pool.{hasFallback}
 use Rattle.rulebook.specs.Votes.{placeOf, withVote, fillFallback, storeVote}
 use Rattle.rulebook.specs.Inputs.{badParent}
-use Rattle.rulebook.specs.WellFormed.{Shaped, inOrder, cellFits, cellBlank, cellsFit, keptFits, rowBlank}
+use Rattle.rulebook.specs.WellFormed.{Shaped, inOrder, cellFits, cellBlank, cellsFit, keptFits, blocksApart, blocksFit, blockBlank, rowBlank}
 use Rattle.rulebook.proofs.ToolLaws.{given-on, and-both, both-and, or-left, or-right, or-cases, or-none, by-test, true-not-false}
+use Rattle.rulebook.proofs.BlockLaws.{all-mono, fill-all, fill-apart}
 use Rattle.settling.specs.Facts.{CellFacts, RowFacts, Formed}
 use Rattle.settling.specs.Steps.{BlockFine}
 use Rattle.settling.proofs.Places.{row-else, row-cases, cell-cases, window-low}
@@ -141,16 +143,22 @@ vote-fits c k b e f = facts-cell (withVote c k b) (vote-facts c k b e (cell-fact
 
 -- ---- a row
 
--- Whether a block may be kept depends on the ledger's genesis alone.
+-- Whether blocks may be kept depends on the ledger's genesis alone.
 pub kept-same : (l m : Ledger) (s : ℕ) (b : Block) → m .genesis ≡ l .genesis → keptFits m s b ≡ keptFits l s b
 unfolding keptFits badParent
 kept-same l m s b e = rw e
+
+pub blocks-same : (l m : Ledger) (s : ℕ) (bs : List Block) → m .genesis ≡ l .genesis → blocksFit l s bs ≡ true → blocksFit m s bs ≡ true
+unfolding blocksFit
+blocks-same l m s bs e f =
+    let p = and-both (allBlocks (keptFits l s) bs) (blocksApart bs) f in
+    both-and (allBlocks (keptFits m s) bs) (blocksApart bs) (all-mono (keptFits l s) (keptFits m s) bs (λ k q. kept-same l m s k e ∙ q) (p .0)) (p .1)
 
 -- So the facts of a row are the same in a ledger with the same genesis and count.
 pub row-same : (l m : Ledger) (s : ℕ) (r : Row) → m .genesis ≡ l .genesis → m .count ≡ l .count → places m ≡ places l → RowFacts l s r → RowFacts m s r
 row-same l m s r g n k f =
     record {
-      kept = kept-same l m s (r .kept) g ∙ f .kept;
+      blocks = blocks-same l m s (r .blocks) g (f .blocks);
       timedOut = f .timedOut;
       cells = λ i a b. f .cells i (omega arith) (omega arith);
       beyond = λ i a b. f .beyond i (omega arith) (omega arith);
@@ -159,7 +167,7 @@ row-same l m s r g n k f =
 -- The test of row 0, said of the row.
 abbrev blankOf : ℕ → Row → Bool
 blankOf p r =
-    (none (r .kept .number) && (none (r .kept .parentslot .0) && none (r .kept .parent)))
+    allBlocks blockBlank (r .blocks)
     && ((none (r .timedOut) && none (r .final))
     && allTo p (λ n. given (ltb n 0) (cellBlank (getD (r .cells) n noCell)) (λ _. cellFits (getD (r .cells) n noCell))))
 
@@ -203,9 +211,9 @@ module _ (l : Ledger) (h : Shaped (places l) l) (f : Formed l) where
         let g = f .rows s a b in
         let few = count-placed l (f .head) in
         let long : n < length (r .cells) = omega (arith, h .cells s (omega arith)) in
-        formed-row s (record { kept = r .kept; timedOut = r .timedOut; final = r .final; cells = set (r .cells) n c }) a b
+        formed-row s (record { blocks = r .blocks; timedOut = r .timedOut; final = r .final; cells = set (r .cells) n c }) a b
         (record {
-          kept = g .kept;
+          blocks = g .blocks;
           timedOut = g .timedOut;
           cells = λ i p q.
               cell-cases (λ _ y. cellFits y ≡ true) r n c i long
@@ -215,27 +223,27 @@ module _ (l : Ledger) (h : Shaped (places l) l) (f : Formed l) where
               (sym (getD-set-other (r .cells) n i c noCell (λ z. omega arith))) (g .beyond i p q);
         })
 
-    -- A block that passed.
-    pub formed-kept : (x : Block) → keptFits l s x ≡ true → Formed (putKept l s x)
-    formed-kept x e =
+    -- Blocks that may be kept.
+    pub formed-blocks : (xs : List Block) → blocksFit l s xs ≡ true → Formed (putBlocks l s xs)
+    formed-blocks xs e =
         let r : Row = rowAt l s in
         let g = f .rows s a b in
-        formed-row s (record { kept = x; timedOut = r .timedOut; final = r .final; cells = r .cells }) a b
-        (record { kept = e; timedOut = g .timedOut; cells = g .cells; beyond = g .beyond })
+        formed-row s (record { blocks = xs; timedOut = r .timedOut; final = r .final; cells = r .cells }) a b
+        (record { blocks = e; timedOut = g .timedOut; cells = g .cells; beyond = g .beyond })
 
     pub formed-timedOut : Formed (putTimedOut l s)
     formed-timedOut =
         let r : Row = rowAt l s in
         let g = f .rows s a b in
-        formed-row s (record { kept = r .kept; timedOut = 1; final = r .final; cells = r .cells }) a b
-        (record { kept = g .kept; timedOut = omega arith; cells = g .cells; beyond = g .beyond })
+        formed-row s (record { blocks = r .blocks; timedOut = 1; final = r .final; cells = r .cells }) a b
+        (record { blocks = g .blocks; timedOut = omega arith; cells = g .cells; beyond = g .beyond })
 
     pub formed-final : (x : ℕ) → Formed (putFinal l s x)
     formed-final x =
         let r : Row = rowAt l s in
         let g = f .rows s a b in
-        formed-row s (record { kept = r .kept; timedOut = r .timedOut; final = x; cells = r .cells }) a b
-        (record { kept = g .kept; timedOut = g .timedOut; cells = g .cells; beyond = g .beyond })
+        formed-row s (record { blocks = r .blocks; timedOut = r .timedOut; final = x; cells = r .cells }) a b
+        (record { blocks = g .blocks; timedOut = g .timedOut; cells = g .cells; beyond = g .beyond })
 
     pub formed-armed : Formed (putArmed l s)
     formed-armed =
@@ -264,8 +272,17 @@ module _ (l : Ledger) (h : Shaped (places l) l) (f : Formed l) where
         }
 
 -- An accepted block may be kept.
-pub fine-kept : (l : Ledger) (s : ℕ) (b : Block) → BlockFine l s b → keptFits l s b ≡ true
+fine-kept : (l : Ledger) (s : ℕ) (b : Block) → BlockFine l s b → keptFits l s b ≡ true
 unfolding keptFits
 fine-kept l s b f =
-    given-on (not (none (b .number))) (none (b .parentslot .0) && none (b .parent)) (λ _. not (none (b .parent)) && not (badParent l s b)) (ap not (f .number))
+    given-on (not (isFree b)) (none (b .parentslot .0) && none (b .parent)) (λ _. not (none (b .parent)) && not (badParent l s b)) (ap not (f .number))
     ∙ both-and (not (none (b .parent))) (not (badParent l s b)) (ap not (f .parent)) (ap not (f .ancestry))
+
+-- It is kept beside the others.
+pub fine-blocks : (l : Ledger) (s : ℕ) (b : Block) → BlockFine l s b → blocksFit l s (blocksAt l s) ≡ true → blocksFit l s (fillBlock b (blocksAt l s)) ≡ true
+unfolding blocksFit
+fine-blocks l s b f e =
+    let bs : List Block = blocksAt l s in
+    let p = and-both (allBlocks (keptFits l s) bs) (blocksApart bs) e in
+    both-and (allBlocks (keptFits l s) (fillBlock b bs)) (blocksApart (fillBlock b bs))
+    (fill-all (keptFits l s) b bs (fine-kept l s b f) (p .0)) (fill-apart b bs (f .number) (f .apart) (p .1))

@@ -13,16 +13,17 @@ use Rattle.rulebook.specs.declared.Refusal.the-variants as refusal
 use Rattle.rulebook.specs.declared.Verdict.{Verdict}
 use Rattle.rulebook.specs.declared.Verdict.the-variants.{Fine, Refused}
 use Rattle.rulebook.specs.Weights.{lastSlot}
-use Rattle.rulebook.specs.Ledger.{Ledger, Row, noInitial, places, rowAt, ownCell, putKept, putTimedOut}
+use Rattle.rulebook.specs.Ledger.{Ledger, Row, noInitial, places, rowAt, ownCell, blocksAt, fillBlock, putTimedOut}
 use Rattle.rulebook.specs.Votes.{storeVote}
 use Rattle.rulebook.specs.Rules.{State, stateOf, castSkips}
 use Rattle.rulebook.specs.Run.{mostRecords, made, run}
-use Rattle.rulebook.specs.Inputs.{Fed, verdict, timeOut, intake, fedWith, refusedWith, fedOn, feed}
+use Rattle.rulebook.specs.Inputs.{Fed, keepBlock, verdict, timeOut, intake, fedWith, refusedWith, fedOn, feed}
 use Rattle.rulebook.specs.WellFormed.{Shaped, wellFormed, outboxWords, step}
 use Rattle.rulebook.proofs.ToolLaws.{given-keeps}
+use Rattle.rulebook.proofs.BlockLaws.{fill-length}
 use Rattle.settling.specs.Steps.{Placed, SameNode, Came, Paid, VoteFine, Settled, after, life}
 use Rattle.settling.proofs.Places.{shaped-row}
-use Rattle.settling.proofs.SpareLaws.{spare-most, spare-other, spare-kept, spare-timedOut}
+use Rattle.settling.proofs.SpareLaws.{spare-most, spare-other, spare-blocks, spare-timedOut}
 use Rattle.settling.proofs.Spending.{same-node, stored-shaped, stored-same, skips-come, run-comes}
 use Rattle.settling.proofs.Settling.{run-settles}
 use Rattle.settling.proofs.Verdicts.{vote-fine, block-fine, timeout-fine}
@@ -69,15 +70,18 @@ module _ (l : Ledger) (h : Placed l) where
         same = same;
       }
 
-  pub kept-shaped : (s : ℕ) (b : Block) → s ≤ lastSlot → Shaped (places (putKept l s b)) (putKept l s b)
+  pub kept-shaped : (s : ℕ) (b : Block) → s ≤ lastSlot → Shaped (places (keepBlock l s b)) (keepBlock l s b)
+  unfolding keepBlock
   kept-shaped s b a =
       let r : Row = rowAt l s in
-      shaped-row l s (record { kept = b; timedOut = r .timedOut; final = r .final; cells = r .cells }) (h .shaped) a (h .shaped .cells s (omega arith))
+      shaped-row l s (record { blocks = fillBlock b (r .blocks); timedOut = r .timedOut; final = r .final; cells = r .cells }) (h .shaped) a
+      (fill-length b (r .blocks) ∙ h .shaped .blocks s (omega arith)) (h .shaped .cells s (omega arith))
 
-  pub block-paid : (s : ℕ) (b : Block) → 1 ≤ s → s ≤ lastSlot → Paid l (putKept l s b) 0
+  pub block-paid : (s : ℕ) (b : Block) → 1 ≤ s → s ≤ lastSlot → Paid l (keepBlock l s b) 0
+  unfolding keepBlock
   block-paid s b low high =
       record {
-        spent = omega (arith, spare-kept l s h low high b);
+        spent = omega (arith, spare-blocks l s h low high (fillBlock b (blocksAt l s)));
         placed = record { shaped = kept-shaped s b high; mine = h .mine };
         same = record { own = refl; count = refl; total = refl; genesis = refl; stakes = refl };
       }
@@ -85,7 +89,7 @@ module _ (l : Ledger) (h : Placed l) where
   pub timedOut-shaped : (s : ℕ) → s ≤ lastSlot → Shaped (places (putTimedOut l s)) (putTimedOut l s)
   timedOut-shaped s a =
       let r : Row = rowAt l s in
-      shaped-row l s (record { kept = r .kept; timedOut = 1; final = r .final; cells = r .cells }) (h .shaped) a (h .shaped .cells s (omega arith))
+      shaped-row l s (record { blocks = r .blocks; timedOut = 1; final = r .final; cells = r .cells }) (h .shaped) a (h .shaped .blocks s (omega arith)) (h .shaped .cells s (omega arith))
 
   pub timedOut-paid : (s : ℕ) → 1 ≤ s → s ≤ lastSlot → Paid l (putTimedOut l s) 0
   timedOut-paid s low high =

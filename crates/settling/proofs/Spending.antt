@@ -30,7 +30,7 @@ unfolding storeVote
 stored-shaped l s n k b h a =
     let r : Row = rowAt l s in
     let c : Cell = withVote (cellAt l s n) k b in
-    shaped-row l s (record { kept = r .kept; timedOut = r .timedOut; final = r .final; cells = set (r .cells) n c }) h a
+    shaped-row l s (record { blocks = r .blocks; timedOut = r .timedOut; final = r .final; cells = set (r .cells) n c }) h a (h .blocks s (omega arith))
     (length-set (r .cells) n c ∙ h .cells s (omega arith))
 
 pub stored-same : (l : Ledger) (s n : ℕ) (k : VoteKind) (b : ℕ) → SameNode l (storeVote l s n k b)
@@ -81,7 +81,7 @@ came-lawful o =
       tell = λ p s b low high e m c.
           let r : Row = rowAt (p .ledger) s in
           came-one o p (putFinal (p .ledger) s b) 6 s b c
-          (shaped-row (p .ledger) s (record { kept = r .kept; timedOut = r .timedOut; final = b; cells = r .cells }) (c .placed .shaped) high (c .placed .shaped .cells s (omega arith)))
+          (shaped-row (p .ledger) s (record { blocks = r .blocks; timedOut = r .timedOut; final = b; cells = r .cells }) (c .placed .shaped) high (c .placed .shaped .blocks s (omega arith)) (c .placed .shaped .cells s (omega arith)))
           (record { own = refl; count = refl; total = refl; genesis = refl; stakes = refl })
           (spare-final (p .ledger) s (c .placed) low high b e m);
     }

@@ -12,10 +12,10 @@ use Rattle.rulebook.specs.declared.Refusal.the-variants as refusal
 use Rattle.rulebook.specs.declared.Verdict.the-variants.{Fine}
 use Rattle.rulebook.specs.Tools.{given, allTo}
 use Rattle.rulebook.specs.Weights.{mostNodes, placesFor, mostStake, lastSlot, windows, stakeIn, stakesFit, totalTo}
-use Rattle.rulebook.specs.Ledger.{Ledger, Row, none, noCell, blankRow, noRow, places, rowAt, fresh}
+use Rattle.rulebook.specs.Ledger.{Ledger, Row, none, noCell, mostBlocks, blankRow, noRow, places, rowAt, allBlocks, fresh}
 use Rattle.rulebook.specs.Run.{mostRecords}
 use Rattle.rulebook.specs.Inputs.{startVerdict}
-use Rattle.rulebook.specs.WellFormed.{Shaped, inOrder, cellFits, cellBlank, cellsFit, keptFits, rowBlank}
+use Rattle.rulebook.specs.WellFormed.{Shaped, inOrder, cellFits, cellBlank, cellsFit, keptFits, blocksApart, blocksFit, blockBlank, rowBlank}
 use Rattle.rulebook.proofs.PlaceLaws.{nodes-placed}
 use Rattle.rulebook.proofs.ToolLaws.{given-off, and-both, or-none, all-at, all-each, sum-same}
 use Rattle.settling.specs.Facts.{RowFacts, Formed, Sound}
@@ -42,6 +42,10 @@ blank-long : (p : ℕ) → length (blankRow p .cells) ≡ p
 unfolding blankRow
 blank-long p = length-replicate p noCell
 
+blank-four : (p : ℕ) → length (blankRow p .blocks) ≡ mostBlocks
+unfolding blankRow
+blank-four p = refl
+
 no-cell-fits : cellFits noCell ≡ true
 unfolding cellFits inOrder
 no-cell-fits = refl
@@ -51,17 +55,17 @@ unfolding cellBlank
 no-cell-blank = refl
 
 blank-facts : (l : Ledger) (s p : ℕ) → RowFacts l s (blankRow p)
-unfolding blankRow keptFits given
+unfolding blankRow blocksFit allBlocks blocksApart keptFits given inOrder
 blank-facts l s p =
     record {
-      kept = refl;
+      blocks = refl;
       timedOut = omega arith;
       cells = λ n a b. ap cellFits (blank-cell p n) ∙ no-cell-fits;
       beyond = λ n a b. ap cellBlank (blank-cell p n) ∙ no-cell-blank;
     }
 
 row-zero : (l : Ledger) (p : ℕ) → rowAt l 0 ≡ blankRow p → rowBlank l ≡ true
-unfolding rowBlank cellsFit blankRow
+unfolding rowBlank cellsFit blankRow allBlocks blockBlank
 row-zero l p e =
     rw e
     (all-each (places l) (λ n. given (ltb n 0) (cellBlank (getD (blankRow p .cells) n noCell)) (λ _. cellFits (getD (blankRow p .cells) n noCell)))
@@ -132,6 +136,7 @@ module _ (stakes : List ℕ) (own genesis : ℕ) (e : startVerdict stakes own ge
         armed = length-replicate {A = ℕ} windows 0;
         stakes = refl;
         rows = length-replicate (suc lastSlot) (blankRow p);
+        blocks = λ s h. ap (λ (r : Row). length (r .blocks)) (getD-replicate (suc lastSlot) s (blankRow p) noRow h) ∙ blank-four p;
         cells = λ s h. ap (λ (r : Row). length (r .cells)) (getD-replicate (suc lastSlot) s (blankRow p) noRow h) ∙ blank-long p ∙ sym (fresh-formed .head .room);
       }
 

@@ -7,7 +7,7 @@ use lib.Dec.{eqb}
 use Rattle.rulebook.specs.declared.Cell.{Cell}
 use Rattle.rulebook.specs.Weights.{mostNodes, placesFor, mostStake, lastSlot, windows, stakeIn, totalTo}
 use Rattle.rulebook.specs.Ledger.{Ledger, Row, none, noCell, places, rowAt}
-use Rattle.rulebook.specs.WellFormed.{Shaped, inOrder, cellFits, cellBlank, keptFits, rowBlank, wellFormed}
+use Rattle.rulebook.specs.WellFormed.{Shaped, inOrder, cellFits, cellBlank, blocksFit, rowBlank, wellFormed}
 
 -- A cell in range.
 pub record CellFacts (c : Cell) : Type 0 where
@@ -21,7 +21,7 @@ pub record CellFacts (c : Cell) : Type 0 where
 
 -- A row in range, as row of slot s.
 pub record RowFacts (l : Ledger) (s : ℕ) (r : Row) : Type 0 where
-  pub kept : keptFits l s (r .kept) ≡ true
+  pub blocks : blocksFit l s (r .blocks) ≡ true
   pub timedOut : r .timedOut ≤ 1
   pub cells : (n : ℕ) → n < places l → n < l .count → cellFits (getD (r .cells) n noCell) ≡ true
   pub beyond : (n : ℕ) → n < places l → l .count ≤ n → cellBlank (getD (r .cells) n noCell) ≡ true

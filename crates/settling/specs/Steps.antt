@@ -9,7 +9,7 @@ use Rattle.rulebook.specs.declared.VoteKind.{VoteKind}
 use Rattle.rulebook.specs.declared.Place.the-variants.{Free}
 use Rattle.rulebook.specs.declared.Input.{Input}
 use Rattle.rulebook.specs.Weights.{lastSlot}
-use Rattle.rulebook.specs.Ledger.{Ledger, none, places, rowAt, cellAt, ownCell, isArmed, putArmed, putFinal}
+use Rattle.rulebook.specs.Ledger.{Ledger, none, places, rowAt, cellAt, ownCell, isArmed, blocksAt, someBlock, isFree, hasNumber, putArmed, putFinal}
 use Rattle.rulebook.specs.Votes.{placeOf}
 use Rattle.rulebook.specs.Rules.{Record, State, report, cast}
 use Rattle.rulebook.specs.Run.{made, ruleAt, runFor, run}
@@ -88,7 +88,8 @@ pub record BlockFine (l : Ledger) (s : ℕ) (b : Block) : Type 0 where
   pub number : none (b .number) ≡ false
   pub parent : none (b .parent) ≡ false
   pub ancestry : badParent l s b ≡ false
-  pub free : none (rowAt l s .kept .number) ≡ true
+  pub apart : someBlock (hasNumber (b .number)) (blocksAt l s) ≡ false
+  pub free : someBlock isFree (blocksAt l s) ≡ true
 
 pub record TimeoutFine (l : Ledger) (s : ℕ) : Type 0 where
   pub low : 1 ≤ s

@@ -12,7 +12,7 @@ use Rattle.rulebook.specs.declared.Cell.{Cell}
 use Rattle.rulebook.specs.declared.CertificateKind.the-variants as certificate
 use Rattle.rulebook.specs.Tools.{choose, given, part, sumTo, someTo, lower, lowest}
 use Rattle.rulebook.specs.Weights.{lastSlot, slotOk, weight, stakeIn}
-use Rattle.rulebook.specs.Ledger.{Ledger, Row, none, blankRow, noRow, noCell, places, rowAt, cellAt}
+use Rattle.rulebook.specs.Ledger.{Ledger, Row, none, blankRow, noRow, noCell, noBlock, mostBlocks, places, rowAt, cellAt, blocksAt}
 use Rattle.rulebook.specs.Pool.{named, namesTo, names}
 use Rattle.rulebook.specs.WellFormed.{cellBlank}
 use Rattle.rulebook.proofs.ToolLaws.{by-test, choose-on, choose-off, given-on, given-off, and-both, both-and, true-not-false, part-le, sum-none, sum-more, sum-le, sum-const, some-none, some-more}
@@ -81,6 +81,11 @@ blank-cell : (r : Row) (n : ℕ) → r ≡ noRow → getD (r .cells) n noCell �
 unfolding noRow blankRow
 blank-cell r n e = ap (λ (q : Row). getD (q .cells) n noCell) e
 
+-- It keeps no block in any place.
+blank-block : (r : Row) (n : ℕ) → r ≡ noRow → getD (r .blocks) n noBlock ≡ noBlock
+unfolding noRow blankRow
+blank-block r n e = ap (λ (x : Row). getD (x .blocks) n noBlock) e ∙ getD-same mostBlocks n noBlock
+
 none-row : (s : ℕ) → rowAt (noLedger 0) s ≡ noRow
 unfolding noLedger noRow
 none-row s = getD-same (suc lastSlot) s noRow
@@ -94,6 +99,9 @@ module _ (ws : List ℕ) (long : Bool) (e : long ≡ isLong ws) where
 
     pub short-row : (s : ℕ) → noRow ≡ rowAt (ledgerIn ws) s
     short-row s = sym (ap (λ (l : Ledger). rowAt l s) short-ledger ∙ none-row s)
+
+    pub short-block : (s n : ℕ) → noBlock ≡ getD (blocksAt (ledgerIn ws) s) n noBlock
+    short-block s n = sym (blank-block (rowAt (ledgerIn ws) s) n (sym (short-row s)))
 
     pub short-cell : (s n : ℕ) → noCell ≡ cellAt (ledgerIn ws) s n
     short-cell s n = sym (blank-cell (rowAt (ledgerIn ws) s) n (sym (short-row s)))
@@ -112,6 +120,14 @@ module _ (ws : List ℕ) (long : Bool) (e : long ≡ isLong ws) where
     past-row s h =
         sym (ap (λ (l : Ledger). rowAt l s) (sym (whole-ledger q))
         ∙ List·getD-eq-default (ledgerOf ws .rows) noRow (omega (arith, ledger-shaped ws .rows)))
+
+    pub past-blocks : (s n : ℕ) → lastSlot < s → noBlock ≡ getD (blocksAt (ledgerIn ws) s) n noBlock
+    past-blocks s n h = sym (blank-block (rowAt (ledgerIn ws) s) n (sym (past-row s h)))
+
+    pub past-place : (s n : ℕ) → s ≤ lastSlot → mostBlocks ≤ n → noBlock ≡ getD (blocksAt (ledgerIn ws) s) n noBlock
+    past-place s n h k =
+        sym (ap (λ (l : Ledger). getD (blocksAt l s) n noBlock) (sym (whole-ledger q))
+        ∙ List·getD-eq-default (blocksAt (ledgerOf ws) s) noBlock (omega (arith, ledger-shaped ws .blocks s (omega arith))))
 
     pub past-slot : (s n : ℕ) → lastSlot < s → noCell ≡ cellAt (ledgerIn ws) s n
     past-slot s n h = sym (blank-cell (rowAt (ledgerIn ws) s) n (sym (past-row s h)))

@@ -10,7 +10,7 @@ use Rattle.rulebook.specs.declared.CertificateKind.{CertificateKind}
 use Rattle.rulebook.specs.declared.CertificateKind.the-variants as certificate
 use Rattle.rulebook.specs.Tools.{choose, given, part, sumTo, someTo, lower, lowest}
 use Rattle.rulebook.specs.Weights.{mostNodes, mostStake, slotOk, weight}
-use Rattle.rulebook.specs.Ledger.{Ledger, none, places, rowAt, cellAt, isArmed}
+use Rattle.rulebook.specs.Ledger.{Ledger, none, places, rowAt, cellAt, isArmed, firstBlock}
 use Rattle.rulebook.specs.Pool.{weigh, weighs, held, missingTo, names}
 use Rattle.rulebook.specs.WellFormed.{cellBlank}
 use Rattle.record.specs.Layout.{isLong, ledgerOf}
@@ -156,8 +156,8 @@ pub record CountingAt (ws : List ℕ) (s n : ℕ) : Type 0 where
   pub weighing : Weighing ws s
   pub node : n ≤ places (ledgerOf ws)
 
--- Anything is kept of slot s: a block, a timeout, a final block, a vote.
+-- Anything is kept of slot s: a block (the first place is filled first), a timeout, a final block, a vote.
 unfoldable pub touched : Ledger → ℕ → Bool
 touched l s =
     let r = rowAt l s in
-    not (none (r .kept .number)) || ((not (none (r .timedOut)) || not (none (r .final))) || hasVotes l s)
+    not (none (firstBlock l s .number)) || ((not (none (r .timedOut)) || not (none (r .final))) || hasVotes l s)

@@ -2,9 +2,10 @@
 // as many as a record's show nothing, and only a sound record has weights and certificates.
 ghost use mathlib.Core.Path.{_≡_};
 ghost use mathlib.Core.Bool.{not};
+ghost use lib.ListN.{getD};
 ghost use lib.Dec.{ltb};
 ghost use Rattle.rulebook.specs.Tools.{part, lower, lowest};
-ghost use Rattle.rulebook.specs.Ledger.{none, rowAt, cellAt};
+ghost use Rattle.rulebook.specs.Ledger.{none, noBlock, rowAt, cellAt, blocksAt};
 ghost use Rattle.rulebook.specs.WellFormed.{cellBlank};
 ghost use Rattle.rulebook.specs.Pool.{names};
 ghost use Rattle.record.specs.Layout.{ledgerOf};
@@ -16,12 +17,13 @@ use kinds::slot_ok;
 use pool::counted_before;
 use pool::weigh;
 use record::LAST_SLOT;
+use record::MOST_BLOCKS;
 use record::count;
 use record::final_block;
 use record::genesis;
 use record::is_armed;
 use record::is_long;
-use record::kept_block;
+use record::load_block;
 use record::load_cell;
 use record::own;
 use record::places_in;
@@ -124,9 +126,9 @@ pub fn cell_of(rec: &[u64], s: Slot, n: Node) -> Cell
     load_cell(rec, s, n)
 }
 
-// The block kept in a slot, with its parent.
-pub fn kept_of(rec: &[u64], s: Slot) -> Block
-    ensures { λ r. ⌜ r ≡ rowAt (ledgerIn (now (rec .entry))) (s .0) .kept ⌝ }
+// The block kept in place n of a slot, with its parent.
+pub fn kept_of(rec: &[u64], s: Slot, n: usize) -> Block
+    ensures { λ r. ⌜ r ≡ getD (blocksAt (ledgerIn (now (rec .entry))) (s .0)) n noBlock ⌝ }
 {
     let none = Block {
         number: 0,
@@ -139,7 +141,10 @@ pub fn kept_of(rec: &[u64], s: Slot) -> Block
     if s.0 > LAST_SLOT {
         return none;
     }
-    kept_block(rec, s)
+    if n >= MOST_BLOCKS {
+        return none;
+    }
+    load_block(rec, s, n)
 }
 
 // The block reported final in a slot, 0 where there is none.
@@ -525,7 +530,7 @@ fn has_votes(rec: &[u64], s: Slot) -> bool
 pub fn touched(rec: &[u64], s: Slot) -> bool
     ensures { λ r. ⌜ r ≡ touched (ledgerIn (now (rec .entry))) (s .0) ⌝ }
 {
-    let b = kept_of(rec, s);
+    let b = kept_of(rec, s, 0);
     let marked = timed_out_in(rec, s) | (final_of(rec, s) != 0);
     let voted = has_votes(rec, s);
     (b.number != 0) | (marked | voted)

@@ -4,14 +4,15 @@ use mathlib.Core.Bool.{Bool, true, false, _&&_}
 use mathlib.Core.List.{List}
 use Prim.Native.Nat.{ℕ, suc, _+_, _<_, _≤_}
 use native.Mathlib.Omega.{arith}
-use lib.ListN.{length, take, List·getD-eq-default}
+use lib.ListN.{length, getD, take, List·getD-eq-default}
 use lib.Seq.{getD-take, length-take-le}
 use lib.Dec.{eqb, leb}
 use borrow.Author.Tests.{leb-true}
 use Rattle.rulebook.specs.Tools.{allTo, sumTo}
 use Rattle.rulebook.specs.Weights.{mostNodes, mostStake, lastSlot, stakeIn, totalTo, stakesFit}
-use Rattle.rulebook.specs.Ledger.{Ledger, places}
-use Rattle.rulebook.specs.WellFormed.{rowFits, rowBlank, headFits, wellFormed}
+use Rattle.rulebook.specs.declared.Block.{Block}
+use Rattle.rulebook.specs.Ledger.{Ledger, noBlock, mostBlocks, places, blocksAt, allBlocks}
+use Rattle.rulebook.specs.WellFormed.{keptFits, blocksFit, rowFits, rowBlank, headFits, wellFormed}
 use Rattle.rulebook.proofs.ToolLaws.{given-on, given-off, and-both, by-test, all-at, all-more, all-same, sum-same, sum-term}
 use Rattle.stakes.specs.declared.StakeTable.{StakeTable}
 use Rattle.stakes.specs.declared.Made.{Made}
@@ -21,8 +22,10 @@ use Rattle.settling.specs.Facts.{HeadFacts, Sound}
 use Rattle.settling.proofs.FactLaws.{formed, count-placed}
 use Rattle.record.specs.Layout.{isLong, Long, ledgerOf, Counted}
 use Rattle.record.specs.Tabled.{Tabled}
+use Rattle.record.specs.BlockPlaces.{behind}
 use Rattle.record.proofs.Places.{long-true}
 use Rattle.record.proofs.Reading.{ledger-shaped}
+use Rattle.record.proofs.BlockPlaces.{all-places, both-places}
 use Rattle.soundness.specs.Sound.{soundWords}
 
 -- ---- a loop that joins tests
@@ -32,6 +35,21 @@ all-step n f ok here a b = (λ i. a i && b i) ∙ sym (all-more n f)
 
 pub all-done : (n m : ℕ) (f : ℕ → Bool) (ok : Bool) → ok ≡ allTo n f → n ≡ m → ok ≡ allTo m f
 all-done n m f ok a e = a ∙ ap (λ (k : ℕ). allTo k f) e
+
+-- Such a loop over all of a slot's places for blocks.
+module _ (ws : List ℕ) (s : ℕ) (h : s < suc lastSlot) (n : ℕ) (ok : Bool) (four : n ≡ mostBlocks) where
+  all-joined : (f : ℕ → Bool) → ok ≡ allTo n f → ok ≡ allTo (length (blocksAt (ledgerOf ws) s)) f
+  all-joined f e = all-done n (length (blocksAt (ledgerOf ws) s)) f ok e (four ∙ sym (ledger-shaped ws .blocks s h))
+
+  pub blocks-joined : (p : Block → Bool) → ok ≡ allTo n (λ i. p (getD (blocksAt (ledgerOf ws) s) i noBlock)) → ok ≡ allBlocks p (blocksAt (ledgerOf ws) s)
+  blocks-joined p e = all-joined (λ i. p (getD (blocksAt (ledgerOf ws) s) i noBlock)) e ∙ sym (all-places p (blocksAt (ledgerOf ws) s))
+
+  pub blocks-judged : ok ≡ allTo n (λ i. keptFits (ledgerOf ws) s (getD (blocksAt (ledgerOf ws) s) i noBlock) && behind (blocksAt (ledgerOf ws) s) i (getD (blocksAt (ledgerOf ws) s) i noBlock .number))
+      → ok ≡ blocksFit (ledgerOf ws) s (blocksAt (ledgerOf ws) s)
+  unfolding blocksFit
+  blocks-judged e =
+      all-joined (λ i. keptFits (ledgerOf ws) s (getD (blocksAt (ledgerOf ws) s) i noBlock) && behind (blocksAt (ledgerOf ws) s) i (getD (blocksAt (ledgerOf ws) s) i noBlock .number)) e
+      ∙ sym (both-places (keptFits (ledgerOf ws) s) (blocksAt (ledgerOf ws) s))
 
 -- ---- the stakes in front of the others
 

@@ -6,13 +6,15 @@ ghost use lib.ListN.{length, getD};
 ghost use lib.Dec.{eqb, ltb};
 ghost use Rattle.rulebook.specs.Tools.{given, allTo};
 ghost use Rattle.rulebook.specs.Weights.{lastSlot, windows, stakeIn, stakesFit, totalTo};
-ghost use Rattle.rulebook.specs.Ledger.{none, places, fresh};
+ghost use Rattle.rulebook.specs.Ledger.{none, places, blocksAt, allBlocks, fresh};
 ghost use Rattle.rulebook.specs.Inputs.{badParent};
-ghost use Rattle.rulebook.specs.WellFormed.{flag, inOrder, cellFits, cellBlank, cellsFit, keptFits, rowFits, rowBlank, headFits};
-ghost use Rattle.record.specs.Layout.{Long, InSlot, ledgerOf};
+ghost use Rattle.rulebook.specs.WellFormed.{flag, inOrder, cellFits, cellBlank, cellsFit, keptFits, blocksFit, rowFits, blockBlank, rowBlank, headFits};
+ghost use Rattle.record.specs.Layout.{Long, InSlot, InBlocks, ledgerOf};
+ghost use Rattle.record.specs.BlockPlaces.{behind};
 ghost use Rattle.soundness.specs.Sound.{soundWords};
 ghost use Rattle.soundness.specs.Starting.{SetUp, StartOf};
 use record::LAST_SLOT;
+use record::MOST_BLOCKS;
 use record::WINDOWS;
 use record::armed_word;
 use record::clear;
@@ -20,7 +22,7 @@ use record::count;
 use record::final_block;
 use record::genesis;
 use record::is_long;
-use record::kept_block;
+use record::load_block;
 use record::load_cell;
 use record::own;
 use record::places_for;
@@ -41,7 +43,7 @@ use rulebook::StartAnswer;
 use rulebook::Weight;
 use stakes::make_table;
 
-// Two fallback places: the later is filled only after the earlier, and not with the same block.
+// Two places for blocks: the later is filled only after the earlier, and not with the same number.
 fn in_order(x: u64, y: u64) -> bool
     ensures { λ r. ⌜ r ≡ inOrder x y ⌝ }
 {
@@ -101,7 +103,7 @@ pub fn bad_parent(rec: &[u64], s: Slot, b: Block) -> bool
     (s.0 <= p.0) | ((p.0 == 0) & (b.parent != first))
 }
 
-// A kept block has a parent that 5 and 11 let pass; where none is kept all is 0.
+// A kept block has a parent that 5 and 11 let pass; where none is kept its parent is 0 too.
 fn kept_fits(rec: &[u64], s: Slot, b: Block) -> bool
     requires { ⌜ Long (now rec) ⌝ }
     ensures { λ r. ⌜ r ≡ keptFits (ledgerOf (now (rec .entry))) (s .0) b ⌝ }
@@ -115,15 +117,65 @@ fn kept_fits(rec: &[u64], s: Slot, b: Block) -> bool
     }
 }
 
+// Whether a number may stand in place n of a slot: each place before it keeps a block, of another number.
+fn is_behind(rec: &[u64], s: Slot, n: usize, number: u64) -> bool
+    requires { ⌜ InBlocks (now rec) (s .0) n ⌝ }
+    ensures { λ r. ⌜ r ≡ behind (blocksAt (ledgerOf (now (rec .entry))) (s .0)) n number ⌝ }
+{
+    let mut ok = true;
+    for j in 0..n {
+        let k = load_block(rec, s, j);
+        let here = in_order(k.number, number);
+        ok = ok & here;
+    }
+    ok
+}
+
+// The kept blocks of a slot: parents that fit, places filled from the front, no number twice.
+fn blocks_fit(rec: &[u64], s: Slot) -> bool
+    requires { ⌜ InSlot (now rec) (s .0) ⌝ }
+    ensures { λ r. ⌜ r ≡ blocksFit (ledgerOf (now (rec .entry))) (s .0) (blocksAt (ledgerOf (now (rec .entry))) (s .0)) ⌝ }
+{
+    let mut ok = true;
+    for n in 0..MOST_BLOCKS {
+        let b = load_block(rec, s, n);
+        let kept = kept_fits(rec, s, b);
+        let apart = is_behind(rec, s, n, b.number);
+        ok = ok & (kept & apart);
+    }
+    ok
+}
+
 // The row of one of the slots 1 to 16.
 fn row_fits(rec: &[u64], s: Slot) -> bool
     requires { ⌜ InSlot (now rec) (s .0) ⌝ }
     ensures { λ r. ⌜ r ≡ rowFits (ledgerOf (now (rec .entry))) (s .0) ⌝ }
 {
-    let kept = kept_fits(rec, s, kept_block(rec, s));
+    let kept = blocks_fit(rec, s);
     let marked = timeout_word(rec, s) <= 1;
     let cells = cells_fit(rec, s, count(rec));
     kept & (marked & cells)
+}
+
+// A place with nothing in it.
+fn block_blank(b: Block) -> bool
+    ensures { λ r. ⌜ r ≡ blockBlank b ⌝ }
+{
+    let p = b.parentslot;
+    (b.number == 0) & ((p.0 == 0) & (b.parent == 0))
+}
+
+// No place of a slot has a block in it.
+fn blocks_blank(rec: &[u64], s: Slot) -> bool
+    requires { ⌜ InSlot (now rec) (s .0) ⌝ }
+    ensures { λ r. ⌜ r ≡ allBlocks blockBlank (blocksAt (ledgerOf (now (rec .entry))) (s .0)) ⌝ }
+{
+    let mut ok = true;
+    for n in 0..MOST_BLOCKS {
+        let here = block_blank(load_block(rec, s, n));
+        ok = ok & here;
+    }
+    ok
 }
 
 // Row 0 is unused.
@@ -131,9 +183,7 @@ fn row_blank(rec: &[u64]) -> bool
     requires { ⌜ Long (now rec) ⌝ }
     ensures { λ r. ⌜ r ≡ rowBlank (ledgerOf (now (rec .entry))) ⌝ }
 {
-    let b = kept_block(rec, Slot(0));
-    let p = b.parentslot;
-    let kept = (b.number == 0) & ((p.0 == 0) & (b.parent == 0));
+    let kept = blocks_blank(rec, Slot(0));
     let marks = (timeout_word(rec, Slot(0)) == 0) & (final_block(rec, Slot(0)) == 0);
     let cells = cells_fit(rec, Slot(0), 0);
     kept & (marks & cells)

@@ -13,7 +13,7 @@ use Rattle.rulebook.specs.declared.VoteKind.the-variants as vote
 use Rattle.rulebook.specs.declared.CertificateKind.the-variants as certificate
 use Rattle.rulebook.specs.Tools.{given, lowest}
 use Rattle.rulebook.specs.Weights.{isFirst, firstOf, lastSlot}
-use Rattle.rulebook.specs.Ledger.{none, noInitial, rowAt, ownCell, isArmed}
+use Rattle.rulebook.specs.Ledger.{none, noInitial, rowAt, ownCell, firstBlock, isArmed}
 use Rattle.rulebook.specs.Pool.{held, names, someReady}
 use Rattle.rulebook.specs.Rules.{Record, State, stateOf, cast, castSkip, castSkips, ruleA, ruleB, ruleC, ruleD, ruleE, ruleF, parentFits, mayFinal, mayFallback, fallbackBlock, castFallback, windowOpen, maySkipFallback, skipWeights, castSkipFallback, isFinal}
 use Rattle.rulebook.specs.Run.{ruleAt, made, quiet, firstRule, firstSlot, scan, runFor, run}
@@ -54,7 +54,7 @@ module _ (rs : List Record) where
     B-behind : (o : State) → ruleB (behind o) s ≡ behind (ruleB o s)
     unfolding ruleB cast
     B-behind o =
-        let k : Block = rowAt (o .ledger) s .kept in
+        let k : Block = firstBlock (o .ledger) s in
         given-behind (noInitial (ownCell (o .ledger) s) && not (none (k .number))) o (behind o) _ _ refl
         (given-behind (parentFits (o .ledger) s (isFirst s) k) o (behind o) _ _ refl refl)
 

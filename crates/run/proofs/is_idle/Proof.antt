@@ -8,8 +8,8 @@ use Rattle.run.specs.Idle.{isIdle}
 use Rattle.run.proofs.is_idle.Statement.{statement}
 use Rattle.run.proofs.is_idle.Tie as tie
 
-kept-block-requires : tie.Need-kept-block-requires
-kept-block-requires c κs = search needs
+load-block-requires : tie.Need-load-block-requires
+load-block-requires c κs = search needs
 
 own-cell-requires : tie.Need-own-cell-requires
 own-cell-requires c κs = search needs
@@ -21,8 +21,8 @@ returns : tie.Need-returns
 unfolding isIdle
 returns c =
     let initial = c .before .no-initial .ensures ∙ ap (λ (x : Cell). noInitial x) (c .before .before .own-cell .ensures) in
-    λ i. initial i && none (c .before .before .before .kept-block .ensures i .number)
+    λ i. initial i && none (c .before .before .before .load-block .ensures i .number)
 
 pub is-idle-spec : {M : Type 1} → statement M
 is-idle-spec =
-    tie.close (tie.spec kept-block-requires own-cell-requires no-initial-requires returns)
+    tie.close (tie.spec load-block-requires own-cell-requires no-initial-requires returns)

@@ -1,10 +1,11 @@
--- Words of another length, a slot past the last, and the block.
+-- Words of another length, a slot or a place past the last, and the block.
 use mathlib.Core.Path.{_∙_, ap}
 use Prim.Native.Nat.{_-_}
 use native.Mathlib.Omega.{arith}
+use lib.ListN.{getD}
 use borrow.Author.Needs.{needs}
-use Rattle.rulebook.specs.Ledger.{Ledger, Row, blankRow, noRow, rowAt}
-use Rattle.shown.proofs.Laws.{short-row, past-row, whole-ledger, whole-long}
+use Rattle.rulebook.specs.Ledger.{Ledger, noBlock, blocksAt}
+use Rattle.shown.proofs.Laws.{short-block, past-blocks, past-place, whole-ledger, whole-long}
 use Rattle.shown.proofs.kept_of.Statement.{statement}
 use Rattle.shown.proofs.kept_of.Tie as tie
 
@@ -12,23 +13,29 @@ is-long-requires : tie.Need-is-long-requires
 is-long-requires c κs = search needs
 
 returns : tie.Need-returns
-unfolding noRow blankRow
 returns c =
-    ap (λ (r : Row). r .kept) (short-row (c .before .before .before .args .rec .now) _ (c .before .is-long .ensures) (c .if1 .taken) (c .before .before .before .args .s .0))
+    let a = c .before .before .before .args in
+    short-block (a .rec .now) _ (c .before .is-long .ensures) (c .if1 .taken) (a .s .0) (a .n)
 
 returns-2 : tie.Need-returns-2
-unfolding noRow blankRow
 returns-2 c =
-    ap (λ (r : Row). r .kept) (past-row (c .before .before .before .before .before .args .rec .now) _ (c .before .before .before .is-long .ensures) (c .before .before .if1 .left) (c .before .before .before .before .before .args .s .0) (omega arith))
-
-kept-block-requires : tie.Need-kept-block-requires
-kept-block-requires c κs =
-    record { long = whole-long _ _ (c .before .before .before .is-long .ensures) (c .before .before .if1 .left); slot = omega arith }
+    let a = c .before .before .before .before .before .args in
+    past-blocks (a .rec .now) _ (c .before .before .before .is-long .ensures) (c .before .before .if1 .left) (a .s .0) (a .n) (omega arith)
 
 returns-3 : tie.Need-returns-3
 returns-3 c =
-    c .kept-block .ensures ∙ ap (λ (l : Ledger). rowAt l (c .before .before .before .before .before .before .args .s .0) .kept) (whole-ledger (c .before .before .before .before .before .before .args .rec .now) _ (c .before .before .before .before .is-long .ensures) (c .before .before .before .if1 .left))
+    let a = c .before .before .before .before .before .before .args in
+    past-place (a .rec .now) _ (c .before .before .before .before .is-long .ensures) (c .before .before .before .if1 .left) (a .s .0) (a .n) (omega arith) (omega arith)
+
+load-block-requires : tie.Need-load-block-requires
+load-block-requires c κs =
+    record { long = whole-long _ _ (c .before .before .before .before .is-long .ensures) (c .before .before .before .if1 .left); slot = omega arith; place = omega arith }
+
+returns-4 : tie.Need-returns-4
+returns-4 c =
+    let a = c .before .before .before .before .before .before .before .args in
+    c .load-block .ensures ∙ ap (λ (l : Ledger). getD (blocksAt l (a .s .0)) (a .n) noBlock) (whole-ledger (a .rec .now) _ (c .before .before .before .before .before .is-long .ensures) (c .before .before .before .before .if1 .left))
 
 pub kept-of-spec : {M : Type 1} → statement M
 kept-of-spec =
-    tie.close (tie.spec is-long-requires returns returns-2 kept-block-requires returns-3)
+    tie.close (tie.spec is-long-requires returns returns-2 returns-3 load-block-requires returns-4)

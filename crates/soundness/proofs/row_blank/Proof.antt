@@ -4,32 +4,32 @@ use Rattle.rulebook.specs.WellFormed.{rowBlank}
 use Rattle.soundness.proofs.row_blank.Statement.{statement}
 use Rattle.soundness.proofs.row_blank.Tie as tie
 
-kept-block-requires : tie.Need-kept-block-requires
-kept-block-requires c κs =
+blocks-blank-requires : tie.Need-blocks-blank-requires
+blocks-blank-requires c κs =
     record { long = c .before .pre; slot = omega arith }
 
 timeout-word-requires : tie.Need-timeout-word-requires
 timeout-word-requires c κs =
-    record { long = c .before .before .before .before .before .before .pre; slot = omega arith }
+    record { long = c .before .before .pre; slot = omega arith }
 
 final-block-requires : tie.Need-final-block-requires
 final-block-requires c κs =
-    record { long = c .before .before .before .before .before .before .before .pre; slot = omega arith }
+    record { long = c .before .before .before .pre; slot = omega arith }
 
 cells-fit-requires : tie.Need-cells-fit-requires
 cells-fit-requires c κs =
-    record { long = c .before .before .before .before .before .before .before .before .pre; slot = omega arith }
+    record { long = c .before .before .before .before .pre; slot = omega arith }
 
 returns : tie.Need-returns
 unfolding rowBlank
 returns c =
-    simp (c .cells-fit .ensures, c .before .final-block .ensures, c .before .before .timeout-word .ensures, c .before .before .before .before .before .before .before .kept-block .ensures)
+    simp (c .cells-fit .ensures, c .before .final-block .ensures, c .before .before .timeout-word .ensures, c .before .before .before .blocks-blank .ensures)
 
 pub row-blank-spec : {M : Type 1} → statement M
 row-blank-spec =
     tie.close
     (tie.spec
-    kept-block-requires
+    blocks-blank-requires
     timeout-word-requires
     final-block-requires
     cells-fit-requires

@@ -1,0 +1,109 @@
+-- What comes beside the votes: nothing, or a block in the first free place of its slot.
+use mathlib.Core.Path.{_≡_, refl, sym, subst}
+use mathlib.Core.Bool.{Bool, true, false, not, _&&_, _||_}
+use mathlib.Core.List.{List, [], _∷_}
+use mathlib.Core.Logic.{_⊎_, inl, inr, ⊎-elim}
+use Prim.Native.Nat.{ℕ, suc, _<_}
+use native.Mathlib.Decide.{ℕ-discrete}
+use lib.Dec.{T, eqb, eqb→eq, T-not}
+use Rattle.rulebook.specs.declared.Block.{Block}
+use Rattle.rulebook.specs.declared.Input.{Input}
+use Rattle.rulebook.specs.Tools.{choose}
+use Rattle.rulebook.specs.Weights.{lastSlot}
+use Rattle.rulebook.specs.Ledger.{Ledger, Row, none, rowAt, someBlock, isFree, hasNumber, fillBlock, isBlock, keepsBlock, putRow}
+use Rattle.rulebook.specs.Rules.{Record, State, stateOf}
+use Rattle.rulebook.specs.WellFormed.{Shaped}
+use Rattle.safety.specs.Ballots.{announces}
+use Rattle.safety.specs.Moves.{SameRest, Onward}
+use Rattle.safety.proofs.Tests.{and-T, or-T, T-left, T-right}
+use Rattle.safety.proofs.Growing.{rest-blocks, rest-blocks-back}
+use Rattle.safety.proofs.Stores.{row-part, row-here, row-there}
+
+-- ---- nothing
+
+-- The rows stay but for their cells and marks.
+pub rest-onward : (i : Input) (o : State) (l : Ledger) (rs : List Record) → ((s : ℕ) → SameRest (rowAt (o .ledger) s) (rowAt l s)) → Onward i o (stateOf l rs)
+rest-onward i o l rs rest =
+    record { blocks = rest-blocks (o .ledger) l rest; newBlocks = λ s b q x t. inl (rest-blocks-back (o .ledger) l rest s b q x t) }
+
+-- Another row with the same blocks.
+pub row-rest : {most : ℕ} (l : Ledger) (s : ℕ) (r : Row) → s < suc lastSlot → Shaped most l → SameRest (rowAt l s) r → (s′ : ℕ) → SameRest (rowAt l s′) (rowAt (putRow l s r) s′)
+row-rest l s r h sh e s′ = record { blocks = row-part (λ r. r .blocks) l s r h sh (e .blocks) s′ }
+
+-- ---- a block in the first free place
+
+module _ (b q x : ℕ) (k : Block) where
+  abbrev isIt : Block → Bool
+  isIt = isBlock b q x
+
+  -- What was kept stays.
+  fill-up : (bs : List Block) → T (someBlock isIt bs) → T (someBlock isIt (fillBlock k bs))
+  unfolding fillBlock choose someBlock isBlock
+  fill-up [] t = absurd t
+  fill-up (c ∷ cs) t = go (isFree c) refl (fill-up cs)
+    where
+      go : (z : Bool) → isFree c ≡ z → (T (someBlock isIt cs) → T (someBlock isIt (fillBlock k cs))) → T (someBlock isIt (choose z (k ∷ cs) (c ∷ fillBlock k cs)))
+      go true e ih =
+          or-T (isIt c) (someBlock isIt cs) t
+          (λ u. absurd (T-not (isFree c) (and-T (not (isFree c)) _ u .0) (rw e tt)))
+          (λ u. T-right (isIt k) (someBlock isIt cs) u)
+      go false e ih =
+          or-T (isIt c) (someBlock isIt cs) t
+          (λ u. T-left (isIt c) (someBlock isIt (fillBlock k cs)) u)
+          (λ u. T-right (isIt c) (someBlock isIt (fillBlock k cs)) (ih u))
+
+  -- What is kept was kept, or is the new one.
+  fill-down : (bs : List Block) → T (someBlock isIt (fillBlock k bs)) → (T (someBlock isIt bs)) ⊎ (T (isIt k))
+  unfolding fillBlock choose someBlock
+  fill-down [] t = absurd t
+  fill-down (c ∷ cs) t = go (isFree c) t (fill-down cs)
+    where
+      go : (z : Bool) → T (someBlock isIt (choose z (k ∷ cs) (c ∷ fillBlock k cs))) → (T (someBlock isIt (fillBlock k cs)) → (T (someBlock isIt cs)) ⊎ (T (isIt k)))
+          → (T (isIt c || someBlock isIt cs)) ⊎ (T (isIt k))
+      go true u ih =
+          or-T (isIt k) (someBlock isIt cs) u (λ w. inr w) (λ w. inl (T-right (isIt c) (someBlock isIt cs) w))
+      go false u ih =
+          or-T (isIt c) (someBlock isIt (fillBlock k cs)) u
+          (λ w. inl (T-left (isIt c) (someBlock isIt cs) w))
+          (λ w. ⊎-elim (λ y. inl (T-right (isIt c) (someBlock isIt cs) y)) (λ y. inr y) (ih w))
+
+-- A block that the tests let pass has a parent in a lower slot, with a number.
+pub record Announced (s : ℕ) (b : Block) : Type 0 where
+  pub slot : s < suc lastSlot
+  pub parent : T (not (none (b .parent)))
+  pub lower : b .parentslot .0 < s
+
+is-parts : (b q x : ℕ) (k : Block) → T (isBlock b q x k) → (q ≡ k .parentslot .0) × (x ≡ k .parent)
+unfolding isBlock
+is-parts b q x k t =
+    let a = and-T (not (isFree k)) (hasNumber b k && (eqb (k .parentslot .0) q && eqb (k .parent) x)) t in
+    let c = and-T (hasNumber b k) (eqb (k .parentslot .0) q && eqb (k .parent) x) (a .1) in
+    let d = and-T (eqb (k .parentslot .0) q) (eqb (k .parent) x) (c .1) in
+    (sym (eqb→eq (k .parentslot .0) q (d .0)), sym (eqb→eq (k .parent) x (d .1)))
+
+-- Row s takes the block that the input announces.
+module _ {most : ℕ} (i : Input) (l : Ledger) (s : ℕ) (k : Block) (a : Announced s k) (sh : Shaped most l) (say : (b q x : ℕ) → T (isBlock b q x k) → T (announces i s b q x)) where
+  -- It is announced with a parent that has a number in a lower slot.
+  new-block : (s′ b q x : ℕ) → s′ ≡ s → T (isBlock b q x k) → (q < s′) × T (not (none x)) × T (announces i s′ b q x)
+  new-block s′ b q x e t =
+      let p = is-parts b q x k t in
+      subst (λ (j : ℕ). (q < j) × T (not (none x)) × T (announces i j b q x)) (sym e) (rw (p .0) (a .lower), rw (p .1) (a .parent), say b q x t)
+
+  pub block-onward : (r : Row) → r .blocks ≡ fillBlock k (rowAt l s .blocks) → Onward i (stateOf l []) (stateOf (putRow l s r) [])
+  unfolding keepsBlock
+  block-onward r f =
+      let here = row-here l s r (a .slot) sh in
+      record {
+        blocks = λ s′ b q x t. elim (ℕ-discrete s′ s) [
+          | yes e ↦ subst (λ (j : ℕ). T (keepsBlock (putRow l s r) j b q x)) (sym e)
+              (subst (λ (z : Row). T (someBlock (isBlock b q x) (z .blocks))) (sym here)
+              (subst (λ (z : List Block). T (someBlock (isBlock b q x) z)) (sym f) (fill-up b q x k (rowAt l s .blocks) (subst (λ (j : ℕ). T (keepsBlock l j b q x)) e t))))
+          | no ne ↦ subst (λ (z : Row). T (someBlock (isBlock b q x) (z .blocks))) (sym (row-there l s r s′ ne)) t
+        ];
+        newBlocks = λ s′ b q x t. elim (ℕ-discrete s′ s) [
+          | yes e ↦ ⊎-elim (λ u. inl (subst (λ (j : ℕ). T (keepsBlock l j b q x)) (sym e) u)) (λ u. inr (new-block s′ b q x e u))
+              (fill-down b q x k (rowAt l s .blocks) (subst (λ (z : List Block). T (someBlock (isBlock b q x) z)) f
+              (subst (λ (z : Row). T (someBlock (isBlock b q x) (z .blocks))) here (subst (λ (j : ℕ). T (keepsBlock (putRow l s r) j b q x)) e t))))
+          | no ne ↦ inl (subst (λ (z : Row). T (someBlock (isBlock b q x) (z .blocks))) (row-there l s r s′ ne) t)
+        ];
+      }

@@ -1,0 +1,105 @@
+-- What stands behind votes and final blocks stays as a ledger grows.
+use mathlib.Core.Bool.{_||_}
+use Prim.Native.Nat.{ℕ, zero, suc}
+use lib.Dec.{T}
+use Rattle.rulebook.specs.declared.CertificateKind.{CertificateKind}
+use Rattle.rulebook.specs.Weights.{weight, reaches}
+use Rattle.rulebook.specs.Ledger.{Ledger, rowAt, cellAt, keepsBlock}
+use Rattle.rulebook.specs.Pool.{fifthsOf}
+use Rattle.safety.specs.Slot.{Ballot, notar, notarFallback, skip, skipFallback, final}
+use Rattle.safety.specs.Ballots.{has}
+use Rattle.safety.specs.Ring.{ballotA, ballotB}
+use Rattle.safety.specs.Grounds.{Held, byVotes, BackedAt, Grounds}
+use Rattle.safety.specs.Moves.{SameTable, SameRest}
+use Rattle.safety.proofs.Tests.{or-T, T-left, T-right}
+use Rattle.safety.proofs.Weighing.{reaches-more, weight-mono}
+use Rattle.safety.proofs.Cells.{Kept, kept-same, kept-trans, kept-has}
+
+-- All that was there stays: cells, kept blocks only grow.
+pub record Grow (l m : Ledger) : Type 0 where
+  pub cells : (s n : ℕ) → Kept (cellAt l s n) (cellAt m s n)
+  pub blocks : (s b p x : ℕ) → T (keepsBlock l s b p x) → T (keepsBlock m s b p x)
+
+pub grow-same : (l : Ledger) → Grow l l
+grow-same l = record { cells = λ s n. kept-same (cellAt l s n); blocks = λ s b p x t. t }
+
+pub grow-trans : (k l m : Ledger) → Grow k l → Grow l m → Grow k m
+grow-trans k l m f g =
+    record {
+      cells = λ s n. kept-trans (cellAt k s n) (cellAt l s n) (cellAt m s n) (f .cells s n) (g .cells s n);
+      blocks = λ s b p x t. g .blocks s b p x (f .blocks s b p x t);
+    }
+
+-- A row that stays but for its cells keeps the same blocks.
+module _ (l m : Ledger) (rest : (s : ℕ) → SameRest (rowAt l s) (rowAt m s)) where
+  pub rest-blocks : (s b p x : ℕ) → T (keepsBlock l s b p x) → T (keepsBlock m s b p x)
+  unfolding keepsBlock
+  rest-blocks s b p x t = rw (rest s .blocks) t
+
+  pub rest-blocks-back : (s b p x : ℕ) → T (keepsBlock m s b p x) → T (keepsBlock l s b p x)
+  unfolding keepsBlock
+  rest-blocks-back s b p x t = rw (rest s .blocks) at t
+
+module _ (l m : Ledger) (table : SameTable l m) (grow : Grow l m) where
+  pub weight-grow : (k s : ℕ) (p : Ballot) (q : Ballot)
+      → T (reaches k (l .total) (weight (l .stakes) (l .count) (λ n. has (cellAt l s n) p || has (cellAt l s n) q)))
+      → T (reaches k (m .total) (weight (m .stakes) (m .count) (λ n. has (cellAt m s n) p || has (cellAt m s n) q)))
+  weight-grow k s p q t =
+      rw (table .total, table .stakes, table .count)
+      (reaches-more k (l .total) (weight (l .stakes) (l .count) (λ n. has (cellAt l s n) p || has (cellAt l s n) q)) (weight (l .stakes) (l .count) (λ n. has (cellAt m s n) p || has (cellAt m s n) q))
+      (weight-mono (l .stakes) (l .count) (λ n. has (cellAt l s n) p || has (cellAt l s n) q) (λ n. has (cellAt m s n) p || has (cellAt m s n) q)
+      (λ n u. or-T (has (cellAt l s n) p) (has (cellAt l s n) q) u
+      (λ w. T-left (has (cellAt m s n) p) (has (cellAt m s n) q) (kept-has (cellAt l s n) (cellAt m s n) p (grow .cells s n) w))
+      (λ w. T-right (has (cellAt m s n) p) (has (cellAt m s n) q) (kept-has (cellAt l s n) (cellAt m s n) q (grow .cells s n) w))))
+      t)
+
+  pub seen-grow : (k s : ℕ) (p : Ballot) → T (reaches k (l .total) (weight (l .stakes) (l .count) (λ n. has (cellAt l s n) p)))
+      → T (reaches k (m .total) (weight (m .stakes) (m .count) (λ n. has (cellAt m s n) p)))
+  seen-grow k s p t =
+      rw (table .total, table .stakes, table .count)
+      (reaches-more k (l .total) (weight (l .stakes) (l .count) (λ n. has (cellAt l s n) p)) (weight (l .stakes) (l .count) (λ n. has (cellAt m s n) p))
+      (weight-mono (l .stakes) (l .count) (λ n. has (cellAt l s n) p) (λ n. has (cellAt m s n) p)
+      (λ n u. kept-has (cellAt l s n) (cellAt m s n) p (grow .cells s n) u))
+      t)
+
+  pub held-grow : (k : CertificateKind) (s b : ℕ) → Held l k s b → Held m k s b
+  held-grow k s b (byVotes t) = byVotes (weight-grow (fifthsOf k) s (ballotA k b) (ballotB k b) t)
+
+  backed-grow : (p x : ℕ) → BackedAt l p x → BackedAt m p x
+  backed-grow zero x e = rw (table .genesis) e
+  backed-grow (suc p) x h = held-grow _ (suc p) x h
+
+  pub grounds-grow : (me s : ℕ) (v : Ballot) → Grounds me l s v → Grounds me m s v
+  grounds-grow me s (notar b) g =
+      record {
+        first = λ t. let f = g .first t in
+            record {
+              slot = f .slot;
+              parent = f .parent;
+              kept = grow .blocks s b (f .slot) (f .parent) (f .kept);
+              backed = backed-grow (f .slot) (f .parent) (f .backed);
+              between = λ u x y. held-grow _ u 0 (f .between u x y);
+            };
+        next = λ t. let f = g .next t in
+            record {
+              slot = f .slot;
+              parent = f .parent;
+              kept = grow .blocks s b (f .slot) (f .parent) (f .kept);
+              before = f .before;
+              voted = kept-has (cellAt l (f .slot) me) (cellAt m (f .slot) me) (notar (f .parent)) (grow .cells (f .slot) me) (f .voted);
+            };
+      }
+  grounds-grow me s (notarFallback b) g =
+      record {
+        seen = seen-grow 1 s (notar b) (g .seen);
+        next = λ t. let f = g .next t in
+            record {
+              slot = f .slot;
+              parent = f .parent;
+              kept = grow .blocks s b (f .slot) (f .parent) (f .kept);
+              backed = held-grow _ (f .slot) (f .parent) (f .backed);
+            };
+      }
+  grounds-grow me s skip g = tt
+  grounds-grow me s skipFallback g = tt
+  grounds-grow me s final g = tt

@@ -1,0 +1,69 @@
+-- What stands behind a node's own votes besides their guards in the slot: certificates held, kept blocks with their parents. All of it
+-- only grows truer, so that the node's end tells what held when it voted.
+use mathlib.Core.Path.{_≡_}
+use mathlib.Core.Bool.{Bool, not, _||_}
+use Prim.Native.Nat.{ℕ, zero, suc, _<_}
+use lib.Dec.{T}
+use Rattle.rulebook.specs.declared.Cell.{Cell}
+use Rattle.rulebook.specs.declared.CertificateKind.{CertificateKind}
+use Rattle.rulebook.specs.declared.CertificateKind.the-variants as certificate
+use Rattle.rulebook.specs.Weights.{weight, reaches, isFirst}
+use Rattle.rulebook.specs.Ledger.{Ledger, cellAt, keepsBlock}
+use Rattle.rulebook.specs.Pool.{fifthsOf}
+use Rattle.safety.specs.Slot.{Ballot, notar, notarFallback, skip, skipFallback, final}
+use Rattle.safety.specs.Ballots.{has}
+use Rattle.safety.specs.Ring.{ballotA, ballotB}
+
+-- The cell has a ballot that counts for a certificate of kind k for block b.
+abbrev pub signs : CertificateKind → ℕ → Cell → Bool
+signs k b c = has c (ballotA k b) || has c (ballotB k b)
+
+-- A certificate is held: reached by stored votes.
+pub data Held (l : Ledger) (k : CertificateKind) (s b : ℕ) : Type 0 where
+  byVotes : T (reaches (fifthsOf k) (l .total) (weight (l .stakes) (l .count) (λ n. signs k b (cellAt l s n)))) → Held l k s b
+
+-- Genesis, or a block that holds kind 3.
+abbrev pub BackedAt : Ledger → ℕ → ℕ → Type 0
+BackedAt l zero x = x ≡ l .genesis
+BackedAt l (suc p) x = Held l certificate.NotarFallback (suc p) x
+
+-- Rule B in a first slot: the kept block's parent is ready.
+pub record ReadyParent (l : Ledger) (s b : ℕ) : Type 0 where
+  pub slot : ℕ
+  pub parent : ℕ
+  pub kept : T (keepsBlock l s b slot parent)
+  pub backed : BackedAt l slot parent
+  pub between : (t : ℕ) → slot < t → t < s → Held l certificate.Skip t 0
+
+-- Rule B elsewhere: the own initial vote in the slot before is for the kept block's parent.
+pub record VotedParent (me : ℕ) (l : Ledger) (s b : ℕ) : Type 0 where
+  pub slot : ℕ
+  pub parent : ℕ
+  pub kept : T (keepsBlock l s b slot parent)
+  pub before : suc slot ≡ s
+  pub voted : T (has (cellAt l slot me) (notar parent))
+
+-- Rule D outside first slots: the block is kept, and its parent holds kind 3.
+pub record HeldParent (l : Ledger) (s b : ℕ) : Type 0 where
+  pub slot : ℕ
+  pub parent : ℕ
+  pub kept : T (keepsBlock l s b slot parent)
+  pub backed : Held l certificate.NotarFallback slot parent
+
+-- Rule B: what stands behind a notar vote.
+pub record NotarGrounds (me : ℕ) (l : Ledger) (s b : ℕ) : Type 0 where
+  pub first : T (isFirst s) → ReadyParent l s b
+  pub next : T (not (isFirst s)) → VotedParent me l s b
+
+-- Rule D: what stands behind a notar-fallback vote; a fifth of notar votes for the block in any case.
+pub record FallbackGrounds (l : Ledger) (s b : ℕ) : Type 0 where
+  pub seen : T (reaches 1 (l .total) (weight (l .stakes) (l .count) (λ n. has (cellAt l s n) (notar b))))
+  pub next : T (not (isFirst s)) → HeldParent l s b
+
+-- Behind each ballot.
+abbrev pub Grounds : ℕ → Ledger → ℕ → Ballot → Type 0
+Grounds me l s (notar b) = NotarGrounds me l s b
+Grounds me l s (notarFallback b) = FallbackGrounds l s b
+Grounds me l s skip = Unit {0}
+Grounds me l s skipFallback = Unit {0}
+Grounds me l s final = Unit {0}
