@@ -4,3 +4,4 @@ pub mod Singly
 pub mod Demand
 pub mod Meeting
 pub mod Honest
+pub mod Grounded

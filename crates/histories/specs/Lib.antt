@@ -2,3 +2,4 @@
 pub mod Calls
 pub mod Ring
 pub mod Singly
+pub mod Grounded
