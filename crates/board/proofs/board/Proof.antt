@@ -17,11 +17,8 @@ abbrev μ-loop : tie.MeasureT-loop
 sound-requires : tie.Need-sound-requires Inv-loop μ-loop
 sound-requires c κs = search needs
 
-slice-aggregate-alone : tie.Need-slice-aggregate-alone Inv-loop μ-loop
-slice-aggregate-alone c = search needs
-
-alone-requires : tie.Need-alone-requires Inv-loop μ-loop
-alone-requires c κs = search needs
+number-requires : tie.Need-number-requires Inv-loop μ-loop
+number-requires c κs = search needs
 
 same-length : tie.Need-same-length Inv-loop μ-loop
 same-length c = search needs
@@ -63,8 +60,7 @@ board-spec =
     Inv-loop
     μ-loop
     sound-requires
-    slice-aggregate-alone
-    alone-requires
+    number-requires
     same-length
     returns
     head-line-requires

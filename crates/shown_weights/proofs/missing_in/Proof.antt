@@ -1,0 +1,50 @@
+-- The record is sound, so its votes can be weighed.
+use mathlib.Core.Path.{_∙_, sym}
+use Prim.Native.Nat.{_-_}
+use borrow.Author.Tests.{not-true, not-false}
+use borrow.Author.Needs.{needs}
+use Rattle.rulebook.specs.Pool.{missingTo}
+use Rattle.rulebook.specs.Weights.{slotOk}
+use Rattle.record.specs.Layout.{ledgerOf}
+use Rattle.soundness.specs.Sound.{soundWords}
+use Rattle.writers.proofs.Laid.{weighing}
+use Rattle.shown_weights.specs.Weights.{missingShown}
+use Rattle.shown.proofs.Laws.{first-off, second-off, both-on, slot-small}
+use Rattle.shown_weights.proofs.missing_in.Statement.{statement}
+use Rattle.shown_weights.proofs.missing_in.Tie as tie
+
+slot-ok-requires : tie.Need-slot-ok-requires
+slot-ok-requires c κs = search needs
+
+returns : tie.Need-returns
+unfolding missingShown
+returns c =
+    first-off (slotOk (c .before .before .before .args .s .0)) (soundWords (c .before .before .before .args .rec .now)) 0 (λ _. missingTo (ledgerOf (c .before .before .before .args .rec .now)) (c .before .before .before .args .kind) (c .before .before .before .args .s .0) (c .before .before .before .args .b)) (sym (c .before .slot-ok .ensures) ∙ not-true _ (c .if1 .taken))
+
+sound-requires : tie.Need-sound-requires
+sound-requires c κs = search needs
+
+returns-2 : tie.Need-returns-2
+unfolding missingShown
+returns-2 c =
+    second-off (slotOk (c .before .before .before .before .before .args .s .0)) (soundWords (c .before .before .before .before .before .args .rec .now)) 0 (λ _. missingTo (ledgerOf (c .before .before .before .before .before .args .rec .now)) (c .before .before .before .before .before .args .kind) (c .before .before .before .before .before .args .s .0) (c .before .before .before .before .before .args .b)) (sym (c .before .sound .ensures) ∙ not-true _ (c .if2 .taken))
+
+missing-to-requires : tie.Need-missing-to-requires
+missing-to-requires c κs =
+    weighing _ _ (sym (c .before .sound .ensures) ∙ not-false _ (c .if2 .left)) (slot-small _ (sym (c .before .before .before .slot-ok .ensures) ∙ not-false _ (c .before .before .if1 .left)))
+
+returns-3 : tie.Need-returns-3
+unfolding missingShown
+returns-3 c =
+    c .missing-to .ensures ∙ both-on (slotOk (c .before .before .before .before .before .before .args .s .0)) (soundWords (c .before .before .before .before .before .before .args .rec .now)) 0 (λ _. missingTo (ledgerOf (c .before .before .before .before .before .before .args .rec .now)) (c .before .before .before .before .before .before .args .kind) (c .before .before .before .before .before .before .args .s .0) (c .before .before .before .before .before .before .args .b)) (sym (c .before .before .before .before .slot-ok .ensures) ∙ not-false _ (c .before .before .before .if1 .left)) (sym (c .before .before .sound .ensures) ∙ not-false _ (c .before .if2 .left))
+
+pub missing-in-spec : {M : Type 1} → statement M
+missing-in-spec =
+    tie.close
+    (tie.spec
+    slot-ok-requires
+    returns
+    sound-requires
+    returns-2
+    missing-to-requires
+    returns-3)
