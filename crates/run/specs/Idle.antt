@@ -1,16 +1,32 @@
 -- Slots in which rules have nothing to do, as far as a look tells that weighs nothing.
 use mathlib.Core.Bool.{Bool, not, _&&_, _||_}
-use Prim.Native.Nat.{ℕ}
+use Prim.Native.Nat.{ℕ, _-_}
+use lib.Dec.{eqb}
+use Rattle.rulebook.specs.declared.Cell.{Cell}
 use Rattle.rulebook.specs.declared.Who.the-variants as who
+use Rattle.rulebook.specs.Tools.{someTo}
 use Rattle.rulebook.specs.Weights.{isFirst}
-use Rattle.rulebook.specs.Ledger.{Ledger, none, rowAt, firstBlock, ownCell, noInitial, isArmed}
-use Rattle.pool.specs.Weighing.{countedBefore}
+use Rattle.rulebook.specs.Ledger.{Ledger, none, rowAt, firstBlock, cellAt, ownCell, noInitial, isArmed}
+use Rattle.rulebook.specs.Pool.{counts}
+
+-- What is kept of some node in slot s passes the test.
+unfoldable pub someNode : Ledger → ℕ → (Cell → Bool) → Bool
+someNode l s f = someTo (l .count) (λ n. f (cellAt l s n))
+
+-- A vote that helps to make a parent ready: every vote but a final.
+unfoldable pub supports : Cell → Bool
+supports c =
+    (not (none (c .notar)) || not (none (c .skip)))
+    || ((not (none (c .fallback1)) || not (none (c .fallback2))) || (not (none (c .fallback3)) || not (none (c .skipfallback))))
+
+-- A has a window to arm; and it is slot 1, whose parent is genesis, or there is such a vote in the slot before.
+unfoldable pub seeksParent : Ledger → ℕ → Bool
+seeksParent l s = (isFirst s && not (isArmed l s)) && (eqb s 1 || someNode l (s - 1) supports)
 
 -- No own initial vote, which C, D and E ask for, and no kept block, which B asks for.
 unfoldable pub isIdle : Ledger → ℕ → Bool
 isIdle l s = noInitial (ownCell l s) && none (firstBlock l s .number)
 
--- No window for A to arm; idle; and for F a final block already told, or no notar vote.
+-- Nothing for A, idle, and for F a final block already told of, or no notar vote.
 unfoldable pub isDormant : Ledger → ℕ → Bool
-isDormant l s =
-    not (isFirst s && not (isArmed l s)) && (isIdle l s && (not (none (rowAt l s .final)) || not (countedBefore l s (l .count) who.AnyNotar)))
+isDormant l s = not (seeksParent l s) && (isIdle l s && (not (none (rowAt l s .final)) || not (someNode l s (counts who.AnyNotar))))

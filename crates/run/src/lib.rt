@@ -1,23 +1,28 @@
-// The first of the rules A to F that applies, and settling: again from slot 1 until none applies.
+// The first of the rules A to F that applies, and settling: again from slot 1 until none applies. A slot in which a look
+// that weighs nothing shows that no rule applies is passed over.
 ghost use mathlib.Core.Path.{_≡_};
 ghost use Rattle.rulebook.specs.declared.Who.the-variants as who;
+ghost use Rattle.rulebook.specs.Pool.{counts};
 ghost use Rattle.rulebook.specs.Run.{firstRule, scan, run};
 ghost use Rattle.record.specs.Layout.{OwnIn, ledgerOf};
+ghost use Rattle.pool.specs.Weighing.{Weighing};
+ghost use Rattle.candidates.specs.Judging.{Judging};
 ghost use Rattle.voter.specs.Outbox.{stateIn};
 ghost use Rattle.voter.specs.Voting.{Onward};
 ghost use Rattle.fallbacks.specs.UnderWay.{UnderWay, UnderWayAt};
-ghost use Rattle.pool.specs.Weighing.{countedBefore};
-ghost use Rattle.candidates.specs.Judging.{Judging};
-ghost use Rattle.run.specs.Idle.{isIdle, isDormant};
+ghost use Rattle.run.specs.Idle.{someNode, supports, seeksParent, isIdle, isDormant};
 use fallbacks::rule_d;
 use fallbacks::rule_e;
+use pool::counts;
 use record::count;
 use record::final_block;
 use record::load_block;
 use record::load_cell;
 use record::own_cell;
+use rulebook::Cell;
 use rulebook::Node;
 use rulebook::Slot;
+use rulebook::Who;
 use rules::may_arm;
 use rules::rule_a;
 use rules::rule_b;
@@ -36,17 +41,55 @@ fn is_idle(rec: &[u64], s: Slot) -> bool
 
 // Whether a node has a notar vote in a slot.
 fn has_notar(rec: &[u64], s: Slot) -> bool
-    requires { ⌜ Judging (now rec) (s .0) ⌝ }
-    ensures { λ r. ⌜ r ≡ countedBefore (ledgerOf (now (rec .entry))) (s .0) (ledgerOf (now (rec .entry)) .count) who.AnyNotar ⌝ }
+    requires { ⌜ Weighing (now rec) (s .0) ⌝ }
+    ensures { λ r. ⌜ r ≡ someNode (ledgerOf (now (rec .entry))) (s .0) (counts who.AnyNotar) ⌝ }
 {
     let nodes = count(rec);
     for n in 0..nodes {
         let c = load_cell(rec, s, Node(n));
-        if c.notar != 0 {
+        if counts(Who::AnyNotar, c) {
             return true;
         }
     }
     false
+}
+
+// Whether a cell has a vote that helps to make a parent ready: every vote but a final.
+fn supports(c: Cell) -> bool
+    ensures { λ r. ⌜ r ≡ supports c ⌝ }
+{
+    let initial = (c.notar != 0) | (c.skip != 0);
+    initial
+        | (((c.fallback1 != 0) | (c.fallback2 != 0)) | ((c.fallback3 != 0) | (c.skipfallback != 0)))
+}
+
+// Whether a node has such a vote in a slot.
+fn has_support(rec: &[u64], s: Slot) -> bool
+    requires { ⌜ Weighing (now rec) (s .0) ⌝ }
+    ensures { λ r. ⌜ r ≡ someNode (ledgerOf (now (rec .entry))) (s .0) supports ⌝ }
+{
+    let nodes = count(rec);
+    for n in 0..nodes {
+        let c = load_cell(rec, s, Node(n));
+        if supports(c) {
+            return true;
+        }
+    }
+    false
+}
+
+// Whether rule A has a window to arm and may find a parent: genesis in slot 1, else support in the slot before.
+fn seeks_parent(rec: &[u64], s: Slot) -> bool
+    requires { ⌜ Judging (now rec) (s .0) ⌝ }
+    ensures { λ r. ⌜ r ≡ seeksParent (ledgerOf (now (rec .entry))) (s .0) ⌝ }
+{
+    if !may_arm(rec, s) {
+        return false;
+    }
+    if s.0 == 1 {
+        return true;
+    }
+    has_support(rec, Slot(s.0 - 1))
 }
 
 // Whether a look that weighs nothing shows that no rule applies in a slot.
@@ -54,7 +97,7 @@ fn is_dormant(rec: &[u64], s: Slot) -> bool
     requires { ⌜ Judging (now rec) (s .0) ⌝ }
     ensures { λ r. ⌜ r ≡ isDormant (ledgerOf (now (rec .entry))) (s .0) ⌝ }
 {
-    if may_arm(rec, s) | !is_idle(rec, s) {
+    if seeks_parent(rec, s) | !is_idle(rec, s) {
         return false;
     }
     if final_block(rec, s) != 0 {

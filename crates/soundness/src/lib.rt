@@ -131,11 +131,16 @@ fn is_behind(rec: &[u64], s: Slot, n: usize, number: u64) -> bool
     ok
 }
 
-// The kept blocks of a slot: parents that fit, places filled from the front, no number twice.
+// The kept blocks of a slot: parents that fit, places filled from the front, no number twice. Where the first place is empty,
+// so are all.
 fn blocks_fit(rec: &[u64], s: Slot) -> bool
     requires { ⌜ InSlot (now rec) (s .0) ⌝ }
     ensures { λ r. ⌜ r ≡ blocksFit (ledgerOf (now (rec .entry))) (s .0) (blocksAt (ledgerOf (now (rec .entry))) (s .0)) ⌝ }
 {
+    let first = load_block(rec, s, 0);
+    if first.number == 0 {
+        return blocks_blank(rec, s);
+    }
     let mut ok = true;
     for n in 0..MOST_BLOCKS {
         let b = load_block(rec, s, n);

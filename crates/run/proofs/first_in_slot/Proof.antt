@@ -18,7 +18,7 @@ same-length c = search needs
 returns : tie.Need-returns
 returns c =
     let p = c .before .before .before .before .before .pre in let s : ℕ = c .before .before .before .before .before .args .s .0 in
-    onward-none (p .live .live) (sym (dormant-quiet _ s (p .table .some) (sym (c .before .is-dormant .ensures) ∙ c .if1 .taken)))
+    onward-none (p .live .live) (sym (dormant-quiet _ s (p .live .low) (p .table .some) (sym (c .before .is-dormant .ensures) ∙ c .if1 .taken)))
 
 rule-a-requires : tie.Need-rule-a-requires
 rule-a-requires c κs = search needs

@@ -6,8 +6,8 @@ use Rattle.run.proofs.DormantLaws.{look-awake, look-told, look-votes}
 use Rattle.run.proofs.is_dormant.Statement.{statement}
 use Rattle.run.proofs.is_dormant.Tie as tie
 
-may-arm-requires : tie.Need-may-arm-requires
-may-arm-requires c κs = search needs
+seeks-parent-requires : tie.Need-seeks-parent-requires
+seeks-parent-requires c κs = search needs
 
 is-idle-requires : tie.Need-is-idle-requires
 is-idle-requires c κs = search needs
@@ -15,7 +15,7 @@ is-idle-requires c κs = search needs
 returns : tie.Need-returns
 returns c =
     let l = ledgerOf (c .before .before .before .before .args .rec .now) in let s : ℕ = c .before .before .before .before .args .s .0 in
-    look-awake l s (c .before .before .may-arm .result) (c .before .is-idle .result) (c .before .before .may-arm .ensures) (c .before .is-idle .ensures) (c .if1 .taken)
+    look-awake l s (c .before .before .seeks-parent .result) (c .before .is-idle .result) (c .before .before .seeks-parent .ensures) (c .before .is-idle .ensures) (c .if1 .taken)
 
 final-block-requires : tie.Need-final-block-requires
 final-block-requires c κs = search needs
@@ -23,7 +23,7 @@ final-block-requires c κs = search needs
 returns-2 : tie.Need-returns-2
 returns-2 c =
     let l = ledgerOf (c .before .before .before .before .before .before .args .rec .now) in let s : ℕ = c .before .before .before .before .before .before .args .s .0 in
-    look-told l s (c .before .before .before .before .may-arm .result) (c .before .before .before .is-idle .result) (c .before .before .before .before .may-arm .ensures) (c .before .before .before .is-idle .ensures) (c .before .before .if1 .left) (c .before .final-block .result) (c .before .final-block .ensures) (c .if2 .taken)
+    look-told l s (c .before .before .before .before .seeks-parent .result) (c .before .before .before .is-idle .result) (c .before .before .before .before .seeks-parent .ensures) (c .before .before .before .is-idle .ensures) (c .before .before .if1 .left) (c .before .final-block .result) (c .before .final-block .ensures) (c .if2 .taken)
 
 has-notar-requires : tie.Need-has-notar-requires
 has-notar-requires c κs = search needs
@@ -31,16 +31,8 @@ has-notar-requires c κs = search needs
 returns-3 : tie.Need-returns-3
 returns-3 c =
     let l = ledgerOf (c .before .before .before .before .before .before .before .args .rec .now) in let s : ℕ = c .before .before .before .before .before .before .before .args .s .0 in
-    look-votes l s (c .before .before .before .before .before .may-arm .result) (c .before .before .before .before .is-idle .result) (c .before .before .before .before .before .may-arm .ensures) (c .before .before .before .before .is-idle .ensures) (c .before .before .before .if1 .left) (c .before .before .final-block .result) (c .before .before .final-block .ensures) (c .before .if2 .left) (c .has-notar .result) (c .has-notar .ensures)
+    look-votes l s (c .before .before .before .before .before .seeks-parent .result) (c .before .before .before .before .is-idle .result) (c .before .before .before .before .before .seeks-parent .ensures) (c .before .before .before .before .is-idle .ensures) (c .before .before .before .if1 .left) (c .before .before .final-block .result) (c .before .before .final-block .ensures) (c .before .if2 .left) (c .has-notar .result) (c .has-notar .ensures)
 
 pub is-dormant-spec : {M : Type 1} → statement M
 is-dormant-spec =
-    tie.close
-    (tie.spec
-    may-arm-requires
-    is-idle-requires
-    returns
-    final-block-requires
-    returns-2
-    has-notar-requires
-    returns-3)
+    tie.close (tie.spec seeks-parent-requires is-idle-requires returns final-block-requires returns-2 has-notar-requires returns-3)
