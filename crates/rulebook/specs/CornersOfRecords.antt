@@ -12,7 +12,7 @@ use Rattle.rulebook.specs.Tools.{choose}
 use Rattle.rulebook.specs.Weights.{lastSlot, windows}
 use Rattle.rulebook.specs.Ledger.{Ledger, none, noBlock, blankRow, rowAt, putRow, putCell, putBlocks, putTimedOut, putFinal}
 use Rattle.rulebook.specs.WellFormed.{blocksFit, wellFormed, step}
-use Rattle.rulebook.specs.Scripts.{vote, cell, ring, equal, all}
+use Rattle.rulebook.specs.Scripts.{vote, look, cell, ring, equal, all}
 use Rattle.rulebook.specs.Computes.{rules}
 
 abbrev blockOf : ℕ → ℕ → ℕ → Block
@@ -31,10 +31,11 @@ abbrev withBlock : Ledger → ℕ → Block → Ledger
 withBlock l s b = withBlocks l s b noBlock noBlock noBlock
 
 -- Two nodes of stakes 6 and 4. In range though odd: own votes and a timeout without an armed window, a final vote beside fallbacks, a
--- fallback for the block of the notar vote, a final mark without certificates; the last slot is used too.
+-- fallback for the block of the notar vote, another node's fallbacks for blocks without weight, a final mark without certificates; the
+-- last slot is used too.
 abbrev odd : Ledger
 odd =
-    let kept = withBlock (ring (6 ∷ 4 ∷ []) (cell 7 0 7 6 5 1 1 ∷ cell 0 1 5 0 0 0 0 ∷ [])) 1 (blockOf 7 0 1) in
+    let kept = withBlock (ring (6 ∷ 4 ∷ []) (cell 7 0 7 0 0 1 1 ∷ cell 0 1 5 6 7 1 1 ∷ [])) 1 (blockOf 7 0 1) in
     putCell (putFinal (putTimedOut (withBlocks kept 16 (blockOf 7 15 3) (blockOf 6 15 3) (blockOf 9 0 1) (blockOf 8 1 7)) 9) 16 1) 16 1
     (cell 0 0 8 9 0 1 0)
 
@@ -49,6 +50,35 @@ cells =
     all (not (fits (cell 7 1 0 0 0 0 0)) ∷ not (fits (cell 0 2 0 0 0 0 0)) ∷ not (fits (cell 0 0 0 0 0 2 0)) ∷ not (fits (cell 0 0 0 0 0 0 2))
     ∷ not (fits (cell 0 0 0 6 0 0 0)) ∷ not (fits (cell 0 0 0 0 6 0 0)) ∷ not (fits (cell 0 0 5 0 6 0 0))
     ∷ not (fits (cell 0 0 5 5 0 0 0)) ∷ not (fits (cell 0 0 5 6 6 0 0)) ∷ not (fits (cell 0 0 5 6 5 0 0)) ∷ not (withCell 16 1 (cell 0 2 0 0 0 0 0)) ∷ [])
+
+-- The own fallbacks of the own cell c, of five nodes of one fifth each: node 1 has skip, nodes 2 to 4 have notar for 21, 22 and 23.
+abbrev fifths : Cell → Ledger
+fifths c = ring (1 ∷ 1 ∷ 1 ∷ 1 ∷ 1 ∷ []) (c ∷ cell 0 1 0 0 0 0 0 ∷ cell 21 0 0 0 0 0 0 ∷ cell 22 0 0 0 0 0 0 ∷ cell 23 0 0 0 0 0 0 ∷ [])
+
+-- The record of another own number.
+abbrev withOwn : Ledger → ℕ → Ledger
+withOwn l n =
+    record { count = l .count; total = l .total; own = n; genesis = l .genesis; armed = l .armed; stakes = l .stakes; rows = l .rows }
+
+-- "a node record with an own notar-fallback whose block does not reach rule D's weights by the stored votes is now 17": in each of the
+-- three places, by a skip too few, in another slot, in the own cell alone. The tightest case: three blocks of one fifth beside two
+-- fifths of skip.
+abbrev ownFallbacks : Bool
+ownFallbacks =
+    let l = fifths (cell 0 1 21 22 23 0 0) in
+    let own : Cell → Bool = (λ c. wellFormed (fifths c)) in
+    all (wellFormed l ∷ not (own (cell 0 1 24 22 23 0 0)) ∷ not (own (cell 0 1 21 24 23 0 0)) ∷ not (own (cell 0 1 21 22 24 0 0))
+    ∷ not (own (cell 7 0 21 0 0 0 0)) ∷ not (wellFormed (putCell l 1 1 (cell 0 0 0 0 0 1 0))) ∷ wellFormed (putCell l 1 1 (cell 0 1 31 32 33 0 0))
+    ∷ not (wellFormed (putCell l 2 0 (cell 0 1 21 0 0 0 0))) ∷ not (wellFormed (putCell l 16 0 (cell 0 1 21 0 0 0 0)))
+    ∷ wellFormed (withOwn (fifths (cell 0 1 31 32 33 0 0)) 4) ∷ not (wellFormed (withOwn (putCell l 1 4 (cell 23 0 31 0 0 0 0)) 4)) ∷ [])
+
+-- The same by notar votes alone: two fifths are enough and one is not; nothing else of rule D is asked, neither an own initial vote nor
+-- the wait for the block and its parent.
+abbrev ownByNotar : Bool
+ownByNotar =
+    let l = ring (3 ∷ 2 ∷ []) [] in
+    let own : ℕ → Ledger → Bool = (λ s m. wellFormed (putCell (putCell m s 0 (cell 0 0 8 0 0 0 0)) s 1 (cell 8 0 0 0 0 0 0))) in
+    all (own 1 l ∷ own 2 l ∷ not (own 1 (ring (4 ∷ 1 ∷ []) [])) ∷ not (own 2 (ring (4 ∷ 1 ∷ []) [])) ∷ [])
 
 -- The cell of node n in a slot that no vote is for.
 abbrev blankOnly : ℕ → ℕ → Bool
@@ -126,12 +156,13 @@ abbrev lengths : Bool
 lengths =
     all (sized 1 1 ∷ not (sized 1 2) ∷ not (sized 2 1) ∷ sized 2 2 ∷ not (sized 1 64) ∷ sized 64 64 ∷ not (sized 64 65) ∷ not (sized 64 63) ∷ not (sized 65 64) ∷ sized 65 65 ∷ not (sized 65 66) ∷ [])
 
--- 17 before 9, 9 before all else; 383 words are too few, 384 are enough.
+-- 17 before 9, 9 before all else; 383 words are too few, 384 are enough. The last two: a record with own fallbacks, in range and not.
 abbrev stepOrder : Bool
 stepOrder =
     let number : Ledger → ℕ → Input → ℕ = (λ l room i. stepPanel (step l room i .answer) .number) in
-    equal (number (putTimedOut odd 0) 0 (vote 9 0 0 0) ∷ number odd 383 (vote 9 0 0 0) ∷ number odd 384 (vote 9 0 0 0) ∷ []) (17 ∷ 9 ∷ 4 ∷ [])
+    equal (number (putTimedOut odd 0) 0 (vote 9 0 0 0) ∷ number odd 383 (vote 9 0 0 0) ∷ number odd 384 (vote 9 0 0 0) ∷ number (fifths (cell 0 1 21 22 23 0 0)) 384 look ∷ number (fifths (cell 0 1 21 22 24 0 0)) 384 look ∷ [])
+    (17 ∷ 9 ∷ 4 ∷ 0 ∷ 17 ∷ [])
 
-cornersOfRecords : T (all (cells ∷ unusedCells ∷ keptBlocks ∷ numbersApart ∷ marks ∷ heads ∷ lengths ∷ stepOrder ∷ []))
+cornersOfRecords : T (all (cells ∷ ownFallbacks ∷ ownByNotar ∷ unusedCells ∷ keptBlocks ∷ numbersApart ∷ marks ∷ heads ∷ lengths ∷ stepOrder ∷ []))
 unfolding rules
 cornersOfRecords = tt

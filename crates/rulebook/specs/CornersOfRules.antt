@@ -11,7 +11,8 @@ use Rattle.rulebook.specs.Tools.{choose}
 use Rattle.rulebook.specs.Weights.{isFirst, windowOf, firstOf}
 use Rattle.rulebook.specs.Ledger.{Ledger, noCell, putArmed, putFinal}
 use Rattle.rulebook.specs.Pool.{held, ready}
-use Rattle.rulebook.specs.Scripts.{vote, block, timeout, look, votes, answers, stored, told, cell, ring, equal, equals, all}
+use Rattle.rulebook.specs.WellFormed.{wellFormed}
+use Rattle.rulebook.specs.Scripts.{vote, block, timeout, look, votes, answers, after, stored, told, cell, ring, equal, equals, all}
 use Rattle.rulebook.specs.Bench.{alone}
 use Rattle.rulebook.specs.Computes.{rules}
 
@@ -192,11 +193,15 @@ fallbacks =
     ∷ cast 1 4 (cell 7 0 0 0 0 1 0) (notar 8) noCell ∷ cast 1 4 (cell 0 1 0 0 0 0 1) (notar 8) noCell ∷ [])
     ((2 ∷ 1 ∷ 8 ∷ []) ∷ [] ∷ (2 ∷ 1 ∷ 8 ∷ []) ∷ [] ∷ [] ∷ [] ∷ [] ∷ (2 ∷ 1 ∷ 8 ∷ []) ∷ (2 ∷ 1 ∷ 8 ∷ []) ∷ [] ∷ [])
 
--- "three were cast": no fourth fallback, though its block has the weight.
+-- "unless already cast", whatever else was cast. At most three blocks have the weights: the tightest case, each with one fifth beside two
+-- fifths of skip, and the record that it leaves is in range.
 abbrev threeCast : Bool
 threeCast =
     let own : Cell → List ℕ = (λ c. told (closed (1 ∷ 4 ∷ 5 ∷ []) (c ∷ notar 24 ∷ noCell ∷ []))) in
-    equals (own (cell 0 1 21 22 0 0 0) ∷ own (cell 0 1 21 22 23 0 0) ∷ own (cell 0 1 21 24 0 0 0) ∷ []) ((2 ∷ 1 ∷ 24 ∷ []) ∷ [] ∷ [] ∷ [])
+    let three = closed (1 ∷ 1 ∷ 1 ∷ 1 ∷ 1 ∷ []) (skip ∷ skip ∷ notar 23 ∷ notar 22 ∷ notar 21 ∷ []) in
+    equals (own (cell 0 1 21 22 0 0 0) ∷ own (cell 0 1 21 24 0 0 0) ∷ told three ∷ [])
+    ((2 ∷ 1 ∷ 24 ∷ []) ∷ [] ∷ (2 ∷ 1 ∷ 21 ∷ 2 ∷ 1 ∷ 22 ∷ 2 ∷ 1 ∷ 23 ∷ []) ∷ [])
+    && wellFormed (after three (look ∷ []))
 
 -- Beside an own final D and E still cast the window's skips, whichever slot lacks an own initial vote.
 abbrev skipsBesideFinal : Bool

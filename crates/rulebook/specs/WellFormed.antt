@@ -11,7 +11,8 @@ use Rattle.rulebook.specs.declared.Input.{Input}
 use Rattle.rulebook.specs.declared.Refusal.the-variants as refusal
 use Rattle.rulebook.specs.Tools.{given, allTo}
 use Rattle.rulebook.specs.Weights.{placesFor, lastSlot, windows, stakeIn, stakesFit, totalTo}
-use Rattle.rulebook.specs.Ledger.{Ledger, none, places, rowAt, cellAt, mostBlocks, blocksAt, allBlocks, isFree}
+use Rattle.rulebook.specs.Ledger.{Ledger, none, places, rowAt, cellAt, ownCell, mostBlocks, blocksAt, allBlocks, isFree}
+use Rattle.rulebook.specs.Rules.{fallbackWeights}
 use Rattle.rulebook.specs.Inputs.{Fed, refusedWith, feed, badParent}
 
 -- The ledger has a row for every slot with four places for blocks, a mark for every window, and p places for nodes wherever there are any.
@@ -64,9 +65,18 @@ blocksApart (b ∷ bs) = allBlocks (λ k. inOrder (b .number) (k .number)) bs &&
 unfoldable pub blocksFit : Ledger → ℕ → List Block → Bool
 blocksFit l s bs = allBlocks (keptFits l s) bs && blocksApart bs
 
+-- No block, or one that reaches rule D's weights.
+unfoldable pub backs : Ledger → ℕ → ℕ → Bool
+backs l s b = none b || fallbackWeights l s b
+
+-- "a node record with an own notar-fallback whose block does not reach rule D's weights by the stored votes is now 17"; "four own
+-- fallbacks in a slot stay 17": there is no place for a fourth.
+unfoldable pub ownFits : Ledger → ℕ → Bool
+ownFits l s = let c = ownCell l s in backs l s (c .fallback1) && (backs l s (c .fallback2) && backs l s (c .fallback3))
+
 -- One of the slots 1 to 16.
 unfoldable pub rowFits : Ledger → ℕ → Bool
-rowFits l s = blocksFit l s (blocksAt l s) && (flag (rowAt l s .timedOut) && cellsFit l s (l .count))
+rowFits l s = blocksFit l s (blocksAt l s) && (flag (rowAt l s .timedOut) && (cellsFit l s (l .count) && ownFits l s))
 
 -- A place with nothing in it.
 unfoldable pub blockBlank : Block → Bool

@@ -2,7 +2,7 @@
 use mathlib.Core.Path.{_≡_, sym, subst}
 use mathlib.Core.Bool.{Bool, true, false, not, _&&_}
 use mathlib.Core.List.{List, [], _∷_}
-use Prim.Native.Nat.{ℕ, zero, suc, _+_, _-_, _<_}
+use Prim.Native.Nat.{ℕ, zero, suc, _+_, _-_, _≤_, _<_}
 use native.Mathlib.Omega.{arith}
 use lib.ListN.{getD}
 use lib.Dec.{T, eqb, eqb→eq, eqb-refl, T-not}
@@ -11,17 +11,17 @@ use Rattle.rulebook.specs.declared.Block.{Block}
 use Rattle.rulebook.specs.declared.CertificateKind.{CertificateKind}
 use Rattle.rulebook.specs.declared.CertificateKind.the-variants as certificate
 use Rattle.rulebook.specs.Tools.{allTo}
-use Rattle.rulebook.specs.Weights.{weight, reaches, isFirst}
+use Rattle.rulebook.specs.Weights.{weight, reaches, dWeights, isFirst}
 use Rattle.rulebook.specs.Ledger.{Ledger, none, noBlock, cellAt, ownCell, blocksAt, firstBlock, someBlock, isFree, hasNumber, isBlock, keepsBlock}
 use Rattle.rulebook.specs.Pool.{hasFallback, counts, weigh, weighs, signersOf, fifthsOf, held, parentHeld, skippedBetween, ready}
 use Rattle.rulebook.specs.Checker.{isOtherKind, blockMisfits}
 use Rattle.rulebook.specs.Rules.{parentFits, fallbackWeights, parentBacked, isBacked, isGrounded}
 use Rattle.rulebook.proofs.ToolLaws.{all-at}
-use Rattle.safety.specs.Slot.{notar, notarFallback}
+use Rattle.safety.specs.Slot.{notar, notarFallback, skip}
 use Rattle.safety.specs.Ballots.{has}
-use Rattle.safety.specs.Grounds.{signs, Held, byVotes, BackedAt, ReadyParent, HeldParent, NotarGrounds}
+use Rattle.safety.specs.Grounds.{signs, weightOf, Held, byVotes, BackedAt, ReadyParent, HeldParent, NotarGrounds}
 use Rattle.safety.proofs.Tests.{T-true, true-T, and-T, T-and, or-T, T-left, T-right}
-use Rattle.safety.proofs.Weighing.{reaches-more, reaches-less, weight-mono}
+use Rattle.safety.proofs.Weighing.{reaches-more, reaches-less, weights-more, weight-mono}
 use Rattle.safety.proofs.Cells.{is-notar}
 use Rattle.safety.proofs.Guards.{given-T}
 
@@ -159,6 +159,16 @@ module _ (l : Ledger) where
       or-T (reaches 2 (l .total) w) (reaches 1 (l .total) w && reaches 3 (l .total) (y + w)) t
       (λ u. up (reaches-less 1 2 (l .total) w (omega arith) u))
       (λ u. up (and-T (reaches 1 (l .total) w) (reaches 3 (l .total) (y + w)) u .0))
+
+  -- Rule D's weights over cells are its weights over ballots.
+  pub fallback-weights : (s b : ℕ) → T (not (none b)) → T (fallbackWeights l s b) → T (dWeights (l .total) (weightOf l s (notar b)) (weightOf l s skip))
+  unfolding fallbackWeights weigh counts
+  fallback-weights s b h t =
+      let x = weight (l .stakes) (l .count) (λ n. eqb (cellAt l s n .notar) b) in
+      let y = weightOf l s skip in
+      let z = weightOf l s (notar b) in
+      let g : x ≤ z = weight-mono (l .stakes) (l .count) (λ n. eqb (cellAt l s n .notar) b) (λ n. has (cellAt l s n) (notar b)) (λ n. is-notar (cellAt l s n) b h) in
+      weights-more (l .total) x y z y g (omega arith) t
 
   -- What D waited for: the block is kept, and its parent holds kind 3.
   pub fallback-parent : ((s b p x : ℕ) → T (keepsBlock l s b p x) → (p < s) × T (not (none x))) → (s b : ℕ) → T (isGrounded l s b) → T (not (isFirst s)) → HeldParent l s b

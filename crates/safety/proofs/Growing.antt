@@ -1,18 +1,19 @@
 -- What stands behind votes and final blocks stays as a ledger grows.
+use mathlib.Core.Path.{sym, subst}
 use mathlib.Core.Bool.{_||_}
-use Prim.Native.Nat.{ℕ, zero, suc}
+use Prim.Native.Nat.{ℕ, zero, suc, _≤_}
 use lib.Dec.{T}
 use Rattle.rulebook.specs.declared.CertificateKind.{CertificateKind}
-use Rattle.rulebook.specs.Weights.{weight, reaches}
+use Rattle.rulebook.specs.Weights.{weight, reaches, dWeights}
 use Rattle.rulebook.specs.Ledger.{Ledger, rowAt, cellAt, keepsBlock}
 use Rattle.rulebook.specs.Pool.{fifthsOf}
 use Rattle.safety.specs.Slot.{Ballot, notar, notarFallback, skip, skipFallback, final}
 use Rattle.safety.specs.Ballots.{has}
 use Rattle.safety.specs.Ring.{ballotA, ballotB}
-use Rattle.safety.specs.Grounds.{Held, byVotes, BackedAt, Grounds}
+use Rattle.safety.specs.Grounds.{weightOf, Held, byVotes, BackedAt, Grounds}
 use Rattle.safety.specs.Moves.{SameTable, SameRest}
 use Rattle.safety.proofs.Tests.{or-T, T-left, T-right}
-use Rattle.safety.proofs.Weighing.{reaches-more, weight-mono}
+use Rattle.safety.proofs.Weighing.{reaches-more, weights-more, weight-mono}
 use Rattle.safety.proofs.Cells.{Kept, kept-same, kept-trans, kept-has}
 
 -- All that was there stays: cells, kept blocks only grow.
@@ -62,6 +63,23 @@ module _ (l m : Ledger) (table : SameTable l m) (grow : Grow l m) where
       (λ n u. kept-has (cellAt l s n) (cellAt m s n) p (grow .cells s n) u))
       t)
 
+  -- A ballot's weight only grows.
+  ballot-grow : (s : ℕ) (p : Ballot) → weightOf l s p ≤ weightOf m s p
+  ballot-grow s p =
+      rw (table .stakes, table .count) (weight-mono (l .stakes) (l .count) (λ n. has (cellAt l s n) p) (λ n. has (cellAt m s n) p)
+      (λ n u. kept-has (cellAt l s n) (cellAt m s n) p (grow .cells s n) u))
+
+  -- Rule D's weights stay.
+  weights-grow : (s b : ℕ) → T (dWeights (l .total) (weightOf l s (notar b)) (weightOf l s skip)) → T (dWeights (m .total) (weightOf m s (notar b)) (weightOf m s skip))
+  weights-grow s b t =
+      let x = weightOf l s (notar b) in
+      let y = weightOf l s skip in
+      let x′ = weightOf m s (notar b) in
+      let y′ = weightOf m s skip in
+      let gx : x ≤ x′ = ballot-grow s (notar b) in
+      let gy : y ≤ y′ = ballot-grow s skip in
+      subst (λ (z : ℕ). T (dWeights z x′ y′)) (sym (table .total)) (weights-more (l .total) x y x′ y′ gx gy t)
+
   pub held-grow : (k : CertificateKind) (s b : ℕ) → Held l k s b → Held m k s b
   held-grow k s b (byVotes t) = byVotes (weight-grow (fifthsOf k) s (ballotA k b) (ballotB k b) t)
 
@@ -92,6 +110,7 @@ module _ (l m : Ledger) (table : SameTable l m) (grow : Grow l m) where
   grounds-grow me s (notarFallback b) g =
       record {
         seen = seen-grow 1 s (notar b) (g .seen);
+        weights = weights-grow s b (g .weights);
         next = λ t. let f = g .next t in
             record {
               slot = f .slot;

@@ -7,7 +7,7 @@ use lib.Dec.{T}
 use Rattle.rulebook.specs.declared.Cell.{Cell}
 use Rattle.rulebook.specs.declared.CertificateKind.{CertificateKind}
 use Rattle.rulebook.specs.declared.CertificateKind.the-variants as certificate
-use Rattle.rulebook.specs.Weights.{weight, reaches, isFirst}
+use Rattle.rulebook.specs.Weights.{weight, reaches, dWeights, isFirst}
 use Rattle.rulebook.specs.Ledger.{Ledger, cellAt, keepsBlock}
 use Rattle.rulebook.specs.Pool.{fifthsOf}
 use Rattle.safety.specs.Slot.{Ballot, notar, notarFallback, skip, skipFallback, final}
@@ -55,9 +55,14 @@ pub record NotarGrounds (me : ℕ) (l : Ledger) (s b : ℕ) : Type 0 where
   pub first : T (isFirst s) → ReadyParent l s b
   pub next : T (not (isFirst s)) → VotedParent me l s b
 
--- Rule D: what stands behind a notar-fallback vote; a fifth of notar votes for the block in any case.
+-- The weight of a ballot in slot s, over stored ballots.
+abbrev pub weightOf : Ledger → ℕ → Ballot → ℕ
+weightOf l s v = weight (l .stakes) (l .count) (λ n. has (cellAt l s n) v)
+
+-- Rule D: what stands behind a notar-fallback vote: its weights, a fifth of notar votes for the block in any case.
 pub record FallbackGrounds (l : Ledger) (s b : ℕ) : Type 0 where
-  pub seen : T (reaches 1 (l .total) (weight (l .stakes) (l .count) (λ n. has (cellAt l s n) (notar b))))
+  pub seen : T (reaches 1 (l .total) (weightOf l s (notar b)))
+  pub weights : T (dWeights (l .total) (weightOf l s (notar b)) (weightOf l s skip))
   pub next : T (not (isFirst s)) → HeldParent l s b
 
 -- Behind each ballot.

@@ -10,7 +10,7 @@ use Rattle.rulebook.specs.declared.Cell.{Cell}
 use Rattle.rulebook.specs.Tools.{given, allTo}
 use Rattle.rulebook.specs.Weights.{mostNodes, placesFor, mostStake, lastSlot, windows, stakeIn, stakesFit, totalTo}
 use Rattle.rulebook.specs.Ledger.{Ledger, Row, none, noCell, places, rowAt, cellAt}
-use Rattle.rulebook.specs.WellFormed.{flag, inOrder, cellFits, cellBlank, cellsFit, blocksFit, rowFits, rowBlank, headFits, wellFormed}
+use Rattle.rulebook.specs.WellFormed.{flag, inOrder, cellFits, cellBlank, cellsFit, blocksFit, ownFits, rowFits, rowBlank, headFits, wellFormed}
 use Rattle.rulebook.proofs.ToolLaws.{given-on, given-off, and-both, both-and, or-left, or-right, or-cases, by-test, true-not-false, all-at, all-each}
 use Rattle.rulebook.proofs.PlaceLaws.{nodes-placed}
 use Rattle.settling.specs.Facts.{CellFacts, RowFacts, HeadFacts, Formed}
@@ -67,24 +67,35 @@ unfolding rowFits cellsFit
 row-facts l s e =
     let r : Row = rowAt l s in
     let p = and-both (blocksFit l s (r .blocks)) _ e in
-    let q = and-both (flag (r .timedOut)) (cellsFit l s (l .count)) (p .1) in
+    let z = and-both (flag (r .timedOut)) (cellsFit l s (l .count) && ownFits l s) (p .1) in
+    let q = and-both (cellsFit l s (l .count)) (ownFits l s) (z .1) in
     record {
       blocks = p .0;
-      timedOut = leb-true (r .timedOut) 1 (q .0);
-      cells = λ n a b. sym (given-on (ltb n (l .count)) (cellBlank (cellAt l s n)) (λ _. cellFits (cellAt l s n)) (lt-ltb n (l .count) b)) ∙ all-at (places l) n (cellOk r (l .count)) (q .1) a;
-      beyond = λ n a b. sym (given-off (ltb n (l .count)) (cellBlank (cellAt l s n)) (λ _. cellFits (cellAt l s n)) (le-ltb n (l .count) (omega arith))) ∙ all-at (places l) n (cellOk r (l .count)) (q .1) a;
+      timedOut = leb-true (r .timedOut) 1 (z .0);
+      cells = λ n a b. sym (given-on (ltb n (l .count)) (cellBlank (cellAt l s n)) (λ _. cellFits (cellAt l s n)) (lt-ltb n (l .count) b)) ∙ all-at (places l) n (cellOk r (l .count)) (q .0) a;
+      beyond = λ n a b. sym (given-off (ltb n (l .count)) (cellBlank (cellAt l s n)) (λ _. cellFits (cellAt l s n)) (le-ltb n (l .count) (omega arith))) ∙ all-at (places l) n (cellOk r (l .count)) (q .0) a;
     }
 
-pub facts-row : (l : Ledger) (s : ℕ) → RowFacts l s (rowAt l s) → rowFits l s ≡ true
+-- What the own fallbacks lean on.
+pub row-own : (l : Ledger) (s : ℕ) → rowFits l s ≡ true → ownFits l s ≡ true
+unfolding rowFits
+row-own l s e =
+    let r : Row = rowAt l s in
+    let p = and-both (blocksFit l s (r .blocks)) _ e in
+    let z = and-both (flag (r .timedOut)) (cellsFit l s (l .count) && ownFits l s) (p .1) in
+    and-both (cellsFit l s (l .count)) (ownFits l s) (z .1) .1
+
+pub facts-row : (l : Ledger) (s : ℕ) → RowFacts l s (rowAt l s) → ownFits l s ≡ true → rowFits l s ≡ true
 unfolding rowFits cellsFit
-facts-row l s f =
+facts-row l s f o =
     let r : Row = rowAt l s in
     both-and (blocksFit l s (r .blocks)) _ (f .blocks)
-    (both-and (flag (r .timedOut)) (cellsFit l s (l .count)) (le-leb (r .timedOut) 1 (f .timedOut))
+    (both-and (flag (r .timedOut)) (cellsFit l s (l .count) && ownFits l s) (le-leb (r .timedOut) 1 (f .timedOut))
+    (both-and (cellsFit l s (l .count)) (ownFits l s)
     (all-each (places l) (cellOk r (l .count)) (λ n a.
     by-test (ltb n (l .count))
     (λ t. given-on (ltb n (l .count)) (cellBlank (cellAt l s n)) (λ _. cellFits (cellAt l s n)) t ∙ f .cells n a (ltb-true n (l .count) t))
-    (λ t. given-off (ltb n (l .count)) (cellBlank (cellAt l s n)) (λ _. cellFits (cellAt l s n)) t ∙ f .beyond n a (ltb-false n (l .count) t)))))
+    (λ t. given-off (ltb n (l .count)) (cellBlank (cellAt l s n)) (λ _. cellFits (cellAt l s n)) t ∙ f .beyond n a (ltb-false n (l .count) t)))) o))
 
 -- ---- the head
 
@@ -156,6 +167,9 @@ formed l e =
       rows = λ s a b.
           let i : suc (s - 1) ≡ s = omega arith in
           subst (λ (t : ℕ). RowFacts l t (rowAt l t)) i (row-facts l (suc (s - 1)) (all-at lastSlot (s - 1) (λ i. rowFits l (suc i)) (q .1) (omega arith)));
+      own = λ s a b.
+          let i : suc (s - 1) ≡ s = omega arith in
+          subst (λ (t : ℕ). ownFits l t ≡ true) i (row-own l (suc (s - 1)) (all-at lastSlot (s - 1) (λ i. rowFits l (suc i)) (q .1) (omega arith)));
     }
 
 pub well-formed : (l : Ledger) → Formed l → wellFormed l ≡ true
@@ -163,4 +177,4 @@ unfolding wellFormed
 well-formed l f =
     both-given (headFits l) _ (facts-head l (f .head))
     (both-given (rowBlank l) _ (f .blank)
-    (all-each lastSlot (λ i. rowFits l (suc i)) (λ i h. facts-row l (suc i) (f .rows (suc i) (omega arith) (omega arith)))))
+    (all-each lastSlot (λ i. rowFits l (suc i)) (λ i h. facts-row l (suc i) (f .rows (suc i) (omega arith) (omega arith)) (f .own (suc i) (omega arith) (omega arith)))))

@@ -19,13 +19,14 @@ use Rattle.rulebook.specs.Ledger.{Ledger, Row, none, noCell, noInitial, places,
 use Rattle.rulebook.specs.Pool.{hasFallback}
 use Rattle.rulebook.specs.Votes.{placeOf, withVote, fillFallback, storeVote}
 use Rattle.rulebook.specs.Inputs.{badParent}
-use Rattle.rulebook.specs.WellFormed.{Shaped, inOrder, cellFits, cellBlank, cellsFit, keptFits, blocksApart, blocksFit, blockBlank, rowBlank}
+use Rattle.rulebook.specs.WellFormed.{Shaped, inOrder, cellFits, cellBlank, cellsFit, keptFits, blocksApart, blocksFit, blockBlank, ownFits, rowBlank}
 use Rattle.rulebook.proofs.ToolLaws.{given-on, and-both, both-and, or-left, or-right, or-cases, or-none, by-test, true-not-false}
 use Rattle.rulebook.proofs.BlockLaws.{all-mono, fill-all, fill-apart}
 use Rattle.settling.specs.Facts.{CellFacts, RowFacts, Formed}
-use Rattle.settling.specs.Steps.{BlockFine}
+use Rattle.settling.specs.Steps.{weighed, BlockFine}
 use Rattle.settling.proofs.Places.{row-else, row-cases, cell-cases, window-low}
 use Rattle.settling.proofs.VoteLaws.{place-free}
+use Rattle.settling.proofs.Weighing.{own-cells, own-row, own-stored}
 use Rattle.settling.proofs.FactLaws.{count-placed, cell-facts, facts-cell}
 
 -- ---- a cell
@@ -177,8 +178,8 @@ blank-is l = refl
 
 module _ (l : Ledger) (h : Shaped (places l) l) (f : Formed l) where
   -- A row in range written to a slot.
-  pub formed-row : (s : ℕ) (r : Row) → 1 ≤ s → s ≤ lastSlot → RowFacts l s r → Formed (putRow l s r)
-  formed-row s r a b g =
+  pub formed-row : (s : ℕ) (r : Row) → 1 ≤ s → s ≤ lastSlot → RowFacts l s r → ((t : ℕ) → ownFits l t ≡ true → ownFits (putRow l s r) t ≡ true) → Formed (putRow l s r)
+  formed-row s r a b g own =
       let m : Ledger = putRow l s r in
       let d = f .head in
       record {
@@ -199,13 +200,14 @@ module _ (l : Ledger) (h : Shaped (places l) l) (f : Formed l) where
         rows = λ t p q.
             row-same l m t (rowAt m t) refl refl refl
             (row-cases l s r (RowFacts l) t (omega (arith, h .rows)) g (λ _. f .rows t p q));
+        own = λ t p q. own t (f .own t p q);
       }
 
   module _ (s : ℕ) (a : 1 ≤ s) (b : s ≤ lastSlot) where
     -- A vote of a node of the table into a free place.
-    pub formed-vote : (n : ℕ) (k : VoteKind) (x : ℕ) → n < l .count → placeOf (cellAt l s n) k x ≡ Free → Formed (storeVote l s n k x)
+    pub formed-vote : (n : ℕ) (k : VoteKind) (x : ℕ) → n < l .count → placeOf (cellAt l s n) k x ≡ Free → (n ≡ l .own → weighed l s k x ≡ true) → Formed (storeVote l s n k x)
     unfolding storeVote
-    formed-vote n k x low e =
+    formed-vote n k x low e w =
         let r : Row = rowAt l s in
         let c : Cell = withVote (cellAt l s n) k x in
         let g = f .rows s a b in
@@ -222,6 +224,7 @@ module _ (l : Ledger) (h : Shaped (places l) l) (f : Formed l) where
               subst (λ (y : Cell). cellBlank y ≡ true)
               (sym (getD-set-other (r .cells) n i c noCell (λ z. omega arith))) (g .beyond i p q);
         })
+        (own-stored l h s n k x b (omega arith) e w)
 
     -- Blocks that may be kept.
     pub formed-blocks : (xs : List Block) → blocksFit l s xs ≡ true → Formed (putBlocks l s xs)
@@ -229,21 +232,21 @@ module _ (l : Ledger) (h : Shaped (places l) l) (f : Formed l) where
         let r : Row = rowAt l s in
         let g = f .rows s a b in
         formed-row s (record { blocks = xs; timedOut = r .timedOut; final = r .final; cells = r .cells }) a b
-        (record { blocks = e; timedOut = g .timedOut; cells = g .cells; beyond = g .beyond })
+        (record { blocks = e; timedOut = g .timedOut; cells = g .cells; beyond = g .beyond }) (own-row l s _ (omega (arith, h .rows)) refl)
 
     pub formed-timedOut : Formed (putTimedOut l s)
     formed-timedOut =
         let r : Row = rowAt l s in
         let g = f .rows s a b in
         formed-row s (record { blocks = r .blocks; timedOut = 1; final = r .final; cells = r .cells }) a b
-        (record { blocks = g .blocks; timedOut = omega arith; cells = g .cells; beyond = g .beyond })
+        (record { blocks = g .blocks; timedOut = omega arith; cells = g .cells; beyond = g .beyond }) (own-row l s _ (omega (arith, h .rows)) refl)
 
     pub formed-final : (x : ℕ) → Formed (putFinal l s x)
     formed-final x =
         let r : Row = rowAt l s in
         let g = f .rows s a b in
         formed-row s (record { blocks = r .blocks; timedOut = r .timedOut; final = x; cells = r .cells }) a b
-        (record { blocks = g .blocks; timedOut = g .timedOut; cells = g .cells; beyond = g .beyond })
+        (record { blocks = g .blocks; timedOut = g .timedOut; cells = g .cells; beyond = g .beyond }) (own-row l s _ (omega (arith, h .rows)) refl)
 
     pub formed-armed : Formed (putArmed l s)
     formed-armed =
@@ -269,6 +272,7 @@ module _ (l : Ledger) (h : Shaped (places l) l) (f : Formed l) where
               };
           blank = blank-is m ∙ sym (blank-is l) ∙ f .blank;
           rows = λ t p q. row-same l m t (rowAt l t) refl refl refl (f .rows t p q);
+          own = λ t p q. own-cells l m (record { own = refl; count = refl; total = refl; stakes = refl }) t (λ n. refl) (f .own t p q);
         }
 
 -- An accepted block may be kept.

@@ -1,7 +1,7 @@
--- A node makes at most 116 records in its life, whatever it is fed.
-use mathlib.Core.Path.{_≡_, refl, ap, _∙_}
+-- A node whose ledger is sound makes at most 116 records in its life, whatever it is fed.
+use mathlib.Core.Path.{_≡_, refl, _∙_}
 use mathlib.Core.List.{List, [], _∷_}
-use Prim.Native.Nat.{ℕ, _<_, _≤_}
+use Prim.Native.Nat.{ℕ, _≤_}
 use native.Mathlib.Omega.{arith}
 use lib.ListN.{length, length-append, length-reverse}
 use lib.Dec.{leb}
@@ -13,32 +13,32 @@ use Rattle.rulebook.specs.declared.Refusal.the-variants as refusal
 use Rattle.rulebook.specs.declared.Verdict.{Verdict}
 use Rattle.rulebook.specs.declared.Verdict.the-variants.{Fine, Refused}
 use Rattle.rulebook.specs.Weights.{lastSlot}
-use Rattle.rulebook.specs.Ledger.{Ledger, Row, noInitial, places, rowAt, ownCell, blocksAt, fillBlock, putTimedOut}
+use Rattle.rulebook.specs.Ledger.{Ledger, noInitial, ownCell, blocksAt, fillBlock, putTimedOut}
 use Rattle.rulebook.specs.Votes.{storeVote}
 use Rattle.rulebook.specs.Rules.{State, stateOf, castSkips}
 use Rattle.rulebook.specs.Run.{mostRecords, made, run}
 use Rattle.rulebook.specs.Inputs.{Fed, keepBlock, verdict, timeOut, intake, fedWith, refusedWith, fedOn, feed}
-use Rattle.rulebook.specs.WellFormed.{Shaped, wellFormed, outboxWords, step}
+use Rattle.rulebook.specs.WellFormed.{wellFormed, outboxWords, step}
 use Rattle.rulebook.proofs.ToolLaws.{given-keeps}
-use Rattle.rulebook.proofs.BlockLaws.{fill-length}
-use Rattle.settling.specs.Steps.{Placed, SameNode, Came, Paid, VoteFine, Settled, after, life}
-use Rattle.settling.proofs.Places.{shaped-row}
+use Rattle.settling.specs.Steps.{SameNode, Came, Paid, VoteFine, BlockFine, Settled, after, life}
+use Rattle.settling.specs.Facts.{Sound}
+use Rattle.settling.proofs.Sounding.{sound-placed, sound-vote, sound-kept, sound-timedOut}
 use Rattle.settling.proofs.SpareLaws.{spare-most, spare-other, spare-blocks, spare-timedOut}
-use Rattle.settling.proofs.Spending.{same-node, stored-shaped, stored-same, skips-come, run-comes}
+use Rattle.settling.proofs.Spending.{same-node, stored-same, skips-come, run-comes}
 use Rattle.settling.proofs.Settling.{run-settles}
 use Rattle.settling.proofs.Verdicts.{vote-fine, block-fine, timeout-fine}
 
 -- ---- paying
 
-pub paid-nothing : (l : Ledger) → Placed l → Paid l l 0
-paid-nothing l h = record { spent = omega arith; placed = h; same = same-node l }
+pub paid-nothing : (l : Ledger) → Sound l → Paid l l 0
+paid-nothing l h = record { spent = omega arith; sound = h; same = same-node l }
 
 -- What came of a state that was paid is paid.
 pub paid-came : (l : Ledger) (o p : State) → Paid l (o .ledger) (made o) → Came o p → Paid l (p .ledger) (made p)
 paid-came l o p a c =
     record {
       spent = omega (arith, c .spent, a .spent);
-      placed = c .placed;
+      sound = c .sound;
       same =
           record {
             own = c .same .own ∙ a .same .own;
@@ -55,47 +55,31 @@ paid-within l m n h = omega (arith, h .spent, spare-most l)
 
 -- ---- what an accepted input stores is free
 
-module _ (l : Ledger) (h : Placed l) where
+module _ (l : Ledger) (h : Sound l) where
   pub vote-paid : (v : Vote) → VoteFine l v → Paid l (storeVote l (v .slot .0) (v .node .0) (v .kind) (v .block)) 0
   vote-paid v f =
       let m : Ledger = storeVote l (v .slot .0) (v .node .0) (v .kind) (v .block) in
       let same : SameNode l m = stored-same l (v .slot .0) (v .node .0) (v .kind) (v .block) in
       record {
-        spent = omega (arith, spare-other l (v .slot .0) h (f .low) (f .high) (v .node .0) (v .kind) (v .block) (f .outside));
-        placed =
-            record {
-              shaped = stored-shaped l (v .slot .0) (v .node .0) (v .kind) (v .block) (h .shaped) (f .high);
-              mine = omega (arith, same .own, ap length (same .stakes), h .mine);
-            };
+        spent = omega (arith, spare-other l (v .slot .0) (sound-placed l h) (f .low) (f .high) (v .node .0) (v .kind) (v .block) (f .outside));
+        sound = sound-vote l h (v .slot .0) (f .low) (f .high) (v .node .0) (v .kind) (v .block) (f .node) (f .free) (λ q. absurd (f .outside q));
         same = same;
       }
 
-  pub kept-shaped : (s : ℕ) (b : Block) → s ≤ lastSlot → Shaped (places (keepBlock l s b)) (keepBlock l s b)
+  pub block-paid : (s : ℕ) (b : Block) → BlockFine l s b → Paid l (keepBlock l s b) 0
   unfolding keepBlock
-  kept-shaped s b a =
-      let r : Row = rowAt l s in
-      shaped-row l s (record { blocks = fillBlock b (r .blocks); timedOut = r .timedOut; final = r .final; cells = r .cells }) (h .shaped) a
-      (fill-length b (r .blocks) ∙ h .shaped .blocks s (omega arith)) (h .shaped .cells s (omega arith))
-
-  pub block-paid : (s : ℕ) (b : Block) → 1 ≤ s → s ≤ lastSlot → Paid l (keepBlock l s b) 0
-  unfolding keepBlock
-  block-paid s b low high =
+  block-paid s b f =
       record {
-        spent = omega (arith, spare-blocks l s h low high (fillBlock b (blocksAt l s)));
-        placed = record { shaped = kept-shaped s b high; mine = h .mine };
+        spent = omega (arith, spare-blocks l s (sound-placed l h) (f .low) (f .high) (fillBlock b (blocksAt l s)));
+        sound = sound-kept l h s (f .low) (f .high) b f;
         same = record { own = refl; count = refl; total = refl; genesis = refl; stakes = refl };
       }
-
-  pub timedOut-shaped : (s : ℕ) → s ≤ lastSlot → Shaped (places (putTimedOut l s)) (putTimedOut l s)
-  timedOut-shaped s a =
-      let r : Row = rowAt l s in
-      shaped-row l s (record { blocks = r .blocks; timedOut = 1; final = r .final; cells = r .cells }) (h .shaped) a (h .shaped .blocks s (omega arith)) (h .shaped .cells s (omega arith))
 
   pub timedOut-paid : (s : ℕ) → 1 ≤ s → s ≤ lastSlot → Paid l (putTimedOut l s) 0
   timedOut-paid s low high =
       record {
-        spent = omega (arith, spare-timedOut l s h low high);
-        placed = record { shaped = timedOut-shaped s high; mine = h .mine };
+        spent = omega (arith, spare-timedOut l s (sound-placed l h) low high);
+        sound = sound-timedOut l h s low high;
         same = record { own = refl; count = refl; total = refl; genesis = refl; stakes = refl };
       }
 
@@ -106,20 +90,20 @@ module _ (l : Ledger) (h : Placed l) where
       let o : State = stateOf (putTimedOut l s) [] in
       let p = timedOut-paid s low high in
       given-keeps (λ (q : State). Paid l (q .ledger) (made q)) (noInitial (ownCell l s)) o (λ _. castSkips o s) p
-      (λ _. paid-came l o (castSkips o s) p (skips-come o (p .placed) s low high))
+      (λ _. paid-came l o (castSkips o s) p (skips-come o (p .sound) s low high))
 
   -- ---- an accepted input, before the rules and after them
 
   pub intake-paid : (i : Input) → verdict l i ≡ Fine → Paid l (intake l i .ledger) (made (intake l i))
   unfolding intake verdict
   intake-paid (input.Vote v) e = vote-paid v (vote-fine l v e)
-  intake-paid (input.Block s b) e = let f = block-fine l (s .0) b e in block-paid (s .0) b (f .low) (f .high)
+  intake-paid (input.Block s b) e = let f = block-fine l (s .0) b e in block-paid (s .0) b f
   intake-paid (input.Timeout s) e = let f = timeout-fine l (s .0) e in timeOut-paid (s .0) (f .low) (f .high)
   intake-paid input.Look e = paid-nothing l h
 
   pub called-paid : (i : Input) → verdict l i ≡ Fine → Paid l (run (intake l i) .ledger) (made (run (intake l i)))
   called-paid i e =
-      let p = intake-paid i e in paid-came l (intake l i) (run (intake l i)) p (run-comes (intake l i) (p .placed))
+      let p = intake-paid i e in paid-came l (intake l i) (run (intake l i)) p (run-comes (intake l i) (p .sound))
 
   -- An outbox of 128 records has room for a call.
   pub called-within : (i : Input) → verdict l i ≡ Fine → made (run (intake l i)) ≤ mostRecords
@@ -127,7 +111,7 @@ module _ (l : Ledger) (h : Placed l) where
 
   -- After an accepted input no rule applies.
   pub called-settled : (i : Input) → verdict l i ≡ Fine → Settled (run (intake l i))
-  called-settled i e = run-settles (intake l i) (intake-paid i e .placed)
+  called-settled i e = run-settles (intake l i) (intake-paid i e .sound)
 
   -- ---- any input
 
@@ -135,7 +119,7 @@ module _ (l : Ledger) (h : Placed l) where
   unfolding fedOn fedWith refusedWith
   fedOn-paid Fine i e =
       let p = called-paid i e in
-      record { spent = omega (arith, p .spent, length-reverse (run (intake l i) .records)); placed = p .placed; same = p .same }
+      record { spent = omega (arith, p .spent, length-reverse (run (intake l i) .records)); sound = p .sound; same = p .same }
   fedOn-paid (Refused r) i e = paid-nothing l h
 
   pub feed-paid : (i : Input) → Paid l (feed l i .ledger) (length (feed l i .records))
@@ -151,15 +135,15 @@ module _ (l : Ledger) (h : Placed l) where
 
 -- ---- a life
 
-pub life-paid : (l : Ledger) (is : List Input) → Placed l → Paid l (after l is) (length (life l is))
+pub life-paid : (l : Ledger) (is : List Input) → Sound l → Paid l (after l is) (length (life l is))
 unfolding after life
 life-paid l [] h = paid-nothing l h
 life-paid l (i ∷ is) h =
     let p = feed-paid l h i in
-    let q = life-paid (feed l i .ledger) is (p .placed) in
+    let q = life-paid (feed l i .ledger) is (p .sound) in
     record {
       spent = omega (arith, p .spent, q .spent, length-append (feed l i .records) (life (feed l i .ledger) is));
-      placed = q .placed;
+      sound = q .sound;
       same =
           record {
             own = q .same .own ∙ p .same .own;
@@ -171,6 +155,5 @@ life-paid l (i ∷ is) h =
     }
 
 -- "a node makes at most 116 records in its life".
-pub life-within : (l : Ledger) (is : List Input) → Shaped (places l) l → l .own < l .count → l .count ≤ places l → length (life l is) ≤ mostRecords
-life-within l is h own count =
-    paid-within l (after l is) (length (life l is)) (life-paid l is (record { shaped = h; mine = omega arith }))
+pub life-within : (l : Ledger) (is : List Input) → Sound l → length (life l is) ≤ mostRecords
+life-within l is h = paid-within l (after l is) (length (life l is)) (life-paid l is h)

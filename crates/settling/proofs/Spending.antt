@@ -1,37 +1,29 @@
--- From any ledger with a place for everything: every record is paid by one of the potential, by whatever part of a call makes it;
+-- From any sound ledger: every record is paid by one of the potential, by whatever part of a call makes it;
 -- records only grow, and where none is made nothing changes.
 use mathlib.Core.Path.{_≡_, refl, sym, ap, _∙_}
 use mathlib.Core.List.{List, [], _∷_, _++_, append-assoc}
 use Prim.Native.Nat.{ℕ, suc, _+_, _-_, _≤_}
 use native.Mathlib.Omega.{arith}
-use lib.ListN.{length, set, length-append, length-set}
-use Rattle.rulebook.specs.declared.Cell.{Cell}
+use lib.ListN.{length, length-append}
 use Rattle.rulebook.specs.declared.VoteKind.{VoteKind}
 use Rattle.rulebook.specs.Weights.{lastSlot}
 use Rattle.rulebook.specs.PaperNumbers.{voteNumber}
-use Rattle.rulebook.specs.Ledger.{Ledger, Row, places, rowAt, cellAt, putArmed, putFinal}
-use Rattle.rulebook.specs.Votes.{withVote, storeVote}
+use Rattle.rulebook.specs.Ledger.{Ledger, putArmed, putFinal}
+use Rattle.rulebook.specs.Votes.{storeVote}
 use Rattle.rulebook.specs.Rules.{Record, State, recordOf, report, cast, castSkips, ruleA, ruleB, ruleC, ruleD, ruleE, ruleF}
 use Rattle.rulebook.specs.Run.{made, ruleAt, firstRule, firstSlot, scan, runFor, run}
-use Rattle.rulebook.specs.WellFormed.{Shaped}
 use Rattle.settling.specs.Spare.{spare}
-use Rattle.settling.specs.Steps.{Placed, SameNode, Lawful, Came}
-use Rattle.settling.proofs.Places.{shaped-row, shaped-armed}
+use Rattle.settling.specs.Steps.{SameNode, Lawful, Came}
+use Rattle.settling.specs.Facts.{Sound}
+use Rattle.settling.proofs.FactLaws.{formed}
+use Rattle.settling.proofs.Sounding.{sound-placed, sound-vote, sound-armed, sound-final}
 use Rattle.settling.proofs.SpareLaws.{spare-own, spare-armed, spare-final}
 use Rattle.settling.proofs.LawfulRules.{skips-keep, A-keeps, B-keeps, C-keeps, D-keeps, E-keeps, F-keeps, rule-keeps, rules-keep, slots-keep, scan-keeps, runFor-keeps, run-keeps}
 
--- ---- what storing a vote leaves in place
+-- ---- the node stays
 
 pub same-node : (l : Ledger) → SameNode l l
 same-node l = record { own = refl; count = refl; total = refl; genesis = refl; stakes = refl }
-
-pub stored-shaped : (l : Ledger) (s n : ℕ) (k : VoteKind) (b : ℕ) → Shaped (places l) l → s ≤ lastSlot → Shaped (places (storeVote l s n k b)) (storeVote l s n k b)
-unfolding storeVote
-stored-shaped l s n k b h a =
-    let r : Row = rowAt l s in
-    let c : Cell = withVote (cellAt l s n) k b in
-    shaped-row l s (record { blocks = r .blocks; timedOut = r .timedOut; final = r .final; cells = set (r .cells) n c }) h a (h .blocks s (omega arith))
-    (length-set (r .cells) n c ∙ h .cells s (omega arith))
 
 pub stored-same : (l : Ledger) (s n : ℕ) (k : VoteKind) (b : ℕ) → SameNode l (storeVote l s n k b)
 unfolding storeVote
@@ -39,22 +31,22 @@ stored-same l s n k b = record { own = refl; count = refl; total = refl; genesis
 
 -- ---- one state comes of another
 
-pub came-self : (o : State) → Placed (o .ledger) → Came o o
-came-self o h = record { fresh = []; grown = refl; spent = refl; still = λ _. refl; placed = h; same = same-node (o .ledger) }
+pub came-self : (o : State) → Sound (o .ledger) → Came o o
+came-self o h = record { fresh = []; grown = refl; spent = refl; still = λ _. refl; sound = h; same = same-node (o .ledger) }
 
 -- No record is lost.
 pub came-more : (o p : State) → Came o p → made o ≤ made p
 came-more o p c = omega (arith, ap (λ (rs : List Record). length rs) (c .grown), length-append (c .fresh) (o .records))
 
 -- A record more: the ledger that it leaves has one less to spend.
-came-one : (o p : State) (l : Ledger) (k s b : ℕ) → Came o p → Shaped (places l) l → SameNode (p .ledger) l → spare l + 1 ≡ spare (p .ledger) → Came o (report p l k s b)
+came-one : (o p : State) (l : Ledger) (k s b : ℕ) → Came o p → Sound l → SameNode (p .ledger) l → spare l + 1 ≡ spare (p .ledger) → Came o (report p l k s b)
 came-one o p l k s b c h n e =
     record {
       fresh = recordOf k s b ∷ c .fresh;
       grown = ap (λ (rs : List Record). recordOf k s b ∷ rs) (c .grown);
       spent = omega (arith, c .spent);
       still = λ q. absurd (omega (arith, came-more o p c));
-      placed = record { shaped = h; mine = omega (arith, n .own, ap length (n .stakes), c .placed .mine) };
+      sound = h;
       same =
           record {
             own = n .own ∙ c .same .own;
@@ -69,21 +61,21 @@ pub came-lawful : (o : State) → Lawful (Came o)
 unfolding cast
 came-lawful o =
     record {
-      vote = λ p s k b low high e m c.
+      sound = λ p c. c .sound;
+      vote = λ p s k b low high e m w c.
           came-one o p (storeVote (p .ledger) s (p .ledger .own) k b) (voteNumber k) s b c
-          (stored-shaped (p .ledger) s (p .ledger .own) k b (c .placed .shaped) high)
+          (sound-vote (p .ledger) (c .sound) s low high (p .ledger .own) k b (formed (p .ledger) (c .sound .formed) .head .mine) e (λ _. w))
           (stored-same (p .ledger) s (p .ledger .own) k b)
-          (spare-own (p .ledger) s (c .placed) low high k b e m);
+          (spare-own (p .ledger) s (sound-placed (p .ledger) (c .sound)) low high k b e m);
       arm = λ p s low high e c.
-          came-one o p (putArmed (p .ledger) s) 7 s 0 c (shaped-armed (p .ledger) s (c .placed .shaped))
+          came-one o p (putArmed (p .ledger) s) 7 s 0 c (sound-armed (p .ledger) (c .sound) s low high)
           (record { own = refl; count = refl; total = refl; genesis = refl; stakes = refl })
-          (spare-armed (p .ledger) s (c .placed) low high e);
+          (spare-armed (p .ledger) s (sound-placed (p .ledger) (c .sound)) low high e);
       tell = λ p s b low high e m c.
-          let r : Row = rowAt (p .ledger) s in
           came-one o p (putFinal (p .ledger) s b) 6 s b c
-          (shaped-row (p .ledger) s (record { blocks = r .blocks; timedOut = r .timedOut; final = b; cells = r .cells }) (c .placed .shaped) high (c .placed .shaped .blocks s (omega arith)) (c .placed .shaped .cells s (omega arith)))
+          (sound-final (p .ledger) (c .sound) s low high b)
           (record { own = refl; count = refl; total = refl; genesis = refl; stakes = refl })
-          (spare-final (p .ledger) s (c .placed) low high b e m);
+          (spare-final (p .ledger) s (sound-placed (p .ledger) (c .sound)) low high b e m);
     }
 
 pub came-trans : (o p q : State) → Came o p → Came p q → Came o q
@@ -96,7 +88,7 @@ came-trans o p q c d =
           let a = came-more o p c in
           let b = came-more p q d in
           d .still (omega arith) ∙ c .still (omega arith);
-      placed = d .placed;
+      sound = d .sound;
       same =
           record {
             own = d .same .own ∙ c .same .own;
@@ -109,7 +101,7 @@ came-trans o p q c d =
 
 -- ---- every part of a call
 
-module _ (o : State) (h : Placed (o .ledger)) where
+module _ (o : State) (h : Sound (o .ledger)) where
   module _ (s : ℕ) (a : 1 ≤ s) (b : s ≤ lastSlot) where
     pub skips-come : Came o (castSkips o s)
     skips-come = skips-keep (Came o) (came-lawful o) s a b o (came-self o h)

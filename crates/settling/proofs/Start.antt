@@ -12,10 +12,10 @@ use Rattle.rulebook.specs.declared.Refusal.the-variants as refusal
 use Rattle.rulebook.specs.declared.Verdict.the-variants.{Fine}
 use Rattle.rulebook.specs.Tools.{given, allTo}
 use Rattle.rulebook.specs.Weights.{mostNodes, placesFor, mostStake, lastSlot, windows, stakeIn, stakesFit, totalTo}
-use Rattle.rulebook.specs.Ledger.{Ledger, Row, none, noCell, mostBlocks, blankRow, noRow, places, rowAt, allBlocks, fresh}
+use Rattle.rulebook.specs.Ledger.{Ledger, Row, none, noCell, mostBlocks, blankRow, noRow, places, rowAt, ownCell, allBlocks, fresh}
 use Rattle.rulebook.specs.Run.{mostRecords}
 use Rattle.rulebook.specs.Inputs.{startVerdict}
-use Rattle.rulebook.specs.WellFormed.{Shaped, inOrder, cellFits, cellBlank, cellsFit, keptFits, blocksApart, blocksFit, blockBlank, rowBlank}
+use Rattle.rulebook.specs.WellFormed.{Shaped, inOrder, cellFits, cellBlank, cellsFit, keptFits, blocksApart, blocksFit, blockBlank, backs, ownFits, rowBlank}
 use Rattle.rulebook.proofs.PlaceLaws.{nodes-placed}
 use Rattle.rulebook.proofs.ToolLaws.{given-off, and-both, or-none, all-at, all-each, sum-same}
 use Rattle.settling.specs.Facts.{RowFacts, Formed, Sound}
@@ -24,7 +24,7 @@ use Rattle.rulebook.proofs.RuleLaws.{refuse-fine}
 use Rattle.settling.proofs.FactLaws.{well-formed}
 use Rattle.settling.proofs.SpareLaws.{spare-most}
 use Rattle.settling.proofs.Life.{life-paid}
-use Rattle.settling.proofs.Soundness.{sound-placed, life-sound}
+use Rattle.settling.proofs.Soundness.{life-sound}
 
 -- What is read of equal things, past their end too.
 pub replicate-all : {A : Type 0} (n i : ℕ) (x : A) → getD (replicate n x) i x ≡ x
@@ -63,6 +63,11 @@ blank-facts l s p =
       cells = λ n a b. ap cellFits (blank-cell p n) ∙ no-cell-fits;
       beyond = λ n a b. ap cellBlank (blank-cell p n) ∙ no-cell-blank;
     }
+
+-- Without own fallbacks there is nothing to weigh.
+own-blank : (l : Ledger) (s : ℕ) → ownCell l s ≡ noCell → ownFits l s ≡ true
+unfolding ownFits backs
+own-blank l s e = rw e
 
 row-zero : (l : Ledger) (p : ℕ) → rowAt l 0 ≡ blankRow p → rowBlank l ≡ true
 unfolding rowBlank cellsFit blankRow allBlocks blockBlank
@@ -123,6 +128,7 @@ module _ (stakes : List ℕ) (own genesis : ℕ) (e : startVerdict stakes own ge
               unused = λ n a b. stake-past stakes k n b;
             };
         blank = row-zero l p (getD-replicate (suc lastSlot) 0 (blankRow p) noRow (omega arith));
+        own = λ s a b. own-blank l s (ap (λ (r : Row). getD (r .cells) own noCell) (getD-replicate (suc lastSlot) s (blankRow p) noRow (omega arith)) ∙ blank-cell p own);
         rows = λ s a b. subst (RowFacts l s) (sym (getD-replicate (suc lastSlot) s (blankRow p) noRow (omega arith))) (blank-facts l s p);
       }
 
@@ -150,4 +156,4 @@ module _ (stakes : List ℕ) (own genesis : ℕ) (e : startVerdict stakes own ge
 
   pub start-within : (is : List Input) → length (life (fresh stakes own genesis) is) ≤ mostRecords
   start-within is =
-      omega (arith, life-paid (fresh stakes own genesis) is (sound-placed (fresh stakes own genesis) fresh-sound) .spent, spare-most (fresh stakes own genesis))
+      omega (arith, life-paid (fresh stakes own genesis) is fresh-sound .spent, spare-most (fresh stakes own genesis))

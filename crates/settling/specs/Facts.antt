@@ -7,7 +7,7 @@ use lib.Dec.{eqb}
 use Rattle.rulebook.specs.declared.Cell.{Cell}
 use Rattle.rulebook.specs.Weights.{mostNodes, placesFor, mostStake, lastSlot, windows, stakeIn, totalTo}
 use Rattle.rulebook.specs.Ledger.{Ledger, Row, none, noCell, places, rowAt}
-use Rattle.rulebook.specs.WellFormed.{Shaped, inOrder, cellFits, cellBlank, blocksFit, rowBlank, wellFormed}
+use Rattle.rulebook.specs.WellFormed.{Shaped, inOrder, cellFits, cellBlank, blocksFit, ownFits, rowBlank, wellFormed}
 
 -- A cell in range.
 pub record CellFacts (c : Cell) : Type 0 where
@@ -18,6 +18,18 @@ pub record CellFacts (c : Cell) : Type 0 where
   pub second : inOrder (c .fallback1) (c .fallback2) ≡ true
   pub third : inOrder (c .fallback2) (c .fallback3) ≡ true
   pub apart : (none (c .fallback3) || not (eqb (c .fallback1) (c .fallback3))) ≡ true
+
+-- From c to d no initial vote is lost.
+pub record Grown (c d : Cell) : Type 0 where
+  pub notar : (b : ℕ) → none b ≡ false → eqb (c .notar) b ≡ true → eqb (d .notar) b ≡ true
+  pub skip : none (c .skip) ≡ false → none (d .skip) ≡ false
+
+-- The two ledgers weigh alike.
+pub record SameTable (l m : Ledger) : Type 0 where
+  pub own : m .own ≡ l .own
+  pub count : m .count ≡ l .count
+  pub total : m .total ≡ l .total
+  pub stakes : m .stakes ≡ l .stakes
 
 -- A row in range, as row of slot s.
 pub record RowFacts (l : Ledger) (s : ℕ) (r : Row) : Type 0 where
@@ -44,6 +56,7 @@ pub record Formed (l : Ledger) : Type 0 where
   pub head : HeadFacts l
   pub blank : rowBlank l ≡ true
   pub rows : (s : ℕ) → 1 ≤ s → s ≤ lastSlot → RowFacts l s (rowAt l s)
+  pub own : (s : ℕ) → 1 ≤ s → s ≤ lastSlot → ownFits l s ≡ true
 
 -- A ledger of the right shape that 17 lets pass: what every call finds and leaves.
 pub record Sound (l : Ledger) : Type 0 where

@@ -1,23 +1,25 @@
 -- What the parts of a call do to a state: each record is made lawfully, paid from the potential, and what is not theirs stays.
 use mathlib.Core.Path.{_≡_}
-use mathlib.Core.Bool.{true, false}
+use mathlib.Core.Bool.{Bool, true, false}
 use mathlib.Core.List.{List, [], _∷_, _++_}
 use Prim.Native.Nat.{ℕ, _+_, _<_, _≤_}
 use Rattle.rulebook.specs.declared.Block.{Block}
 use Rattle.rulebook.specs.declared.Vote.{Vote}
 use Rattle.rulebook.specs.declared.VoteKind.{VoteKind}
+use Rattle.rulebook.specs.declared.VoteKind.the-variants as vote
 use Rattle.rulebook.specs.declared.Place.the-variants.{Free}
 use Rattle.rulebook.specs.declared.Input.{Input}
 use Rattle.rulebook.specs.Weights.{lastSlot}
 use Rattle.rulebook.specs.Ledger.{Ledger, none, places, rowAt, cellAt, ownCell, isArmed, blocksAt, someBlock, isFree, hasNumber, putArmed, putFinal}
 use Rattle.rulebook.specs.Votes.{placeOf}
-use Rattle.rulebook.specs.Rules.{Record, State, report, cast}
+use Rattle.rulebook.specs.Rules.{Record, State, report, cast, fallbackWeights}
 use Rattle.rulebook.specs.Run.{made, ruleAt, runFor, run}
 use Rattle.rulebook.specs.Inputs.{isOther, misfits, badParent, feed}
 use Rattle.rulebook.specs.WellFormed.{Shaped}
 use Rattle.settling.specs.Spare.{spare}
+use Rattle.settling.specs.Facts.{Sound}
 
--- A ledger with a place for everything, the own cells among them: all that settling asks.
+-- A ledger with a place for everything, the own cells among them: all that the potential asks.
 pub record Placed (l : Ledger) : Type 0 where
   pub shaped : Shaped (places l) l
   pub mine : l .own < places l
@@ -30,10 +32,21 @@ pub record SameNode (l m : Ledger) : Type 0 where
   pub genesis : m .genesis ≡ l .genesis
   pub stakes : m .stakes ≡ l .stakes
 
--- A property of states that every way of making a record keeps: an own vote into a free place, an arming, a final block told.
+-- A fallback that is cast has rule D's weights; of other votes nothing is asked.
+unfoldable pub weighed : Ledger → ℕ → VoteKind → ℕ → Bool
+weighed l s vote.Notar b = true
+weighed l s vote.NotarFallback b = fallbackWeights l s b
+weighed l s vote.Skip b = true
+weighed l s vote.SkipFallback b = true
+weighed l s vote.Final b = true
+weighed l s vote.Other b = true
+
+-- A property of states with sound ledgers that every way of making a record keeps: an own vote into a free place, an arming, a final block
+-- told.
 pub record Lawful (P : State → Type 0) : Type 1 where
+  pub sound : (o : State) → P o → Sound (o .ledger)
   pub vote : (o : State) (s : ℕ) (k : VoteKind) (b : ℕ) → 1 ≤ s → s ≤ lastSlot
-      → placeOf (ownCell (o .ledger) s) k b ≡ Free → misfits k b ≡ false → P o → P (cast o s k b)
+      → placeOf (ownCell (o .ledger) s) k b ≡ Free → misfits k b ≡ false → weighed (o .ledger) s k b ≡ true → P o → P (cast o s k b)
   pub arm : (o : State) (s : ℕ) → 1 ≤ s → s ≤ lastSlot
       → isArmed (o .ledger) s ≡ false → P o → P (report o (putArmed (o .ledger) s) 7 s 0)
   pub tell : (o : State) (s b : ℕ) → 1 ≤ s → s ≤ lastSlot
@@ -46,24 +59,19 @@ pub record Came (o p : State) : Type 0 where
   pub grown : p .records ≡ fresh ++ o .records
   pub spent : made p + spare (p .ledger) ≡ made o + spare (o .ledger)
   pub still : made p ≡ made o → p ≡ o
-  pub placed : Placed (p .ledger)
+  pub sound : Sound (p .ledger)
   pub same : SameNode (o .ledger) (p .ledger)
 
 -- What an accepted input, or a whole call, has made of a ledger: each record is paid from the potential.
 pub record Paid (l m : Ledger) (records : ℕ) : Type 0 where
   pub spent : records + spare m ≡ spare l
-  pub placed : Placed m
+  pub sound : Sound m
   pub same : SameNode l m
 
 -- No rule applies: each, in each slot, makes no record and gives the state back.
 pub record Settled (o : State) : Type 0 where
   pub quiet : (r s : ℕ) → 1 ≤ s → s ≤ lastSlot → made (ruleAt r o s) ≡ made o
   pub same : (r s : ℕ) → 1 ≤ s → s ≤ lastSlot → ruleAt r o s ≡ o
-
--- Rule r of slot s is next: none before it, in earlier slots or in its own, applies.
-pub record Passed (o : State) (s r : ℕ) : Type 0 where
-  pub slots : (t q : ℕ) → 1 ≤ t → t < s → q < 6 → ruleAt q o t ≡ o
-  pub rules : (q : ℕ) → q < r → ruleAt q o s ≡ o
 
 -- A run that began at state o has come to state p: as many scans are left as find no rule at last.
 pub record Running (o p : State) : Type 0 where

@@ -1,0 +1,111 @@
+-- What every call finds and leaves: a ledger of the right shape that is well-formed. Each writing keeps it so, and in it there is no fourth
+-- own fallback.
+use mathlib.Core.Path.{_≡_, _∙_}
+use mathlib.Core.Bool.{true, false}
+use Prim.Native.Nat.{ℕ, _<_, _≤_}
+use native.Mathlib.Omega.{arith}
+use lib.ListN.{set, length-set}
+use Rattle.rulebook.specs.declared.Cell.{Cell}
+use Rattle.rulebook.specs.declared.Block.{Block}
+use Rattle.rulebook.specs.declared.VoteKind.{VoteKind}
+use Rattle.rulebook.specs.declared.Place.the-variants.{Free}
+use Rattle.rulebook.specs.Weights.{lastSlot, stakeIn, totalTo}
+use Rattle.rulebook.specs.Ledger.{places, Ledger, Row, none, rowAt, cellAt, ownCell, blocksAt, fillBlock, putTimedOut, putFinal, putArmed}
+use Rattle.rulebook.specs.Pool.{hasFallback}
+use Rattle.rulebook.specs.Votes.{placeOf, withVote, storeVote}
+use Rattle.rulebook.specs.Rules.{fallbackWeights}
+use Rattle.rulebook.specs.Inputs.{keepBlock}
+use Rattle.rulebook.specs.WellFormed.{Shaped}
+use Rattle.rulebook.proofs.ToolLaws.{sum-term}
+use Rattle.rulebook.proofs.BlockLaws.{fill-length}
+use Rattle.rulebook.proofs.FourthLaws.{Counted}
+use Rattle.settling.specs.Facts.{CellFacts, HeadFacts, Sound}
+use Rattle.settling.specs.Steps.{Placed, weighed, BlockFine}
+use Rattle.settling.proofs.Places.{shaped-row, shaped-armed}
+use Rattle.settling.proofs.FactLaws.{formed, well-formed, count-placed, cell-facts}
+use Rattle.settling.proofs.FormedLaws.{formed-vote, formed-blocks, formed-timedOut, formed-final, formed-armed, fine-blocks}
+use Rattle.settling.proofs.Weighing.{third-free}
+
+-- ---- the shape
+
+pub stored-shaped : (l : Ledger) (s n : ℕ) (k : VoteKind) (b : ℕ) → Shaped (places l) l → s ≤ lastSlot → Shaped (places (storeVote l s n k b)) (storeVote l s n k b)
+unfolding storeVote
+stored-shaped l s n k b h a =
+    let r : Row = rowAt l s in
+    let c : Cell = withVote (cellAt l s n) k b in
+    shaped-row l s (record { blocks = r .blocks; timedOut = r .timedOut; final = r .final; cells = set (r .cells) n c }) h a (h .blocks s (omega arith))
+    (length-set (r .cells) n c ∙ h .cells s (omega arith))
+
+module _ (l : Ledger) (h : Placed l) where
+  pub kept-shaped : (s : ℕ) (b : Block) → s ≤ lastSlot → Shaped (places (keepBlock l s b)) (keepBlock l s b)
+  unfolding keepBlock
+  kept-shaped s b a =
+      let r : Row = rowAt l s in
+      shaped-row l s (record { blocks = fillBlock b (r .blocks); timedOut = r .timedOut; final = r .final; cells = r .cells }) (h .shaped) a
+      (fill-length b (r .blocks) ∙ h .shaped .blocks s (omega arith)) (h .shaped .cells s (omega arith))
+
+  pub timedOut-shaped : (s : ℕ) → s ≤ lastSlot → Shaped (places (putTimedOut l s)) (putTimedOut l s)
+  timedOut-shaped s a =
+      let r : Row = rowAt l s in
+      shaped-row l s (record { blocks = r .blocks; timedOut = 1; final = r .final; cells = r .cells }) (h .shaped) a (h .shaped .blocks s (omega arith)) (h .shaped .cells s (omega arith))
+
+-- A sound ledger has a place for the own cells.
+pub sound-placed : (l : Ledger) → Sound l → Placed l
+sound-placed l h = let d = formed l (h .formed) .head in record { shaped = h .shaped; mine = omega (arith, d .mine, count-placed l d) }
+
+-- ---- each writing
+
+module _ (l : Ledger) (h : Sound l) (s : ℕ) (a : 1 ≤ s) (b : s ≤ lastSlot) where
+  pub sound-vote : (n : ℕ) (k : VoteKind) (x : ℕ) → n < l .count → placeOf (cellAt l s n) k x ≡ Free → (n ≡ l .own → weighed l s k x ≡ true) → Sound (storeVote l s n k x)
+  sound-vote n k x low e w =
+      record {
+        shaped = stored-shaped l s n k x (h .shaped) b;
+        formed = well-formed (storeVote l s n k x) (formed-vote l (h .shaped) (formed l (h .formed)) s a b n k x low e w);
+      }
+
+  pub sound-kept : (x : Block) → BlockFine l s x → Sound (keepBlock l s x)
+  unfolding keepBlock
+  sound-kept x e =
+      record {
+        shaped = kept-shaped l (sound-placed l h) s x b;
+        formed = well-formed (keepBlock l s x) (formed-blocks l (h .shaped) (formed l (h .formed)) s a b (fillBlock x (blocksAt l s)) (fine-blocks l s x e (formed l (h .formed) .rows s a b .blocks)));
+      }
+
+  pub sound-timedOut : Sound (putTimedOut l s)
+  sound-timedOut =
+      record {
+        shaped = timedOut-shaped l (sound-placed l h) s b;
+        formed = well-formed (putTimedOut l s) (formed-timedOut l (h .shaped) (formed l (h .formed)) s a b);
+      }
+
+  pub sound-final : (x : ℕ) → Sound (putFinal l s x)
+  sound-final x =
+      let r : Row = rowAt l s in
+      record {
+        shaped = shaped-row l s (record { blocks = r .blocks; timedOut = r .timedOut; final = x; cells = r .cells }) (h .shaped) b (h .shaped .blocks s (omega arith)) (h .shaped .cells s (omega arith));
+        formed = well-formed (putFinal l s x) (formed-final l (h .shaped) (formed l (h .formed)) s a b x);
+      }
+
+  pub sound-armed : Sound (putArmed l s)
+  sound-armed =
+      record {
+        shaped = shaped-armed l s (h .shaped);
+        formed = well-formed (putArmed l s) (formed-armed l (h .shaped) (formed l (h .formed)) s a b);
+      }
+
+-- ---- no fourth own fallback
+
+some-stake : (l : Ledger) → HeadFacts l → 1 ≤ l .total
+unfolding totalTo
+some-stake l d = omega (arith, d .sum, d .staked (l .own) (d .mine), sum-term (l .count) (l .own) (stakeIn (l .stakes)) (d .mine))
+
+-- A block with rule D's weights that is not among the own fallbacks finds a free place.
+pub fourth-free : (l : Ledger) → Sound l → (s : ℕ) → 1 ≤ s → s ≤ lastSlot → (b : ℕ) → none b ≡ false → fallbackWeights l s b ≡ true
+    → hasFallback b (ownCell l s) ≡ false → none (ownCell l s .fallback3) ≡ true
+fourth-free l h s low high b nb w new =
+    let f = formed l (h .formed) in
+    let d = f .head in
+    let few = count-placed l d in
+    let facts : (n : ℕ) → n < l .count → CellFacts (cellAt l s n) = λ n k. cell-facts (cellAt l s n) (f .rows s low high .cells n (omega arith) k) in
+    let counted : Counted l s = record { sum = d .sum; some = some-stake l d; initial = λ n k. facts n k .initial } in
+    third-free l s b counted (facts (l .own) (d .mine)) (f .own s low high) (record { block = nb; weights = w }) new
