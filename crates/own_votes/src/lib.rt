@@ -15,12 +15,12 @@ pub fn may_final(c: Cell) -> bool
     ((c.notar != 0) & (c.finalvote == 0)) & ((c.fallback1 == 0) & (c.skipfallback == 0))
 }
 
-// D: no own final, notar-fallback b not cast, and not three others.
+// D: no own final, notar-fallback b not cast.
 pub fn may_fallback(c: Cell, b: u64) -> bool
     ensures { λ r. ⌜ r ≡ mayFallback c b ⌝ }
 {
     let cast = has_fallback(b, c);
-    (c.finalvote == 0) & (!cast & (c.fallback3 == 0))
+    (c.finalvote == 0) & !cast
 }
 
 // E: no own final, skip-fallback not cast.
