@@ -7,26 +7,28 @@ use native.Mathlib.Omega.{arith}
 use lib.ListN.{length, getD, take, List·getD-eq-default}
 use lib.Seq.{getD-take, length-take-le}
 use lib.Dec.{eqb, leb}
-use borrow.Author.Tests.{leb-true}
+use borrow.Author.Tests.{leb-true, eq-eqb, ne-eqb}
 use Rattle.rulebook.specs.Tools.{allTo, sumTo}
 use Rattle.rulebook.specs.Weights.{mostNodes, mostStake, lastSlot, stakeIn, totalTo, stakesFit}
 use Rattle.rulebook.specs.declared.Block.{Block}
-use Rattle.rulebook.specs.Ledger.{Ledger, noBlock, mostBlocks, places, blocksAt, allBlocks}
-use Rattle.rulebook.specs.WellFormed.{keptFits, blocksFit, rowFits, rowBlank, headFits, wellFormed}
+use Rattle.rulebook.specs.declared.Cell.{Cell}
+use Rattle.rulebook.specs.Ledger.{Ledger, noBlock, mostBlocks, places, ownCell, blocksAt, allBlocks}
+use Rattle.rulebook.specs.Rules.{fallbackWeights}
+use Rattle.rulebook.specs.WellFormed.{keptFits, blocksFit, backs, ownFits, rowFits, rowBlank, headFits, wellFormed}
 use Rattle.rulebook.proofs.ToolLaws.{given-on, given-off, and-both, by-test, all-at, all-more, all-same, sum-same, sum-term}
 use Rattle.stakes.specs.declared.StakeTable.{StakeTable}
 use Rattle.stakes.specs.declared.Made.{Made}
 use Rattle.stakes.specs.Table.{tableOf, madeOf}
 use Rattle.stakes.proofs.Laws.{made-fits, made-table}
 use Rattle.settling.specs.Facts.{HeadFacts, Sound}
-use Rattle.settling.proofs.FactLaws.{formed, count-placed}
+use Rattle.settling.proofs.FactLaws.{head-facts, formed, count-placed}
 use Rattle.record.specs.Layout.{isLong, Long, ledgerOf, Counted}
 use Rattle.record.specs.Tabled.{Tabled}
 use Rattle.record.specs.BlockPlaces.{behind}
 use Rattle.record.proofs.Places.{long-true}
 use Rattle.record.proofs.Reading.{ledger-shaped}
 use Rattle.record.proofs.BlockPlaces.{all-places, both-places}
-use Rattle.soundness.specs.Sound.{soundWords}
+use Rattle.soundness.specs.Sound.{soundWords, Headed}
 
 -- ---- a loop that joins tests
 
@@ -107,6 +109,37 @@ stakes-many l b h =
     absurd (omega (arith, past, List·getD-eq-default (l .stakes) 0 {n = places l} (omega arith))))
     (λ t. rw t)
 
+-- ---- the own fallbacks
+
+module _ (l : Ledger) (s b : ℕ) where
+  pub backs-none : b ≡ 0 → true ≡ backs l s b
+  unfolding backs
+  backs-none e = rw (eq-eqb b 0 e)
+
+  pub backs-some : (b ≡ 0 → ⊥) → fallbackWeights l s b ≡ backs l s b
+  unfolding backs
+  backs-some e = rw (ne-eqb b 0 e)
+
+pub own-joined : (l : Ledger) (s : ℕ) (c : Cell) (x y z : Bool) → c ≡ ownCell l s → x ≡ backs l s (c .fallback1) → y ≡ backs l s (c .fallback2)
+    → z ≡ backs l s (c .fallback3) → (x && (y && z)) ≡ ownFits l s
+unfolding ownFits
+own-joined l s c x y z e f g h =
+    (λ i. f i && (g i && h i)) ∙ ap (λ (d : Cell). backs l s (d .fallback1) && (backs l s (d .fallback2) && backs l s (d .fallback3))) e
+
+-- ---- the table of stakes
+
+-- A ledger whose head is in range has one.
+pub head-tabled : (l : Ledger) → HeadFacts l → Tabled l
+unfolding totalTo
+head-tabled l d =
+    record {
+      few = count-placed l d;
+      own = omega (arith, d .mine, count-placed l d);
+      sum = d .sum;
+      some = omega (arith, d .staked 0 (d .some), sum-term (l .count) 0 (stakeIn (l .stakes)) (d .some), d .sum);
+      light = d .small;
+    }
+
 -- ---- the ways through the test
 
 pub short-unsound : (ws : List ℕ) → isLong ws ≡ false → false ≡ soundWords ws
@@ -125,6 +158,10 @@ module _ (ws : List ℕ) (long : isLong ws ≡ true) where
   pub blank-unsound : headFits (ledgerOf ws) ≡ true → rowBlank (ledgerOf ws) ≡ false → false ≡ soundWords ws
   unfolding wellFormed
   blank-unsound h b = sym (test-whole ∙ given-on (headFits (ledgerOf ws)) false _ h ∙ given-off (rowBlank (ledgerOf ws)) false _ b)
+
+  -- The rows are looked at only where the head is in range.
+  pub rows-headed : headFits (ledgerOf ws) ≡ true → Headed ws
+  rows-headed h = record { long = long-true ws long; table = head-tabled (ledgerOf ws) (head-facts (ledgerOf ws) h) }
 
   pub rows-decide : (r : Bool) → headFits (ledgerOf ws) ≡ true → rowBlank (ledgerOf ws) ≡ true → r ≡ allTo lastSlot (λ i. rowFits (ledgerOf ws) (suc i)) → r ≡ soundWords ws
   unfolding wellFormed
@@ -157,14 +194,4 @@ sound-counted ws e = record { long = sound-long ws e; few = sound-placed ws e }
 
 -- A sound record's stakes are a table.
 pub sound-tabled : (ws : List ℕ) → soundWords ws ≡ true → Tabled (ledgerOf ws)
-unfolding totalTo
-sound-tabled ws e =
-    let l = ledgerOf ws in
-    let d = sound-head ws e in
-    record {
-      few = sound-placed ws e;
-      own = omega (arith, d .mine, sound-placed ws e);
-      sum = d .sum;
-      some = omega (arith, d .staked 0 (d .some), sum-term (l .count) 0 (stakeIn (l .stakes)) (d .some), d .sum);
-      light = d .small;
-    }
+sound-tabled ws e = head-tabled (ledgerOf ws) (sound-head ws e)

@@ -8,11 +8,13 @@ ghost use Rattle.rulebook.specs.Tools.{given, allTo};
 ghost use Rattle.rulebook.specs.Weights.{lastSlot, windows, stakeIn, stakesFit, totalTo};
 ghost use Rattle.rulebook.specs.Ledger.{none, places, blocksAt, allBlocks, fresh};
 ghost use Rattle.rulebook.specs.Inputs.{badParent};
-ghost use Rattle.rulebook.specs.WellFormed.{flag, inOrder, cellFits, cellBlank, cellsFit, keptFits, blocksFit, rowFits, blockBlank, rowBlank, headFits};
+ghost use Rattle.rulebook.specs.WellFormed.{flag, inOrder, cellFits, cellBlank, cellsFit, keptFits, blocksFit, backs, ownFits, rowFits, blockBlank, rowBlank, headFits};
 ghost use Rattle.record.specs.Layout.{Long, InSlot, InBlocks, ledgerOf};
 ghost use Rattle.record.specs.BlockPlaces.{behind};
-ghost use Rattle.soundness.specs.Sound.{soundWords};
+ghost use Rattle.pool.specs.Weighing.{Weighing};
+ghost use Rattle.soundness.specs.Sound.{Headed, soundWords};
 ghost use Rattle.soundness.specs.Starting.{SetUp, StartOf};
+use candidates::fallback_weights;
 use record::LAST_SLOT;
 use record::MOST_BLOCKS;
 use record::WINDOWS;
@@ -25,6 +27,7 @@ use record::is_long;
 use record::load_block;
 use record::load_cell;
 use record::own;
+use record::own_cell;
 use record::places_for;
 use record::places_in;
 use record::record_words;
@@ -151,15 +154,39 @@ fn blocks_fit(rec: &[u64], s: Slot) -> bool
     ok
 }
 
+// No block, or one that reaches rule D's weights.
+fn backs(rec: &[u64], s: Slot, b: u64) -> bool
+    requires { ⌜ Weighing (now rec) (s .0) ⌝ }
+    ensures { λ r. ⌜ r ≡ backs (ledgerOf (now (rec .entry))) (s .0) b ⌝ }
+{
+    if b == 0 {
+        return true;
+    }
+    fallback_weights(rec, s, b)
+}
+
+// The own fallbacks of a slot, each by the votes stored there. Nothing is weighed where there is none.
+fn own_fits(rec: &[u64], s: Slot) -> bool
+    requires { ⌜ Weighing (now rec) (s .0) ⌝ }
+    ensures { λ r. ⌜ r ≡ ownFits (ledgerOf (now (rec .entry))) (s .0) ⌝ }
+{
+    let c = own_cell(rec, s);
+    let first = backs(rec, s, c.fallback1);
+    let second = backs(rec, s, c.fallback2);
+    let third = backs(rec, s, c.fallback3);
+    first & (second & third)
+}
+
 // The row of one of the slots 1 to 16.
 fn row_fits(rec: &[u64], s: Slot) -> bool
-    requires { ⌜ InSlot (now rec) (s .0) ⌝ }
+    requires { ⌜ Weighing (now rec) (s .0) ⌝ }
     ensures { λ r. ⌜ r ≡ rowFits (ledgerOf (now (rec .entry))) (s .0) ⌝ }
 {
     let kept = blocks_fit(rec, s);
     let marked = timeout_word(rec, s) <= 1;
     let cells = cells_fit(rec, s, count(rec));
-    kept & (marked & cells)
+    let own = own_fits(rec, s);
+    kept & (marked & (cells & own))
 }
 
 // A place with nothing in it.
@@ -196,7 +223,7 @@ fn row_blank(rec: &[u64]) -> bool
 
 // The rows of slots 1 to 16.
 fn rows_fit(rec: &[u64]) -> bool
-    requires { ⌜ Long (now rec) ⌝ }
+    requires { ⌜ Headed (now rec) ⌝ }
     ensures { λ r. ⌜ r ≡ allTo lastSlot (λ i. rowFits (ledgerOf (now (rec .entry))) (suc i)) ⌝ }
 {
     let mut ok = true;

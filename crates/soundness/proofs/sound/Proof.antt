@@ -3,7 +3,7 @@ use mathlib.Core.Path.{_∙_, sym}
 use borrow.Author.Tests.{not-true, not-false}
 use borrow.Author.Needs.{needs}
 use Rattle.record.proofs.Places.{long-true}
-use Rattle.soundness.proofs.Laws.{short-unsound, head-unsound, blank-unsound, rows-decide}
+use Rattle.soundness.proofs.Laws.{short-unsound, head-unsound, blank-unsound, rows-headed, rows-decide}
 use Rattle.soundness.proofs.sound.Statement.{statement}
 use Rattle.soundness.proofs.sound.Tie as tie
 
@@ -32,7 +32,7 @@ returns-3 c =
 
 rows-fit-requires : tie.Need-rows-fit-requires
 rows-fit-requires c κs =
-    long-true _ (sym (c .before .before .before .before .before .is-long .ensures) ∙ not-false _ (c .before .before .before .before .if1 .left))
+    rows-headed _ (sym (c .before .before .before .before .before .is-long .ensures) ∙ not-false _ (c .before .before .before .before .if1 .left)) (sym (c .before .before .before .head-fits .ensures) ∙ not-false _ (c .before .before .if2 .left))
 
 returns-4 : tie.Need-returns-4
 returns-4 c =
