@@ -2,25 +2,26 @@
 use mathlib.Core.Path.{_≡_, refl, sym, ap, _∙_}
 use mathlib.Core.Bool.{Bool, true, false, not, _&&_, _||_}
 use mathlib.Core.List.{List}
-use Prim.Native.Nat.{ℕ, _-_, _≤_}
-use lib.Dec.{eqb}
-use borrow.Author.Tests.{not-true, eqb-true, eqb-false, ne-eqb}
+use Prim.Native.Nat.{ℕ, _≤_}
+use borrow.Author.Tests.{ne-eqb}
 use Rattle.rulebook.specs.declared.Cell.{Cell}
-use Rattle.rulebook.specs.declared.Block.{Block}
 use Rattle.rulebook.specs.declared.VoteKind.the-variants as vote
 use Rattle.rulebook.specs.Weights.{lastSlot}
 use Rattle.rulebook.specs.Ledger.{none, noInitial, ownCell}
-use Rattle.rulebook.specs.Pool.{hasFallback}
 use Rattle.rulebook.specs.Inputs.{misfits}
-use Rattle.rulebook.specs.Rules.{State, cast, castSkips, ruleD, ruleE, mayFallback, fallbackBlock, castFallback, windowOpen, maySkipFallback, skipWeights, castSkipFallback}
-use Rattle.rulebook.proofs.ToolLaws.{given-on, given-off, given-keeps, and-both, or-none}
-use Rattle.settling.specs.Steps.{Placed, Came}
-use Rattle.settling.proofs.VoteLaws.{fallback-free, skipfallback-free}
+use Rattle.rulebook.specs.Rules.{State, cast, castSkips, ruleD, ruleE, mayFallback, fallbackWeights, fallbackBlock, castFallback, windowOpen, maySkipFallback, skipWeights, castSkipFallback}
+use Rattle.rulebook.proofs.ToolLaws.{given-on, given-off, given-keeps, and-both}
+use Rattle.record.specs.Layout.{ledgerOf}
+use Rattle.settling.specs.Facts.{Sound}
+use Rattle.settling.specs.Steps.{Came, weighed}
+use Rattle.settling.proofs.VoteLaws.{skipfallback-free}
+use Rattle.settling.proofs.LawfulRules.{falls-weigh, skips-weigh, behind-keeps}
 use Rattle.settling.proofs.Spending.{came-self, came-lawful}
 use Rattle.voter.specs.Outbox.{stateIn}
-use Rattle.voter.specs.Voting.{Onward}
+use Rattle.voter.specs.Voting.{LiveAt, Onward}
 use Rattle.voter.proofs.LiveLaws.{onward-then}
 use Rattle.fallbacks.specs.Fallbacks.{addNotarFallback, addSkipFallback}
+use Rattle.fallbacks.specs.UnderWay.{WeighedAt}
 
 module _ (o : State) (s : ℕ) where
   -- ---- D
@@ -76,33 +77,41 @@ module _ (o : State) (s : ℕ) where
 
 -- ---- what D and E cast behind the skips is paid from the potential
 
--- Block 0 is never fallen back to: where the third place is free it reads 0.
-may-block : (c : Cell) (b : ℕ) → hasFallback b c ≡ false → none (c .fallback3) ≡ true → none b ≡ false
-unfolding hasFallback
-may-block c b e f =
-    let p = or-none (eqb (c .fallback2) b) (eqb (c .fallback3) b) (or-none (eqb (c .fallback1) b) (eqb (c .fallback2) b || eqb (c .fallback3) b) e .1) in
-    ne-eqb b 0 (λ z. eqb-false (c .fallback3) b (p .1) (eqb-true (c .fallback3) 0 f ∙ sym z))
-
-module _ (o : State) (s : ℕ) (h : Placed (o .ledger)) (low : 1 ≤ s) (high : s ≤ lastSlot) where
-  pub fallback-comes : (b : ℕ) → Came o (addNotarFallback o s b)
-  unfolding addNotarFallback mayFallback misfits
-  fallback-comes b =
-      let c : Cell = ownCell (o .ledger) s in
-      given-keeps (Came o) (mayFallback c b) o (λ _. cast o s vote.NotarFallback b) (came-self o h)
-      (λ e.
-      let p = and-both (none (c .finalvote)) (not (hasFallback b c) && none (c .fallback3)) e in
-      let q = and-both (not (hasFallback b c)) (none (c .fallback3)) (p .1) in
-      let f = not-true (hasFallback b c) (q .0) in
-      came-lawful o .vote o s vote.NotarFallback b low high (fallback-free c b f (q .1)) (may-block c b f (q .1)) (came-self o h))
+module _ (o : State) (s : ℕ) (h : Sound (o .ledger)) (low : 1 ≤ s) (high : s ≤ lastSlot) where
+  pub fallback-comes : (b : ℕ) → none b ≡ false → fallbackWeights (o .ledger) s b ≡ true → Came o (addNotarFallback o s b)
+  unfolding addNotarFallback
+  fallback-comes b m w = behind-keeps (Came o) (came-lawful o) s low high o b m w (came-self o h)
 
   pub skipFallback-comes : Came o (addSkipFallback o s)
-  unfolding addSkipFallback maySkipFallback misfits
+  unfolding addSkipFallback maySkipFallback misfits weighed
   skipFallback-comes =
       let c : Cell = ownCell (o .ledger) s in
       given-keeps (Came o) (maySkipFallback c) o (λ _. cast o s vote.SkipFallback 0) (came-self o h)
-      (λ e. came-lawful o .vote o s vote.SkipFallback 0 low high (skipfallback-free c (and-both (none (c .finalvote)) (none (c .skipfallback)) e .1)) refl (came-self o h))
+      (λ e. came-lawful o .vote o s vote.SkipFallback 0 low high (skipfallback-free c (and-both (none (c .finalvote)) (none (c .skipfallback)) e .1)) refl refl (came-self o h))
 
 -- ---- the skips, then the fallback
+
+-- The block that D acts on has its weights.
+pub weighed-block : {ws out : List ℕ} {at s b : ℕ} → LiveAt ws out at s → b ≡ fallbackBlock (ledgerOf ws) s → (b ≡ 0 → ⊥) → WeighedAt ws out at s b
+weighed-block {ws = ws} {s = s} {b = b} v e ne =
+    let m : none (fallbackBlock (ledgerOf ws) s) ≡ false = ne-eqb (fallbackBlock (ledgerOf ws) s) 0 (λ z. ne (e ∙ z)) in
+    record {
+      live = v;
+      block = ne-eqb b 0 ne;
+      weights = ap (λ (x : ℕ). fallbackWeights (ledgerOf ws) s x) e ∙ falls-weigh (ledgerOf ws) s m;
+    }
+
+-- The skips leave rule D's weights as they were reached.
+pub weighed-behind : {ws out ws' out' : List ℕ} {at now s b : ℕ} → WeighedAt ws out at s b → Onward ws out at ws' out' now (castSkips (stateIn ws out at) s)
+    → WeighedAt ws' out' now s b
+weighed-behind {ws = ws} {out = out} {at = at} {s = s} {b = b} v a =
+    let o : State = stateIn ws out at in
+    let k = skips-weigh (Came o) (came-lawful o) s (v .live .low) (v .live .high) o b (v .block) (v .weights) (came-self o (v .live .live .sound)) in
+    record {
+      live = record { live = a .live; low = v .live .low; high = v .live .high };
+      block = v .block;
+      weights = ap (λ (x : State). fallbackWeights (x .ledger) s b) (a .moved .is) ∙ k .1;
+    }
 
 module _ {ws out ws' out' ws'' out'' : List ℕ} {at now now' : ℕ} (s : ℕ) (skips : Onward ws out at ws' out' now (castSkips (stateIn ws out at) s)) where
   pub then-fallback : (b : ℕ) → Onward ws' out' now ws'' out'' now' (addNotarFallback (stateIn ws' out' now) s b)

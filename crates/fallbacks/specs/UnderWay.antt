@@ -1,6 +1,10 @@
 -- What running the rules asks of the lent memory.
+use mathlib.Core.Path.{_≡_}
+use mathlib.Core.Bool.{true, false}
 use mathlib.Core.List.{List}
 use Prim.Native.Nat.{ℕ}
+use Rattle.rulebook.specs.Ledger.{none}
+use Rattle.rulebook.specs.Rules.{fallbackWeights}
 use Rattle.record.specs.Layout.{ledgerOf}
 use Rattle.record.specs.Tabled.{Tabled}
 use Rattle.voter.specs.Voting.{Live, LiveAt}
@@ -14,3 +18,9 @@ pub record UnderWay (ws out : List ℕ) (at : ℕ) : Type 0 where
 pub record UnderWayAt (ws out : List ℕ) (at s : ℕ) : Type 0 where
   pub live : LiveAt ws out at s
   pub table : Tabled (ledgerOf ws)
+
+-- A call is under way at slot s, and block b has rule D's weights there.
+pub record WeighedAt (ws out : List ℕ) (at s b : ℕ) : Type 0 where
+  pub live : LiveAt ws out at s
+  pub block : none b ≡ false
+  pub weights : fallbackWeights (ledgerOf ws) s b ≡ true

@@ -8,7 +8,7 @@ ghost use Rattle.voter.specs.Outbox.{stateIn};
 ghost use Rattle.voter.specs.Voting.{LiveAt, Onward};
 ghost use Rattle.candidates.specs.Judging.{Judging};
 ghost use Rattle.fallbacks.specs.Fallbacks.{addNotarFallback, addSkipFallback};
-ghost use Rattle.fallbacks.specs.UnderWay.{UnderWayAt};
+ghost use Rattle.fallbacks.specs.UnderWay.{UnderWayAt, WeighedAt};
 use candidates::fallback_block;
 use candidates::skip_weights;
 use own_votes::may_fallback;
@@ -21,9 +21,9 @@ use voter::cast_skips;
 use voter::cast_vote;
 use voter::no_initial;
 
-// D's last cast: without an own final, notar-fallback b unless already cast or three were cast.
+// D's last cast: without an own final, notar-fallback b unless already cast. Where b has D's weights it finds a place.
 fn add_notar_fallback(rec: &mut [u64], outbox: &mut [u64], at: usize, s: Slot, b: u64) -> usize
-    requires { ⌜ LiveAt (now rec) (now outbox) at (s .0) ⌝ }
+    requires { ⌜ WeighedAt (now rec) (now outbox) at (s .0) b ⌝ }
     ensures { λ r. ⌜ Onward (now (rec .entry)) (now (outbox .entry)) at (now (rec .exit)) (now (outbox .exit)) r (addNotarFallback (stateIn (now (rec .entry)) (now (outbox .entry)) at) (s .0) b) ⌝ }
 {
     if may_fallback(own_cell(rec, s), b) {
@@ -34,7 +34,7 @@ fn add_notar_fallback(rec: &mut [u64], outbox: &mut [u64], at: usize, s: Slot, b
 
 // D's casts for its block: skips for the window, then the fallback.
 fn cast_fallback(rec: &mut [u64], outbox: &mut [u64], at: usize, s: Slot, b: u64) -> usize
-    requires { ⌜ LiveAt (now rec) (now outbox) at (s .0) ⌝ }
+    requires { ⌜ WeighedAt (now rec) (now outbox) at (s .0) b ⌝ }
     ensures { λ r. ⌜ Onward (now (rec .entry)) (now (outbox .entry)) at (now (rec .exit)) (now (outbox .exit)) r (castFallback (stateIn (now (rec .entry)) (now (outbox .entry)) at) (s .0) b) ⌝ }
 {
     let skipped = cast_skips(rec, outbox, at, s);

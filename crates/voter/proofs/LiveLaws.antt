@@ -1,16 +1,17 @@
 -- A call goes on: what is paid from the potential keeps the outbox's room, and parts of a call follow each other. Assumes nothing.
-use mathlib.Core.Path.{_≡_, ap, _∙_}
+use mathlib.Core.Path.{_≡_, sym, ap, _∙_, subst}
 use mathlib.Core.List.{List}
-use Prim.Native.Nat.{ℕ}
+use Prim.Native.Nat.{ℕ, _<_}
 use native.Mathlib.Omega.{arith}
 use lib.ListN.{length}
-use Rattle.rulebook.specs.Ledger.{Ledger}
+use Rattle.rulebook.specs.Ledger.{Ledger, places}
 use Rattle.rulebook.specs.Rules.{State}
-use Rattle.record.specs.Layout.{ledgerOf}
+use Rattle.record.specs.Layout.{OwnIn, ledgerOf}
 use Rattle.record.proofs.Places.{long-same}
-use Rattle.record.proofs.Reading.{ledger-shaped}
+use Rattle.settling.specs.Facts.{Sound}
 use Rattle.settling.specs.Spare.{spare}
-use Rattle.settling.specs.Steps.{Placed, SameNode, Came}
+use Rattle.settling.specs.Steps.{SameNode, Came}
+use Rattle.settling.proofs.Sounding.{sound-placed}
 use Rattle.settling.proofs.Spending.{same-node}
 use Rattle.voter.specs.Outbox.{stateIn, Moved}
 use Rattle.voter.specs.Voting.{Castable, Live, LiveAt, Onward}
@@ -27,16 +28,19 @@ node-then a b =
       stakes = b .stakes ∙ a .stakes;
     }
 
--- The ledger has a place for everything.
-pub live-placed : {ws out : List ℕ} {at : ℕ} → Live ws out at → Placed (ledgerOf ws)
-live-placed {ws = ws} v = record { shaped = ledger-shaped ws; mine = v .own }
+-- The own node has a cell in every slot.
+pub live-own : {ws out : List ℕ} {at : ℕ} → Live ws out at → ledgerOf ws .own < places (ledgerOf ws)
+live-own {ws = ws} v = sound-placed (ledgerOf ws) (v .sound) .mine
+
+pub live-owned : {ws out : List ℕ} {at s : ℕ} → LiveAt ws out at s → OwnIn ws s
+live-owned v = record { long = v .live .long; slot = omega (arith, v .high); own = live-own (v .live) }
 
 pub live-castable : {ws out : List ℕ} {at s : ℕ} → LiveAt ws out at s → Castable ws out at s
 live-castable v =
     record {
       long = v .live .long;
       slot = omega (arith, v .high);
-      own = v .live .own;
+      own = live-own (v .live);
       room = omega (arith, v .live .budget, v .live .room);
     }
 
@@ -53,7 +57,7 @@ module _ {ws out : List ℕ} {at : ℕ} (v : Live ws out at) where
             record {
               long = long-same ws ws' e (v .long);
               room = omega (arith, f, v .room);
-              own = omega (arith, mine, ap length stakes, v .own);
+              sound = subst (λ (x : State). Sound (x .ledger)) (sym (m .is)) (c .sound);
               budget =
                   omega (
                     arith,

@@ -9,6 +9,7 @@ use Rattle.rulebook.specs.Rules.{State}
 use Rattle.rulebook.specs.Run.{mostRecords}
 use Rattle.rulebook.specs.WellFormed.{outboxWords}
 use Rattle.record.specs.Layout.{Long, ledgerOf}
+use Rattle.settling.specs.Facts.{Sound}
 use Rattle.settling.specs.Spare.{spare}
 use Rattle.settling.specs.Steps.{SameNode}
 use Rattle.voter.specs.Outbox.{Moved}
@@ -20,11 +21,11 @@ pub record Castable (ws out : List ℕ) (at s : ℕ) : Type 0 where
   pub own : ledgerOf ws .own < places (ledgerOf ws)
   pub room : 3 * at + 2 < length out
 
--- A call is under way: the words hold a ledger, and the outbox has room for all that can still be told.
+-- A call is under way: the words hold a sound ledger, and the outbox has room for all that can still be told.
 pub record Live (ws out : List ℕ) (at : ℕ) : Type 0 where
   pub long : Long ws
   pub room : outboxWords ≤ length out
-  pub own : ledgerOf ws .own < places (ledgerOf ws)
+  pub sound : Sound (ledgerOf ws)
   pub budget : at + spare (ledgerOf ws) ≤ mostRecords
 
 -- Likewise, at one of the slots 1 to 16.
