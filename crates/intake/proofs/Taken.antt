@@ -1,5 +1,5 @@
 -- What was stored is free, so that a call can go on; a timeout's skips follow it. Assumes nothing.
-use mathlib.Core.Path.{_≡_, refl, sym, ap, _∙_}
+use mathlib.Core.Path.{_≡_, refl, sym, ap, _∙_, subst}
 use mathlib.Core.Bool.{Bool, true, false}
 use mathlib.Core.List.{List, [], _∷_}
 use Prim.Native.Nat.{ℕ, suc, _+_, _*_, _≤_, _<_}
@@ -20,11 +20,11 @@ use Rattle.rulebook.specs.Inputs.{verdict, voteVerdict, blockVerdict, keepBlock
 use Rattle.rulebook.proofs.ToolLaws.{given-on, given-off}
 use Rattle.record.specs.Layout.{InSlot, Placed, ledgerOf}
 use Rattle.record.proofs.Places.{long-same}
-use Rattle.record.proofs.Reading.{ledger-shaped}
+use Rattle.settling.specs.Facts.{Sound}
 use Rattle.settling.specs.Spare.{spare}
-use Rattle.settling.specs.Steps as settle
 use Rattle.settling.specs.Steps.{SameNode, Paid, VoteFine, BlockFine, TimeoutFine}
 use Rattle.settling.proofs.SpareLaws.{spare-most}
+use Rattle.settling.proofs.FactLaws.{formed, count-placed}
 use Rattle.settling.proofs.Verdicts.{vote-fine, block-fine, timeout-fine}
 use Rattle.settling.proofs.Life.{vote-paid, block-paid, timedOut-paid}
 use Rattle.voter.specs.Outbox.{recordsIn, stateIn, Moved}
@@ -35,11 +35,7 @@ use Rattle.intake.specs.Taking.{Taking}
 -- A call begins: nothing is told yet.
 pub begin : {ws out : List ℕ} {i : Input} → Taking ws out i → Live ws out 0
 begin {ws = ws} h =
-    record { long = h .long; room = h .room; own = h .own; budget = omega (arith, spare-most (ledgerOf ws)) }
-
--- The ledger has a place for everything.
-pub placed : {ws out : List ℕ} {i : Input} → Taking ws out i → settle.Placed (ledgerOf ws)
-placed {ws = ws} h = record { shaped = ledger-shaped ws; mine = h .own }
+    record { long = h .long; room = h .room; sound = h .sound; budget = omega (arith, spare-most (ledgerOf ws)) }
 
 module _ {ws out : List ℕ} (ws' : List ℕ) {m : Ledger} (v : Live ws out 0) (long : length ws' ≡ length ws) (is : ledgerOf ws' ≡ m) (paid : Paid (ledgerOf ws) m 0) where
   same-as : SameNode (ledgerOf ws) (ledgerOf ws')
@@ -58,7 +54,7 @@ module _ {ws out : List ℕ} (ws' : List ℕ) {m : Ledger} (v : Live ws out 0) (
       record {
         long = long-same ws ws' long (v .long);
         room = v .room;
-        own = omega (arith, same-as .own, ap length (same-as .stakes), v .own);
+        sound = subst Sound (sym is) (paid .sound);
         budget = omega (arith, spare-most (ledgerOf ws'));
       }
 
@@ -97,13 +93,13 @@ module _ {ws out : List ℕ} (v : Vote) (h : Taking ws out (input.Vote v)) where
 
   pub vote-placed : Placed ws (v .slot .0) (v .node .0)
   vote-placed =
-      record { long = h .long; slot = omega (arith, vote-fits .high); node = omega (arith, vote-fits .node, h .few) }
+      record { long = h .long; slot = omega (arith, vote-fits .high); node = omega (arith, vote-fits .node, count-placed (ledgerOf ws) (formed (ledgerOf ws) (h .sound .formed) .head)) }
 
   pub vote-taken : (ws' : List ℕ) → length ws' ≡ length ws
       → ledgerOf ws' ≡ storeVote (ledgerOf ws) (v .slot .0) (v .node .0) (v .kind) (v .block)
       → Onward ws out 0 ws' out 0 (intake (ledgerOf ws) (input.Vote v))
   unfolding intake
-  vote-taken ws' long is = stored ws' (begin h) long is (vote-paid (ledgerOf ws) (placed h) v vote-fits) refl
+  vote-taken ws' long is = stored ws' (begin h) long is (vote-paid (ledgerOf ws) (h .sound) v vote-fits) refl
 
 module _ {ws out : List ℕ} (s : Slot) (b : Block) (h : Taking ws out (input.Block s b)) where
   block-fits : BlockFine (ledgerOf ws) (s .0) b
@@ -117,7 +113,7 @@ module _ {ws out : List ℕ} (s : Slot) (b : Block) (h : Taking ws out (input.Bl
       → Onward ws out 0 ws' out 0 (intake (ledgerOf ws) (input.Block s b))
   unfolding intake
   block-taken ws' long is =
-      stored ws' (begin h) long is (block-paid (ledgerOf ws) (placed h) (s .0) b (block-fits .low) (block-fits .high)) refl
+      stored ws' (begin h) long is (block-paid (ledgerOf ws) (h .sound) (s .0) b block-fits) refl
 
 module _ {ws out : List ℕ} (s : Slot) (h : Taking ws out (input.Timeout s)) where
   pub timeout-live : LiveAt ws out 0 (s .0)
@@ -127,7 +123,7 @@ module _ {ws out : List ℕ} (s : Slot) (h : Taking ws out (input.Timeout s)) wh
 
 module _ {ws out : List ℕ} (ws' : List ℕ) {s : ℕ} (h : LiveAt ws out 0 s) (long : length ws' ≡ length ws) (is : ledgerOf ws' ≡ putTimedOut (ledgerOf ws) s) where
   out-paid : Paid (ledgerOf ws) (putTimedOut (ledgerOf ws) s) 0
-  out-paid = timedOut-paid (ledgerOf ws) (record { shaped = ledger-shaped ws; mine = h .live .own }) s (h .low) (h .high)
+  out-paid = timedOut-paid (ledgerOf ws) (h .live .sound) s (h .low) (h .high)
 
   -- The window of a timed-out slot can be skipped.
   pub skips-live : LiveAt ws' out 0 s

@@ -18,7 +18,7 @@ use Rattle.settling.proofs.Settling.{running-start, running-more, running-less,
 use Rattle.voter.specs.Outbox.{stateIn, Moved}
 use Rattle.voter.specs.Voting.{Live, LiveAt, Onward}
 use Rattle.voter.proofs.OutboxLaws.{made-in}
-use Rattle.voter.proofs.LiveLaws.{live-placed, onward-none, onward-is, onward-then}
+use Rattle.voter.proofs.LiveLaws.{live-own, onward-none, onward-is, onward-then}
 use Rattle.fallbacks.specs.UnderWay.{UnderWay, UnderWayAt}
 use Rattle.run.proofs.SlotLaws.{rules-on, rules-off}
 
@@ -31,7 +31,7 @@ under-way h a =
       table =
           record {
             few = omega (arith, h .few, e .count, ap length (e .stakes));
-            own = a .live .own;
+            own = live-own (a .live);
             sum = (λ i. totalTo (e .stakes i) (e .count i)) ∙ h .sum ∙ sym (e .total);
             some = omega (arith, h .some, e .total);
             light = omega (arith, h .light, e .total);
@@ -78,7 +78,7 @@ module _ {ws out ws' out' ws'' out'' : List ℕ} {at now now' : ℕ} {q : State}
   going-more v e =
       let o : State = stateIn ws out at in
       let same : made (firstRule k r o s) ≡ made o = moved-made (tried .moved) ∙ e ∙ sym (made-in out at) in
-      let back : firstRule k r o s ≡ o = rules-come o (live-placed (v .live)) s (v .low) (v .high) k r .still same in
+      let back : firstRule k r o s ≡ o = rules-come o (v .live .sound) s (v .low) (v .high) k r .still same in
       record {
         still = e;
         held = onward-is tried back;
@@ -134,7 +134,7 @@ module _ {ws out ws' out' ws'' out'' : List ℕ} {at now now' s : ℕ} (h : Sear
       let o : State = stateIn ws out at in
       let p : State = firstRule 6 0 o s in
       let same : made p ≡ made o = moved-made (slot-tried .moved) ∙ e ∙ sym (made-in out at) in
-      let back : p ≡ o = rules-come o (live-placed v) s (h .low) (omega arith) 6 0 .still same in
+      let back : p ≡ o = rules-come o (v .sound) s (h .low) (omega arith) 6 0 .still same in
       record {
         low = omega (arith, h .low);
         high = omega arith;
@@ -166,7 +166,7 @@ pub record Settling (ws out : List ℕ) (at : ℕ) (ws' left : List ℕ) (now : 
 
 pub settling-start : {ws out : List ℕ} {at : ℕ} → Live ws out at → Settling ws out at ws out at
 settling-start {ws = ws} {out = out} {at = at} v =
-    record { kept = refl; held = onward-none v refl; going = running-start (stateIn ws out at) (live-placed v) }
+    record { kept = refl; held = onward-none v refl; going = running-start (stateIn ws out at) (v .sound) }
 
 -- ---- one scan more
 
@@ -194,6 +194,6 @@ module _ {ws out ws' out' ws'' out'' : List ℕ} {at now now' : ℕ} (h : Settli
       let quiet : made (stateIn ws'' out'' now') ≡ made (stateIn ws' out' now) = made-in out'' now' ∙ e ∙ sym (made-in out' now) in
       let ran : run (stateIn ws out at) ≡ stateIn ws' out' now =
       running-done (stateIn ws out at) (stateIn ws' out' now) (stateIn ws'' out'' now') (h .going) (took .moved .is) quiet in
-      let stays : scan (stateIn ws' out' now) ≡ stateIn ws' out' now = scan-comes (stateIn ws' out' now) (h .going .came .placed) .still same in
+      let stays : scan (stateIn ws' out' now) ≡ stateIn ws' out' now = scan-comes (stateIn ws' out' now) (h .going .came .sound) .still same in
       subst (λ (n : ℕ). Onward ws out at ws'' out'' n (run (stateIn ws out at))) e
       (onward-is (onward-then (λ (x : State). scan x) (h .held) took) (stays ∙ sym ran))

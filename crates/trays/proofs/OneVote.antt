@@ -1,5 +1,5 @@
 -- One vote of a tray: stored, its records behind those of the votes before, as feeding it alone gives them. Assumes nothing.
-use mathlib.Core.Path.{_≡_, refl, sym, ap, _∙_}
+use mathlib.Core.Path.{_≡_, refl, sym, ap, _∙_, subst}
 use mathlib.Core.List.{List, [], _++_, reverse-reverse}
 use Prim.Native.Nat.{ℕ}
 use native.Mathlib.Omega.{arith}
@@ -17,6 +17,7 @@ use Rattle.rulebook.specs.Inputs.{Fed, voteVerdict, verdict, intake, fedWith, r
 use Rattle.record.specs.Layout.{Counted, Placed, ledgerOf}
 use Rattle.record.proofs.Places.{long-same}
 use Rattle.soundness.proofs.Laws.{sound-placed, sound-counted, sound-tabled}
+use Rattle.settling.specs.Facts.{Sound}
 use Rattle.settling.specs.Spare.{spare}
 use Rattle.settling.specs.Steps.{SameNode, Paid, VoteFine}
 use Rattle.settling.proofs.Verdicts.{vote-fine}
@@ -24,7 +25,7 @@ use Rattle.settling.proofs.Life.{vote-paid}
 use Rattle.settling.proofs.FeedLaws.{feed-fine, feed-refused}
 use Rattle.voter.specs.Outbox.{recordsIn, stateIn}
 use Rattle.voter.specs.Voting.{Onward}
-use Rattle.voter.proofs.LiveLaws.{live-placed, onward-none, onward-is, onward-then}
+use Rattle.voter.proofs.LiveLaws.{onward-none, onward-is, onward-then}
 use Rattle.fallbacks.specs.UnderWay.{UnderWay}
 use Rattle.run.proofs.ScanLaws.{under-way}
 use Rattle.trays.specs.Lent.{Serving, Taking, onTop, VoteServed}
@@ -48,7 +49,7 @@ module _ {ws out : List ℕ} {made : ℕ} {v : Vote} (k : Taking ws out made v) 
 
   module _ (ws' : List ℕ) (long : length ws' ≡ length ws) (is : ledgerOf ws' ≡ withVote (ledgerOf ws) v) where
     paid : Paid (ledgerOf ws) (withVote (ledgerOf ws) v) 0
-    paid = vote-paid (ledgerOf ws) (live-placed (k .serving .live)) v fits
+    paid = vote-paid (ledgerOf ws) (k .serving .live .sound) v fits
 
     same-as : SameNode (ledgerOf ws) (ledgerOf ws')
     same-as =
@@ -74,7 +75,7 @@ module _ {ws out : List ℕ} {made : ℕ} {v : Vote} (k : Taking ws out made v) 
               record {
                 long = long-same ws ws' long (k .serving .live .long);
                 room = k .serving .live .room;
-                own = omega (arith, same-as .own, ap length (same-as .stakes), k .serving .live .own);
+                sound = subst Sound (sym is) (paid .sound);
                 budget = omega (arith, k .serving .live .budget, paid .spent, ap spare is);
               };
           same = same-as;

@@ -9,7 +9,7 @@ use Rattle.rulebook.specs.Rules.{State, cast, parentFits}
 use Rattle.rulebook.specs.declared.VoteKind.the-variants as vote
 use Rattle.rulebook.specs.declared.Block.{Block}
 use Rattle.record.specs.Layout.{ledgerOf}
-use Rattle.voter.proofs.LiveLaws.{live-placed, onward, onward-none}
+use Rattle.voter.proofs.LiveLaws.{onward, onward-none}
 use Rattle.voter.proofs.OutboxLaws.{moved-is}
 use Rattle.voter.specs.Outbox.{stateIn}
 use Rattle.settling.proofs.Spending.{B-comes}
@@ -46,7 +46,7 @@ returns c =
     let e = may-notar (c .before .before .before .before .before .before .before .before .before .before .before .before .before .before .before .own-cell .result) (ownCell l s) (c .before .before .before .before .before .before .before .before .before .before .before .before .before .load-block .result) (firstBlock l s) (c .before .before .before .before .before .before .before .before .before .before .before .before .no-initial .result) true ec eb (c .before .before .before .before .before .before .before .before .before .before .before .before .no-initial .ensures) (c .before .before .before .before .before .before .before .before .before .before .if1 .taken) in
     let f = ap (λ (x : Block). parentFits l s (isFirst s) x) (sym eb) ∙ sym (c .before .before .before .before .before .before .before .before .parent-fits .ensures) ∙ c .before .before .before .before .before .before .before .if2 .taken in
     let q = c .before .before .before .before .cast-vote in
-    onward (p .live .live) (q .kept .0) (q .kept .1 .0) (moved-is (q .ensures) (ap (λ (x : Block). cast o s vote.Notar (x .number)) eb ∙ sym (B-on o s e f))) (B-comes o (live-placed (p .live .live)) s (p .live .low) (p .live .high))
+    onward (p .live .live) (q .kept .0) (q .kept .1 .0) (moved-is (q .ensures) (ap (λ (x : Block). cast o s vote.Notar (x .number)) eb ∙ sym (B-on o s e f))) (B-comes o (p .live .live .sound) s (p .live .low) (p .live .high))
 
 same-length-3 : tie.Need-same-length-3
 same-length-3 c = search needs

@@ -7,7 +7,7 @@ use Rattle.rulebook.specs.Rules.{State, mayFinal}
 use Rattle.rulebook.specs.declared.CertificateKind.the-variants as certificate
 use Rattle.rulebook.specs.declared.Cell.{Cell}
 use Rattle.record.specs.Layout.{ledgerOf}
-use Rattle.voter.proofs.LiveLaws.{live-placed, onward, onward-none}
+use Rattle.voter.proofs.LiveLaws.{onward, onward-none}
 use Rattle.voter.proofs.OutboxLaws.{moved-is}
 use Rattle.voter.specs.Outbox.{stateIn}
 use Rattle.settling.proofs.Spending.{C-comes}
@@ -40,7 +40,7 @@ returns c =
     let e = ap (λ (x : Cell). mayFinal x) (sym ec) ∙ sym (c .before .before .before .before .before .before .before .before .before .before .before .may-final .ensures) ∙ c .before .before .before .before .before .before .before .before .before .before .if1 .taken in
     let f = ap (λ (x : Cell). held l certificate.Notar s (x .notar)) (sym ec) ∙ sym (c .before .before .before .before .before .before .before .before .held .ensures) ∙ c .before .before .before .before .before .before .before .if2 .taken in
     let q = c .before .before .before .before .cast-vote in
-    onward (p .live .live) (q .kept .0) (q .kept .1 .0) (moved-is (q .ensures) (sym (C-on o s e f))) (C-comes o (live-placed (p .live .live)) s (p .live .low) (p .live .high))
+    onward (p .live .live) (q .kept .0) (q .kept .1 .0) (moved-is (q .ensures) (sym (C-on o s e f))) (C-comes o (p .live .live .sound) s (p .live .low) (p .live .high))
 
 same-length-3 : tie.Need-same-length-3
 same-length-3 c = search needs
