@@ -641,10 +641,10 @@ impl Node {
         let skipped = self.cast_skips_in_window(slot);
         let own = self.own_cell(slot);
         let finished = own.final_vote;
-        let fall_back = !finished
-            && !own.keeps(Vote::NotarFallback(block))
-            && own.has_place_for(Vote::NotarFallback(block));
+        let fall_back = !finished && !own.keeps(Vote::NotarFallback(block));
         if fall_back {
+            // Four blocks cannot all have the weights, so there is a place.
+            assert!(own.has_place_for(Vote::NotarFallback(block)), "a fourth own fallback in slot {slot}");
             self.cast(slot, Vote::NotarFallback(block));
         }
         self.note_fallback(slot, block, skipped, fall_back, finished);

@@ -496,6 +496,27 @@ fn skip_fallback_by_skips_and_other_blocks() {
     assert!(n.holds(1, Cert::Notar(7)) && !n.own_cell(1).final_vote);
 }
 
+/// All ways to split small totals over skip, four blocks and silence.
+#[test]
+fn no_slot_has_four_blocks_with_the_weights_of_d() {
+    let mut three = 0;
+    for total in 1u64..=20 {
+        for skip in 0..=total {
+            let enough = |notar: u64| {
+                5 * notar >= 2 * total || (5 * notar >= total && 5 * (skip + notar) >= 3 * total)
+            };
+            let least = match (0..=total).find(|&notar| enough(notar)) {
+                Some(least) => least,
+                None => continue,
+            };
+            assert!(skip + 4 * least > total, "skip {skip} of {total}");
+            three += u64::from(skip + 3 * least <= total);
+        }
+    }
+    // Three blocks of a fifth each, with two fifths of skip.
+    assert!(three > 0);
+}
+
 #[test]
 fn both_fallbacks_in_one_slot() {
     let mut n = node(0, &[1, 2, 2]);

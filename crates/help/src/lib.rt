@@ -208,7 +208,7 @@ fn refusal(page: &mut [u8], at: usize, n: u64) -> usize {
         17 => tell_line(
             page,
             at,
-            b"17: No node is started; or the record has a wrong length, a field outside its range, a total that is not the sum, a fallback block kept twice for one node, a block kept twice in a slot, or an unused place that is not 0.",
+            b"17: No node is started; or the record has a wrong length, a field outside its range, a total that is not the sum, a fallback block kept twice for one node, an own notar-fallback whose block does not reach rule D's weights, a block kept twice in a slot, or an unused place that is not 0.",
         ),
         18 => tell_line(
             page,

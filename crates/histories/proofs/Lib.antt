@@ -5,3 +5,4 @@ pub mod Demand
 pub mod Meeting
 pub mod Honest
 pub mod Grounded
+pub mod Fallbacks

@@ -1,7 +1,7 @@
 -- A history of calls of the step and the tray from a fresh start is a life of the safety theorem: the same ledger, the same records.
 use mathlib.Core.Path.{_≡_, refl, sym, ap, _∙_, subst}
 use mathlib.Core.Bool.{Bool, true, false, not, _&&_, _||_}
-use mathlib.Core.List.{List, [], _∷_, _++_, map}
+use mathlib.Core.List.{List, [], _∷_, _++_, map, append-assoc, append-nil}
 use Prim.Native.Nat.{ℕ, _*_, _%_, _≤_, _<_}
 use native.Mathlib.Omega.{arith}
 use lib.ListN.{length, drop, length-reverse}
@@ -24,6 +24,7 @@ use Rattle.rulebook.specs.Inputs.{Fed, startVerdict, verdict, intake, fedWith, 
 use Rattle.rulebook.specs.WellFormed.{wellFormed, outboxWords, step}
 use Rattle.rulebook.proofs.ToolLaws.{given-on, given-off, by-test}
 use Rattle.settling.specs.Facts.{Sound}
+use Rattle.settling.specs.Steps as settle
 use Rattle.rulebook.proofs.RuleLaws.{refuse-fine}
 use Rattle.settling.proofs.FeedLaws.{step-short, step-fed}
 use Rattle.settling.proofs.Soundness.{feed-sound}
@@ -39,17 +40,13 @@ use Rattle.node.specs.Stepping.{spelled, asFed, Leaves, stepLeaves, StepOf}
 use Rattle.trays.specs.Trays.{votesIn, wholeVotes, serve, Tray, trayRefused, trayServed, tray}
 use Rattle.trays.specs.Lent.{asServed, trayLeaves, TrayOf}
 use Rattle.trays.specs.Lent as trays
-use Rattle.trays.proofs.Theorems.{serve-sound}
+use Rattle.trays.proofs.Theorems.{serve-life, serve-sound}
 use Rattle.safety.specs.Ballots.{sameRecord, among}
 use Rattle.safety.specs.Ring.{afterAll, madeIn}
 use Rattle.safety.proofs.Lives.{life-on}
-use Rattle.histories.specs.Calls.{Operation, oneInput, aTray, Call, Meets, Calls, noMore, called, lastOf, fedBy, inputsOf, firstRecords, toldIn, toldBy, Life, Lived}
+use Rattle.histories.specs.Calls.{Operation, oneInput, aTray, Call, Meets, Calls, noMore, called, lastOf, fedBy, inputsOf, firstRecords, toldIn, toldBy, allTold, Life, Lived}
 
 -- ---- records among others
-
-or-false : (t : Bool) → (t || false) ≡ t
-or-false true = refl
-or-false false = refl
 
 or-assoc : (a b c : Bool) → ((a || b) || c) ≡ (a || (b || c))
 or-assoc true b c = refl
@@ -60,6 +57,14 @@ among-both : (xs ys : List Record) (r : Record) → among (xs ++ ys) r ≡ (amon
 among-both [] ys r = refl
 among-both (x ∷ xs) ys r =
     ap (λ (t : Bool). sameRecord x r || t) (among-both xs ys r) ∙ sym (or-assoc (sameRecord x r) (among xs r) (among ys r))
+
+-- The records of a run of inputs, one by one.
+made-life : (l : Ledger) (is : List Input) (r : Record) → among (settle.life l is) r ≡ madeIn l is r
+unfolding settle.life madeIn
+made-life l [] r = refl
+made-life l (i ∷ is) r =
+    among-both (feed l i .records) (settle.life (feed l i .ledger) is) r
+    ∙ ap (λ (t : Bool). among (feed l i .records) r || t) (made-life (feed l i .ledger) is r)
 
 -- ---- one call
 
@@ -89,7 +94,7 @@ pub record StepFed (ws : List ℕ) (i : Input) (answer : StepAnswer) (ws' left :
 pub record Did (ws : List ℕ) (is : List Input) (answer : StepAnswer) (ws' left : List ℕ) : Type 0 where
   pub sound : soundWords ws' ≡ true
   pub ledger : ledgerOf ws' ≡ afterAll (ledgerOf ws) is
-  pub told : (r : Record) → among (toldIn answer left) r ≡ madeIn (ledgerOf ws) is r
+  pub told : toldIn answer left ≡ settle.life (ledgerOf ws) is
 
 module _ (ws lent : List ℕ) (i : Input) (answer : StepAnswer) (ws' left : List ℕ) (sound : soundWords ws ≡ true) (s : StepOf ws lent i answer ws' left) where
   leaves : (f : Fed) → step (ledgerOf ws) (length lent) i ≡ f → stepLeaves ws lent i ≡ asFed f lent
@@ -111,7 +116,7 @@ module _ (ws lent : List ℕ) (i : Input) (answer : StepAnswer) (ws' left : List
 
   -- With room in the outbox the input is fed.
   step-fed-all : outboxWords ≤ length lent → Did ws (i ∷ []) answer ws' left
-  unfolding afterAll madeIn
+  unfolding afterAll settle.life
   step-fed-all h =
       let f : Fed = feed (ledgerOf ws) i in
       let d = step-is-fed h in
@@ -119,12 +124,12 @@ module _ (ws lent : List ℕ) (i : Input) (answer : StepAnswer) (ws' left : List
       record {
         sound = ap soundWords (d .words) ∙ spelled-sound (f .ledger) sure;
         ledger = ap ledgerOf (d .words) ∙ spelled-back (f .ledger) sure;
-        told = λ r. ap (λ (rs : List Record). among rs r) (d .told) ∙ sym (or-false (among (f .records) r));
+        told = d .told ∙ sym (append-nil (f .records));
       }
 
   -- Without room nothing is.
   step-fed-none : length lent < outboxWords → Did ws [] answer ws' left
-  unfolding refusedWith toldIn afterAll madeIn
+  unfolding refusedWith toldIn afterAll settle.life
   step-fed-none h =
       let f : Fed = refusedWith (ledgerOf ws) refusal.NoRoom in
       let q = leaves f (step-short (ledgerOf ws) i (length lent) (sound-formed ws sound) h) in
@@ -133,7 +138,7 @@ module _ (ws lent : List ℕ) (i : Input) (answer : StepAnswer) (ws' left : List
       record {
         sound = ap soundWords w ∙ spelled-sound (ledgerOf ws) (sound-ledger ws sound);
         ledger = ap ledgerOf w ∙ spelled-back (ledgerOf ws) (sound-ledger ws sound);
-        told = λ r. ap (λ (x : StepAnswer). among (toldIn x left) r) a;
+        told = ap (λ (x : StepAnswer). toldIn x left) a;
       }
 
   step-did : Did ws (fedBy (oneInput i) lent) answer ws' left
@@ -149,18 +154,11 @@ unfolding serve afterAll
 serve-after l [] = refl
 serve-after l (v ∷ vs) = serve-after (feed l (input.Vote v) .ledger) vs
 
-serve-made : (l : Ledger) (vs : List Vote) (r : Record) → among (serve l vs .records) r ≡ madeIn l (map input.Vote vs) r
-unfolding serve madeIn
-serve-made l [] r = refl
-serve-made l (v ∷ vs) r =
-    let f : Fed = feed l (input.Vote v) in
-    among-both (f .records) (serve (f .ledger) vs .records) r ∙ ap (λ (t : Bool). among (f .records) r || t) (serve-made (f .ledger) vs r)
-
 module _ (ws lent votes places : List ℕ) (answer : StepAnswer) (ws' left answers : List ℕ) (sound : soundWords ws ≡ true)
     (s : TrayOf ws lent votes places answer ws' left answers) where
   tray-did-as : (t : Tray) (is : List Input) → tray (ledgerOf ws) (length lent) (length places) votes ≡ t → Sound (t .served .ledger)
       → t .served .ledger ≡ afterAll (ledgerOf ws) is
-      → ((r : Record) → among (toldIn (t .answer) (spelled (t .served .records) ++ drop (3 * length (t .served .records)) lent)) r ≡ madeIn (ledgerOf ws) is r)
+      → toldIn (t .answer) (spelled (t .served .records) ++ drop (3 * length (t .served .records)) lent) ≡ settle.life (ledgerOf ws) is
       → Did ws is answer ws' left
   unfolding trayLeaves
   tray-did-as t is e h d m =
@@ -172,13 +170,13 @@ module _ (ws lent votes places : List ℕ) (answer : StepAnswer) (ws' left answe
       record {
         sound = ap soundWords w ∙ spelled-sound (t .served .ledger) h;
         ledger = ap ledgerOf w ∙ spelled-back (t .served .ledger) h ∙ d;
-        told = λ r. (λ j. among (toldIn (a j) (o j)) r) ∙ m r;
+        told = (λ j. toldIn (a j) (o j)) ∙ m;
       }
 
   -- A refused tray feeds nothing.
   tray-none : (x : Refusal) → tray (ledgerOf ws) (length lent) (length places) votes ≡ trayRefused (ledgerOf ws) x → Did ws [] answer ws' left
-  unfolding trayRefused serve toldIn afterAll madeIn
-  tray-none x e = tray-did-as (trayRefused (ledgerOf ws) x) [] e (sound-ledger ws sound) refl (λ r. refl)
+  unfolding trayRefused serve toldIn afterAll settle.life
+  tray-none x e = tray-did-as (trayRefused (ledgerOf ws) x) [] e (sound-ledger ws sound) refl refl
 
   -- A tray that is served feeds its votes.
   tray-all : tray (ledgerOf ws) (length lent) (length places) votes ≡ trayServed (serve (ledgerOf ws) (votesIn votes)) → Did ws (map input.Vote (votesIn votes)) answer ws' left
@@ -187,7 +185,7 @@ module _ (ws lent votes places : List ℕ) (answer : StepAnswer) (ws' left answe
       let l = ledgerOf ws in
       let vs = votesIn votes in
       tray-did-as (trayServed (serve l vs)) (map input.Vote vs) e (serve-sound l vs (sound-ledger ws sound)) (serve-after l vs)
-      (λ r. ap (λ (rs : List Record). among rs r) (read-spelled (serve l vs .records) _) ∙ serve-made l vs r)
+      (read-spelled (serve l vs .records) _ ∙ serve-life l vs .1)
 
   tray-did : Did ws (fedBy (aTray votes places answers) lent) answer ws' left
   unfolding fedBy tray
@@ -210,34 +208,44 @@ call-did ws lent (aTray votes places answers) answer ws' left e s = tray-did ws 
 
 -- ---- many calls
 
-made-both : (l : Ledger) (is js : List Input) (r : Record) → madeIn l (is ++ js) r ≡ (madeIn l is r || madeIn (afterAll l is) js r)
-unfolding madeIn afterAll
-made-both l [] js r = refl
-made-both l (i ∷ is) js r =
-    ap (λ (t : Bool). among (feed l i .records) r || t) (made-both (feed l i .ledger) is js r)
-    ∙ sym (or-assoc (among (feed l i .records) r) (madeIn (feed l i .ledger) is r) (madeIn (afterAll (feed l i .ledger) is) js r))
+life-both : (l : Ledger) (is js : List Input) → settle.life l (is ++ js) ≡ settle.life l is ++ settle.life (afterAll l is) js
+unfolding settle.life afterAll
+life-both l [] js = refl
+life-both l (i ∷ is) js =
+    ap (λ (rs : List Record). feed l i .records ++ rs) (life-both (feed l i .ledger) is js)
+    ∙ sym (append-assoc (feed l i .records) (settle.life (feed l i .ledger) is) (settle.life (afterAll (feed l i .ledger) is) js))
+
+told-among : (cs : List Call) (r : Record) → toldBy cs r ≡ among (allTold cs) r
+unfolding toldBy allTold
+told-among [] r = refl
+told-among (c ∷ cs) r =
+    ap (λ (t : Bool). among (toldIn (c .answer) (c .left)) r || t) (told-among cs r)
+    ∙ sym (among-both (toldIn (c .answer) (c .left)) (allTold cs) r)
 
 -- What a history has done: the words are sound, their ledger is the one after the inputs, and what was told is what was made.
 pub record DidAll (l : Ledger) (ws : List ℕ) (cs : List Call) : Type 0 where
   pub sound : soundWords (lastOf ws cs) ≡ true
   pub ledger : ledgerOf (lastOf ws cs) ≡ afterAll l (inputsOf cs)
+  pub records : allTold cs ≡ settle.life l (inputsOf cs)
   pub told : (r : Record) → toldBy cs r ≡ madeIn l (inputsOf cs) r
 
 pub all-done : (ws : List ℕ) (cs : List Call) → soundWords ws ≡ true → Calls ws cs → DidAll (ledgerOf ws) ws cs
-unfolding lastOf toldBy inputsOf afterAll madeIn
-all-done ws [] e noMore = record { sound = e; ledger = refl; told = λ r. refl }
+unfolding lastOf toldBy allTold inputsOf afterAll madeIn settle.life
+all-done ws [] e noMore = record { sound = e; ledger = refl; records = refl; told = λ r. refl }
 all-done ws (c ∷ cs) e (called s k) =
     let l = ledgerOf ws in
     let is = fedBy (c .operation) (c .lent) in
     let d = call-did ws (c .lent) (c .operation) (c .answer) (c .words) (c .left) e s in
     let a = all-done (c .words) cs (d .sound) k in
+    let all : allTold (c ∷ cs) ≡ settle.life l (is ++ inputsOf cs) =
+    (λ j. d .told j ++ a .records j)
+    ∙ ap (λ (m : Ledger). settle.life l is ++ settle.life m (inputsOf cs)) (d .ledger)
+    ∙ sym (life-both l is (inputsOf cs)) in
     record {
       sound = a .sound;
       ledger = a .ledger ∙ ap (λ (m : Ledger). afterAll m (inputsOf cs)) (d .ledger) ∙ sym (life-on l is (inputsOf cs));
-      told = λ r.
-          (λ j. d .told r j || a .told r j)
-          ∙ ap (λ (m : Ledger). madeIn l is r || madeIn m (inputsOf cs) r) (d .ledger)
-          ∙ sym (made-both l is (inputsOf cs) r);
+      records = all;
+      told = λ r. told-among (c ∷ cs) r ∙ ap (λ (rs : List Record). among rs r) all ∙ made-life l (is ++ inputsOf cs) r;
     }
 
 -- ---- a life

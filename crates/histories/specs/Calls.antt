@@ -78,6 +78,11 @@ unfoldable pub toldBy : List Call → Record → Bool
 toldBy [] r = false
 toldBy (c ∷ cs) r = among (toldIn (c .answer) (c .left)) r || toldBy cs r
 
+-- All that they told, in its order.
+unfoldable pub allTold : List Call → List Record
+allTold [] = []
+allTold (c ∷ cs) = toldIn (c .answer) (c .left) ++ allTold cs
+
 -- A node's life: the words that start found and those that it left, and the calls since.
 pub record Life : Type 0 where
   pub found : List ℕ

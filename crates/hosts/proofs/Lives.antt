@@ -122,7 +122,7 @@ callsOf ws [] = []
 callsOf ws (c ∷ cs) = callOf ws c ∷ callsOf (c .words) cs
 
 -- The contract and what is told, of one function's call.
-call-meets : (f : Function) (ws out : List ℕ) (number made : ℕ) (ws' left : List ℕ) → HostMeets f ws out number made ws' left
+pub call-meets : (f : Function) (ws out : List ℕ) (number made : ℕ) (ws' left : List ℕ) → HostMeets f ws out number made ws' left
     → Meets (operationFor f) ws out (answerOf f ws out) ws' left × (toldIn (answerOf f ws out) left ≡ firstRecords made left)
 unfolding host-call-is-call
 call-meets (asks a) ws out number made ws' left s =

@@ -77,6 +77,11 @@ unfoldable pub toldOut : List HostCall → Record → Bool
 toldOut [] r = false
 toldOut (c ∷ cs) r = among (firstRecords (c .made) (c .left)) r || toldOut cs r
 
+-- All that they told, in its order.
+unfoldable pub allOut : List HostCall → List Record
+allOut [] = []
+allOut (c ∷ cs) = firstRecords (c .made) (c .left) ++ allOut cs
+
 -- A node's life: the words that qr_start found and those that it left, and the calls since.
 pub record HostLife : Type 0 where
   pub found : List ℕ

@@ -1,3 +1,4 @@
--- Histories of calls of the C functions, and demand 3 over them.
+-- Histories of calls of the C functions, demand 3 and the own fallbacks over them.
 pub mod Calls
 pub mod Ring
+pub mod Fallbacks

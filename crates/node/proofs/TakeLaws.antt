@@ -1,5 +1,6 @@
 -- What taking an input asks, from a sound record. Assumes nothing.
 use mathlib.Core.List.{List}
+use Prim.Native.Nat.{ℕ}
 use Rattle.rulebook.specs.declared.Input.{Input}
 use Rattle.soundness.proofs.Laws.{sound-long, sound-ledger}
 use Rattle.intake.specs.Taking as intake

@@ -18,7 +18,7 @@ use Rattle.record.specs.Layout.{ledgerOf}
 use Rattle.record.specs.Spelling.{wordsOf}
 use Rattle.record.proofs.Spelled.{words-ledger}
 use Rattle.soundness.specs.Sound.{soundWords}
-use Rattle.soundness.proofs.Laws.{sound-long, sound-ledger, sound-head, sound-placed}
+use Rattle.soundness.proofs.Laws.{sound-long, sound-ledger}
 use Rattle.soundness.proofs.InStep.{spelled-sound, spelled-as}
 use Rattle.settling.proofs.SpareLaws.{spare-most}
 use Rattle.settling.proofs.Soundness.{feed-sound}
@@ -46,7 +46,6 @@ pub record Going (ws out votes places ws' out' places' : List ℕ) (made i : ℕ
 pub going-start : {ws out votes places : List ℕ} → Ready ws out votes places → Going ws out votes places ws out places 0 0
 unfolding recordsIn
 going-start {ws = ws} h =
-    let d = sound-head ws (h .sound) in
     record {
       few = omega arith;
       serving =
@@ -56,7 +55,7 @@ going-start {ws = ws} h =
                 record {
                   long = sound-long ws (h .sound);
                   room = h .room;
-                  own = omega (arith, d .mine, sound-placed ws (h .sound));
+                  sound = sound-ledger ws (h .sound);
                   budget = omega (arith, spare-most (ledgerOf ws));
                 };
           };

@@ -26,7 +26,7 @@ use Rattle.settling.specs.Facts.{Sound}
 use Rattle.settling.specs.Steps.{after, life}
 use Rattle.settling.proofs.FeedLaws.{step-fed}
 use Rattle.settling.proofs.Life.{paid-within, life-paid}
-use Rattle.settling.proofs.Soundness.{sound-placed, feed-sound}
+use Rattle.settling.proofs.Soundness.{feed-sound}
 use Rattle.record.specs.Layout.{isLong, ledgerOf}
 use Rattle.record.proofs.Places.{true-long}
 use Rattle.soundness.specs.Sound.{soundWords}
@@ -66,7 +66,7 @@ serve-life l (v ∷ vs) =
 pub tray-within : (l : Ledger) (vs : List Vote) → Sound l → length (serve l vs .records) ≤ mostRecords
 tray-within l vs h =
     let is : List Input = map input.Vote vs in
-    omega (arith, ap length (serve-life l vs .1), paid-within l (after l is) (length (life l is)) (life-paid l is (sound-placed l h)))
+    omega (arith, ap length (serve-life l vs .1), paid-within l (after l is) (length (life l is)) (life-paid l is h))
 
 -- What a tray's votes leave of a sound ledger is sound.
 pub serve-sound : (l : Ledger) (vs : List Vote) → Sound l → Sound (serve l vs .ledger)
