@@ -18,9 +18,9 @@ use Rattle.node.specs.Stepping.{stepLeaves}
 use Rattle.trays.specs.Lent.{trayLeaves}
 use Rattle.safety.specs.Ballots.{among}
 use Rattle.histories.specs.Calls as code
-use Rattle.histories.specs.Calls.{Call, Meets, Calls, Life, Lived, lastOf, fedBy, inputsOf, firstRecords, toldIn, toldBy}
+use Rattle.histories.specs.Calls.{Call, Meets, Calls, Life, Lived, lastOf, fedBy, inputsOf, firstRecords, toldIn, toldBy, allTold}
 use Rattle.answers.specs.Face.{Beside, Started}
-use Rattle.hosts.specs.Calls.{inputFor, Function, asks, qr-tray, operationFor, HostMeets, HostCall, HostCalls, noMore, called, lastWords, inputsFed, toldOut, HostLife, HostLived, HostCallIsCall, StartedIsStart}
+use Rattle.hosts.specs.Calls.{inputFor, Function, asks, qr-tray, operationFor, HostMeets, HostCall, HostCalls, noMore, called, lastWords, inputsFed, toldOut, allOut, HostLife, HostLived, HostCallIsCall, StartedIsStart}
 
 -- No refusal's number is 0.
 pub refusal-above : {X : Type 0} (r : Refusal) → refusalNumber r ≡ 0 → X
@@ -122,7 +122,7 @@ callsOf ws [] = []
 callsOf ws (c ∷ cs) = callOf ws c ∷ callsOf (c .words) cs
 
 -- The contract and what is told, of one function's call.
-pub call-meets : (f : Function) (ws out : List ℕ) (number made : ℕ) (ws' left : List ℕ) → HostMeets f ws out number made ws' left
+call-meets : (f : Function) (ws out : List ℕ) (number made : ℕ) (ws' left : List ℕ) → HostMeets f ws out number made ws' left
     → Meets (operationFor f) ws out (answerOf f ws out) ws' left × (toldIn (answerOf f ws out) left ≡ firstRecords made left)
 unfolding host-call-is-call
 call-meets (asks a) ws out number made ws' left s =
@@ -159,6 +159,13 @@ told-is ws [] noMore r = refl
 told-is ws (c ∷ cs) (called s k) r =
     let t = call-meets (c .function) ws (c .lent) (c .number) (c .made) (c .words) (c .left) s .1 in
     λ i. among (t i) r || told-is (c .words) cs k r i
+
+pub all-is : (ws : List ℕ) (cs : List HostCall) → HostCalls ws cs → allTold (callsOf ws cs) ≡ allOut cs
+unfolding callsOf callOf allTold allOut
+all-is ws [] noMore = refl
+all-is ws (c ∷ cs) (called s k) =
+    let t = call-meets (c .function) ws (c .lent) (c .number) (c .made) (c .words) (c .left) s .1 in
+    λ i. t i ++ all-is (c .words) cs k i
 
 -- ---- a life
 
