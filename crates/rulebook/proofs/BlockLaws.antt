@@ -1,14 +1,15 @@
 -- Laws of kept blocks: what a block in the first free place leaves. Assumes nothing.
 use mathlib.Core.Path.{_≡_, refl, ap}
-use mathlib.Core.Bool.{Bool, true, false, not, _&&_}
+use mathlib.Core.Bool.{Bool, true, false, not, _&&_, _||_}
 use mathlib.Core.List.{List, [], _∷_}
 use Prim.Native.Nat.{ℕ, suc}
 use lib.ListN.{length}
 use lib.Dec.{eqb}
-use borrow.Author.Tests.{not-true}
+use borrow.Author.Tests.{not-true, eq-eqb}
 use Rattle.rulebook.specs.declared.Block.{Block}
 use Rattle.rulebook.specs.Tools.{choose}
-use Rattle.rulebook.specs.Ledger.{none, someBlock, allBlocks, isFree, hasNumber, fillBlock}
+use Rattle.rulebook.specs.Ledger.{none, someBlock, allBlocks, isFree, hasNumber, isBlock, fillBlock}
+use Rattle.rulebook.specs.Rules.{findBlock}
 use Rattle.rulebook.specs.WellFormed.{inOrder, blocksApart}
 use Rattle.rulebook.proofs.ToolLaws.{and-both, both-and, or-left, or-right, or-cases, or-none, true-not-false}
 
@@ -71,3 +72,34 @@ fill-apart b (k ∷ ks) m d e =
     go false t f a ih =
         both-and (allBlocks (λ j. inOrder (k .number) (j .number)) (fillBlock b ks)) (blocksApart (fillBlock b ks))
         (fill-all (λ j. inOrder (k .number) (j .number)) b ks (apart-order (k .number) (b .number) t (f .0)) (a .0)) (ih (f .1) (a .1))
+
+-- A block that is found by its number, its parent not in slot 0, is one of the list.
+pub find-all : (p : Block → Bool) (b : ℕ) (ks : List Block) → allBlocks p ks ≡ true → none (findBlock b ks .parentslot .0) ≡ false
+    → (isFree (findBlock b ks) ≡ false) × (p (findBlock b ks) ≡ true)
+unfolding allBlocks findBlock choose
+find-all p b [] e t = true-not-false (none 0) refl t
+find-all p b (k ∷ ks) e t = go (not (isFree k) && hasNumber b k) refl (and-both (p k) (allBlocks p ks) e) (find-all p b ks) t
+  where
+    go : (z : Bool) → (not (isFree k) && hasNumber b k) ≡ z → (p k ≡ true) × (allBlocks p ks ≡ true)
+        → (allBlocks p ks ≡ true → none (findBlock b ks .parentslot .0) ≡ false → (isFree (findBlock b ks) ≡ false) × (p (findBlock b ks) ≡ true))
+        → none (choose z k (findBlock b ks) .parentslot .0) ≡ false → (isFree (choose z k (findBlock b ks)) ≡ false) × (p (choose z k (findBlock b ks)) ≡ true)
+    go true q a ih u = (not-true (isFree k) (and-both (not (isFree k)) (hasNumber b k) q .0), a .0)
+    go false q a ih u = ih (a .1) u
+
+-- It is kept with its parent.
+pub find-kept : (b : ℕ) (ks : List Block) → none (findBlock b ks .parentslot .0) ≡ false
+    → someBlock (isBlock b (findBlock b ks .parentslot .0) (findBlock b ks .parent)) ks ≡ true
+unfolding someBlock findBlock isBlock choose
+find-kept b [] t = true-not-false (none 0) refl t
+find-kept b (k ∷ ks) t = go (not (isFree k) && hasNumber b k) refl (find-kept b ks) t
+  where
+    go : (z : Bool) → (not (isFree k) && hasNumber b k) ≡ z
+        → (none (findBlock b ks .parentslot .0) ≡ false → someBlock (isBlock b (findBlock b ks .parentslot .0) (findBlock b ks .parent)) ks ≡ true)
+        → none (choose z k (findBlock b ks) .parentslot .0) ≡ false
+        → (isBlock b (choose z k (findBlock b ks) .parentslot .0) (choose z k (findBlock b ks) .parent) k
+        || someBlock (isBlock b (choose z k (findBlock b ks) .parentslot .0) (choose z k (findBlock b ks) .parent)) ks) ≡ true
+    go true q ih u =
+        let a = and-both (not (isFree k)) (hasNumber b k) q in
+        or-left (isBlock b (k .parentslot .0) (k .parent) k) (someBlock (isBlock b (k .parentslot .0) (k .parent)) ks)
+        (both-and (not (isFree k)) _ (a .0) (both-and (hasNumber b k) _ (a .1) (both-and (eqb (k .parentslot .0) (k .parentslot .0)) _ (eq-eqb (k .parentslot .0) (k .parentslot .0) refl) (eq-eqb (k .parent) (k .parent) refl))))
+    go false q ih u = or-right (isBlock b (findBlock b ks .parentslot .0) (findBlock b ks .parent) k) _ (ih u)

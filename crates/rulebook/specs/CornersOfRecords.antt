@@ -10,7 +10,7 @@ use Rattle.rulebook.specs.declared.Input.{Input}
 use Rattle.rulebook.specs.PaperNumbers.{stepPanel}
 use Rattle.rulebook.specs.Tools.{choose}
 use Rattle.rulebook.specs.Weights.{lastSlot, windows}
-use Rattle.rulebook.specs.Ledger.{Ledger, none, noBlock, blankRow, rowAt, putRow, putCell, putBlocks, putTimedOut, putFinal}
+use Rattle.rulebook.specs.Ledger.{Ledger, none, noBlock, blankRow, rowAt, putRow, putCell, putBlocks, putTimedOut, putFinal, putClash}
 use Rattle.rulebook.specs.WellFormed.{blocksFit, wellFormed, step}
 use Rattle.rulebook.specs.Scripts.{vote, look, cell, ring, equal, all}
 use Rattle.rulebook.specs.Computes.{rules}
@@ -115,12 +115,13 @@ numbersApart =
     all (fits 0 0 0 0 ∷ fits 7 0 0 0 ∷ fits 7 8 0 0 ∷ fits 9 8 7 0 ∷ fits 7 8 9 10 ∷ not (fits 0 7 0 0) ∷ not (fits 0 0 7 0) ∷ not (fits 0 0 0 7) ∷ not (fits 7 0 8 0) ∷ not (fits 7 0 0 8)
     ∷ not (fits 7 8 0 9) ∷ not (fits 0 7 8 9) ∷ not (fits 7 7 0 0) ∷ not (fits 7 8 7 0) ∷ not (fits 7 8 9 7) ∷ not (fits 7 8 8 0) ∷ not (fits 7 8 9 8) ∷ not (fits 7 8 9 9) ∷ [])
 
--- A timeout mark above 1; row 0's words, each.
+-- A timeout mark above 1, a mark of two final blocks above 1, and one that is in range; row 0's words, each.
 abbrev marks : Bool
 marks =
     let r = rowAt odd 2 in
     let blankBut : Block → Bool = (λ b. wellFormed (withBlock odd 0 b)) in
-    all (not (wellFormed (putRow odd 2 (record { blocks = r .blocks; timedOut = 2; final = r .final; cells = r .cells }))) ∷ not (wellFormed (putTimedOut odd 0))
+    let withMarks : ℕ → ℕ → Bool = (λ t c. wellFormed (putRow odd 2 (record { blocks = r .blocks; timedOut = t; final = r .final; clash = c; cells = r .cells }))) in
+    all (withMarks 1 1 ∷ not (withMarks 2 0) ∷ not (withMarks 0 2) ∷ not (wellFormed (putTimedOut odd 0)) ∷ not (wellFormed (putClash odd 0))
     ∷ not (wellFormed (putFinal odd 0 7)) ∷ not (blankBut (blockOf 7 0 0)) ∷ not (blankBut (blockOf 0 1 0)) ∷ not (blankBut (blockOf 0 0 1))
     ∷ not (wellFormed (withBlocks odd 0 noBlock noBlock noBlock (blockOf 7 0 0))) ∷ [])
 
@@ -156,11 +157,11 @@ abbrev lengths : Bool
 lengths =
     all (sized 1 1 ∷ not (sized 1 2) ∷ not (sized 2 1) ∷ sized 2 2 ∷ not (sized 1 64) ∷ sized 64 64 ∷ not (sized 64 65) ∷ not (sized 64 63) ∷ not (sized 65 64) ∷ sized 65 65 ∷ not (sized 65 66) ∷ [])
 
--- 17 before 9, 9 before all else; 383 words are too few, 384 are enough. The last two: a record with own fallbacks, in range and not.
+-- 17 before 9, 9 before all else; 479 words are too few, 480 are enough. The last two: a record with own fallbacks, in range and not.
 abbrev stepOrder : Bool
 stepOrder =
     let number : Ledger → ℕ → Input → ℕ = (λ l room i. stepPanel (step l room i .answer) .number) in
-    equal (number (putTimedOut odd 0) 0 (vote 9 0 0 0) ∷ number odd 383 (vote 9 0 0 0) ∷ number odd 384 (vote 9 0 0 0) ∷ number (fifths (cell 0 1 21 22 23 0 0)) 384 look ∷ number (fifths (cell 0 1 21 22 24 0 0)) 384 look ∷ [])
+    equal (number (putTimedOut odd 0) 0 (vote 9 0 0 0) ∷ number odd 479 (vote 9 0 0 0) ∷ number odd 480 (vote 9 0 0 0) ∷ number (fifths (cell 0 1 21 22 23 0 0)) 480 look ∷ number (fifths (cell 0 1 21 22 24 0 0)) 480 look ∷ [])
     (17 ∷ 9 ∷ 4 ∷ 0 ∷ 17 ∷ [])
 
 cornersOfRecords : T (all (cells ∷ ownFallbacks ∷ ownByNotar ∷ unusedCells ∷ keptBlocks ∷ numbersApart ∷ marks ∷ heads ∷ lengths ∷ stepOrder ∷ []))

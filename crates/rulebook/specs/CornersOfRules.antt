@@ -221,14 +221,15 @@ skipFallbacks =
     ((4 ∷ 1 ∷ 0 ∷ []) ∷ [] ∷ (4 ∷ 1 ∷ 0 ∷ []) ∷ (4 ∷ 1 ∷ 0 ∷ []) ∷ [] ∷ [] ∷ [] ∷ [] ∷ [])
     && equal (told (closed (2 ∷ 2 ∷ 2 ∷ 4 ∷ []) (notar 7 ∷ notar 8 ∷ skip ∷ noCell ∷ []))) (4 ∷ 1 ∷ 0 ∷ [])
 
--- F by kind 1, or kinds 2 and 5 together; once per slot; the lowest block where a total that is not the sum lets two be final.
+-- F by kind 1, or kinds 2 and 5 together; once per slot; where a total that is not the sum lets three be final, the lowest, and the next
+-- as its newcomer.
 abbrev finals : Bool
 finals =
     let cast : ℕ → Cell → Cell → List ℕ = (λ other b c. told (armed (1 ∷ other ∷ (9 - other) ∷ []) (noCell ∷ b ∷ c ∷ []))) in
-    let two : Cell → Cell → List ℕ = (λ b c. told (withTotal (armed (1 ∷ 4 ∷ 4 ∷ []) (noCell ∷ b ∷ c ∷ [])) 5)) in
+    let three : Cell → Cell → Cell → List ℕ = (λ b c d. told (withTotal (armed (1 ∷ 4 ∷ 4 ∷ 4 ∷ []) (noCell ∷ b ∷ c ∷ d ∷ [])) 5)) in
     equals (cast 8 (notar 7) noCell ∷ cast 7 (notar 7) noCell ∷ cast 6 (notarFinal 7) noCell ∷ cast 6 (notar 7) noCell ∷ cast 5 (notarFinal 7) (cell 0 0 7 0 0 0 1)
-    ∷ told (putFinal (armed (1 ∷ 8 ∷ 1 ∷ []) (noCell ∷ notar 7 ∷ noCell ∷ [])) 1 7) ∷ two (notar 8) (notar 9) ∷ two (notar 9) (notar 8) ∷ [])
-    ((6 ∷ 1 ∷ 7 ∷ []) ∷ [] ∷ (6 ∷ 1 ∷ 7 ∷ []) ∷ [] ∷ [] ∷ [] ∷ (6 ∷ 1 ∷ 8 ∷ []) ∷ (6 ∷ 1 ∷ 8 ∷ []) ∷ [])
+    ∷ told (putFinal (armed (1 ∷ 8 ∷ 1 ∷ []) (noCell ∷ notar 7 ∷ noCell ∷ [])) 1 7) ∷ three (notar 8) (notar 9) (notar 10) ∷ three (notar 10) (notar 9) (notar 8) ∷ [])
+    ((6 ∷ 1 ∷ 7 ∷ []) ∷ [] ∷ (6 ∷ 1 ∷ 7 ∷ []) ∷ [] ∷ [] ∷ [] ∷ (6 ∷ 1 ∷ 8 ∷ 8 ∷ 1 ∷ 9 ∷ []) ∷ (6 ∷ 1 ∷ 8 ∷ 8 ∷ 1 ∷ 9 ∷ []) ∷ [])
 
 cornersOfRules : T (all (AbeforeC ∷ BbeforeF ∷ CbeforeD ∷ DbeforeE ∷ EbeforeF ∷ restart ∷ slotsAscend ∷ windowsOfFour ∷ nextDoor ∷ sixteenSkips
     ∷ farParent ∷ parents ∷ chain ∷ timeouts ∷ thresholds ∷ finalVotes ∷ fallbacks ∷ threeCast ∷ skipsBesideFinal ∷ skipFallbacks ∷ finals ∷ []))

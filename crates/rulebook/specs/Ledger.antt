@@ -10,11 +10,12 @@ use Rattle.rulebook.specs.Tools.{choose}
 use Rattle.rulebook.specs.Weights.{placesFor, lastSlot, windows, windowOf, totalTo}
 
 -- One slot: places for blocks with their parents, the first announced in front; whether its timeout was taken; the block reported
--- final; a cell for each node.
+-- final; whether another was, a mark; a cell for each node.
 pub record Row : Type 0 where
   pub blocks : List Block
   pub timedOut : ℕ
   pub final : ℕ
+  pub clash : ℕ
   pub cells : List Cell
 
 pub record Ledger : Type 0 where
@@ -43,8 +44,7 @@ mostBlocks = 4
 
 -- A row of so many places with nothing in it; one without a place stands for a slot that has none.
 unfoldable pub blankRow : ℕ → Row
-blankRow places =
-    record { blocks = replicate mostBlocks noBlock; timedOut = 0; final = 0; cells = replicate places noCell }
+blankRow places = record { blocks = replicate mostBlocks noBlock; timedOut = 0; final = 0; clash = 0; cells = replicate places noCell }
 
 unfoldable pub noRow : Row
 noRow = blankRow 0
@@ -130,22 +130,28 @@ putRow l s r =
 abbrev pub putCell : Ledger → ℕ → ℕ → Cell → Ledger
 putCell l s n c =
     let r = rowAt l s in
-    putRow l s (record { blocks = r .blocks; timedOut = r .timedOut; final = r .final; cells = set (r .cells) n c })
+    putRow l s (record { blocks = r .blocks; timedOut = r .timedOut; final = r .final; clash = r .clash; cells = set (r .cells) n c })
 
 abbrev pub putBlocks : Ledger → ℕ → List Block → Ledger
 putBlocks l s bs =
     let r = rowAt l s in
-    putRow l s (record { blocks = bs; timedOut = r .timedOut; final = r .final; cells = r .cells })
+    putRow l s (record { blocks = bs; timedOut = r .timedOut; final = r .final; clash = r .clash; cells = r .cells })
 
 abbrev pub putTimedOut : Ledger → ℕ → Ledger
 putTimedOut l s =
     let r = rowAt l s in
-    putRow l s (record { blocks = r .blocks; timedOut = 1; final = r .final; cells = r .cells })
+    putRow l s (record { blocks = r .blocks; timedOut = 1; final = r .final; clash = r .clash; cells = r .cells })
 
 abbrev pub putFinal : Ledger → ℕ → ℕ → Ledger
 putFinal l s b =
     let r = rowAt l s in
-    putRow l s (record { blocks = r .blocks; timedOut = r .timedOut; final = b; cells = r .cells })
+    putRow l s (record { blocks = r .blocks; timedOut = r .timedOut; final = b; clash = r .clash; cells = r .cells })
+
+-- The mark of a slot: another final block was reported.
+abbrev pub putClash : Ledger → ℕ → Ledger
+putClash l s =
+    let r = rowAt l s in
+    putRow l s (record { blocks = r .blocks; timedOut = r .timedOut; final = r .final; clash = 1; cells = r .cells })
 
 abbrev pub putArmed : Ledger → ℕ → Ledger
 putArmed l s =

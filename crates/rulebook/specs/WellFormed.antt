@@ -76,7 +76,7 @@ ownFits l s = let c = ownCell l s in backs l s (c .fallback1) && (backs l s (c .
 
 -- One of the slots 1 to 16.
 unfoldable pub rowFits : Ledger → ℕ → Bool
-rowFits l s = blocksFit l s (blocksAt l s) && (flag (rowAt l s .timedOut) && (cellsFit l s (l .count) && ownFits l s))
+rowFits l s = blocksFit l s (blocksAt l s) && ((flag (rowAt l s .timedOut) && flag (rowAt l s .clash)) && (cellsFit l s (l .count) && ownFits l s))
 
 -- A place with nothing in it.
 unfoldable pub blockBlank : Block → Bool
@@ -86,7 +86,8 @@ blockBlank b = isFree b && (none (b .parentslot .0) && none (b .parent))
 unfoldable pub rowBlank : Ledger → Bool
 rowBlank l =
     let r = rowAt l 0 in
-    allBlocks blockBlank (r .blocks) && ((none (r .timedOut) && none (r .final)) && cellsFit l 0 0)
+    allBlocks blockBlank (r .blocks)
+    && ((none (r .timedOut) && (none (r .final) && none (r .clash))) && cellsFit l 0 0)
 
 -- "node record of wrong length": as many places as the count asks for. Then count, own number, genesis, stakes and "a total that is not
 -- the sum".
@@ -103,9 +104,9 @@ unfoldable pub wellFormed : Ledger → Bool
 wellFormed l =
     given (headFits l) false (λ _. given (rowBlank l) false (λ _. allTo lastSlot (λ i. rowFits l (suc i))))
 
--- "must have room for 128" records, "three a record".
+-- "The outbox must now hold 160 records", "three a record".
 abbrev pub outboxWords : ℕ
-outboxWords = 384
+outboxWords = 480
 
 -- "Votes: 17, 9, ..", "Blocks: 17, 9, ..", "Timeouts: 17, 9, ..", "Look: 17, 9": an input to a node whose outbox has so many words.
 unfoldable pub step : Ledger → ℕ → Input → Fed

@@ -1,19 +1,21 @@
--- What comes beside the votes: nothing, or a block in the first free place of its slot.
-use mathlib.Core.Path.{_≡_, refl, sym, subst}
+-- What comes beside the votes: nothing, a final block, or a block in the first free place of its slot.
+use mathlib.Core.Path.{_≡_, refl, sym, ap, subst}
 use mathlib.Core.Bool.{Bool, true, false, not, _&&_, _||_}
 use mathlib.Core.List.{List, [], _∷_}
 use mathlib.Core.Logic.{_⊎_, inl, inr, ⊎-elim}
 use Prim.Native.Nat.{ℕ, suc, _<_}
 use native.Mathlib.Decide.{ℕ-discrete}
+use native.Mathlib.Omega.{arith}
 use lib.Dec.{T, eqb, eqb→eq, T-not}
 use Rattle.rulebook.specs.declared.Block.{Block}
 use Rattle.rulebook.specs.declared.Input.{Input}
 use Rattle.rulebook.specs.Tools.{choose}
 use Rattle.rulebook.specs.Weights.{lastSlot}
-use Rattle.rulebook.specs.Ledger.{Ledger, Row, none, rowAt, someBlock, isFree, hasNumber, fillBlock, isBlock, keepsBlock, putRow}
-use Rattle.rulebook.specs.Rules.{Record, State, stateOf}
+use Rattle.rulebook.specs.Ledger.{Ledger, Row, none, rowAt, someBlock, isFree, hasNumber, fillBlock, isBlock, keepsBlock, putRow, putFinal}
+use Rattle.rulebook.specs.Rules.{Record, State, stateOf, recordOf, report}
 use Rattle.rulebook.specs.WellFormed.{Shaped}
-use Rattle.safety.specs.Ballots.{announces}
+use Rattle.safety.specs.Ballots.{sameRecord, among, announces}
+use Rattle.safety.specs.Grounds.{FinalIn, Behind}
 use Rattle.safety.specs.Moves.{SameRest, Onward}
 use Rattle.safety.proofs.Tests.{and-T, or-T, T-left, T-right}
 use Rattle.safety.proofs.Growing.{rest-blocks, rest-blocks-back}
@@ -21,14 +23,52 @@ use Rattle.safety.proofs.Stores.{row-part, row-here, row-there}
 
 -- ---- nothing
 
--- The rows stay but for their cells and marks.
-pub rest-onward : (i : Input) (o : State) (l : Ledger) (rs : List Record) → ((s : ℕ) → SameRest (rowAt (o .ledger) s) (rowAt l s)) → Onward i o (stateOf l rs)
-rest-onward i o l rs rest =
-    record { blocks = rest-blocks (o .ledger) l rest; newBlocks = λ s b q x t. inl (rest-blocks-back (o .ledger) l rest s b q x t) }
+-- Records with one more, which has something behind it.
+pub one-more : (l : Ledger) (k s b : ℕ) (rs : List Record) → Behind l (recordOf k s b) → (r : Record) → T (among (recordOf k s b ∷ rs) r) → (T (among rs r)) ⊎ Behind l r
+one-more l k s b rs h r t =
+    or-T (sameRecord (recordOf k s b) r) (among rs r) t
+    (λ u.
+    let a = and-T (eqb k (r .kind)) (eqb s (r .slot) && eqb b (r .block)) u in
+    let c = and-T (eqb s (r .slot)) (eqb b (r .block)) (a .1) in
+    inr (subst (λ (x : ℕ). Behind l (recordOf x (r .slot) (r .block))) (eqb→eq k (r .kind) (a .0))
+    (subst (λ (x : ℕ). Behind l (recordOf k x (r .block))) (eqb→eq s (r .slot) (c .0))
+    (subst (λ (x : ℕ). Behind l (recordOf k s x)) (eqb→eq b (r .block) (c .1)) h)))) (λ u. inl u)
 
--- Another row with the same blocks.
+-- The rows stay but for their cells and marks.
+pub rest-onward : (i : Input) (o : State) (l : Ledger) (rs : List Record) → ((s : ℕ) → SameRest (rowAt (o .ledger) s) (rowAt l s))
+    → ((r : Record) → T (among rs r) → (T (among (o .records) r)) ⊎ Behind (o .ledger) r) → Onward i o (stateOf l rs)
+rest-onward i o l rs rest told =
+    record {
+      blocks = rest-blocks (o .ledger) l rest;
+      newBlocks = λ s b q x t. inl (rest-blocks-back (o .ledger) l rest s b q x t);
+      newFinal = λ s. inl (rest s .final);
+      newRecords = told;
+    }
+
+-- Another row with the same blocks and the same final block.
 pub row-rest : {most : ℕ} (l : Ledger) (s : ℕ) (r : Row) → s < suc lastSlot → Shaped most l → SameRest (rowAt l s) r → (s′ : ℕ) → SameRest (rowAt l s′) (rowAt (putRow l s r) s′)
-row-rest l s r h sh e s′ = record { blocks = row-part (λ r. r .blocks) l s r h sh (e .blocks) s′ }
+row-rest l s r h sh e s′ =
+    record { blocks = row-part (λ r. r .blocks) l s r h sh (e .blocks) s′; final = row-part (λ r. r .final) l s r h sh (e .final) s′ }
+
+-- ---- a final block
+
+-- Slot s gets the final block b, with what stands behind it.
+pub final-onward : {most : ℕ} (i : Input) (o : State) (s b : ℕ) → s < suc lastSlot → Shaped most (o .ledger) → FinalIn (o .ledger) s b
+    → Onward i o (report o (putFinal (o .ledger) s b) 6 s b)
+unfolding keepsBlock
+final-onward i o s b h sh m =
+    let l = o .ledger in
+    let kept : (s′ : ℕ) → rowAt (putFinal l s b) s′ .blocks ≡ rowAt l s′ .blocks = λ s′. row-part (λ r. r .blocks) l s _ h sh refl s′ in
+    record {
+      blocks = λ s′ c q x t. subst (λ (ks : List Block). T (someBlock (isBlock c q x) ks)) (sym (kept s′)) t;
+      newBlocks = λ s′ c q x t. inl (subst (λ (ks : List Block). T (someBlock (isBlock c q x) ks)) (kept s′) t);
+      newFinal = λ s′. elim (ℕ-discrete s′ s) [
+        | yes e ↦ inr (subst (λ (k : ℕ). FinalIn l k (rowAt (putFinal l s b) k .final)) (sym e)
+            (subst (λ (f : ℕ). FinalIn l s f) (sym (ap (λ (r : Row). r .final) (row-here l s _ h sh))) m))
+        | no ne ↦ inl (ap (λ (r : Row). r .final) (row-there l s _ s′ ne))
+      ];
+      newRecords = one-more l 6 s b (o .records) (record { final = λ _. m; clash = λ e. absurd (omega (arith, e)) });
+    }
 
 -- ---- a block in the first free place
 
@@ -89,9 +129,9 @@ module _ {most : ℕ} (i : Input) (l : Ledger) (s : ℕ) (k : Block) (a : Announ
       let p = is-parts b q x k t in
       subst (λ (j : ℕ). (q < j) × T (not (none x)) × T (announces i j b q x)) (sym e) (rw (p .0) (a .lower), rw (p .1) (a .parent), say b q x t)
 
-  pub block-onward : (r : Row) → r .blocks ≡ fillBlock k (rowAt l s .blocks) → Onward i (stateOf l []) (stateOf (putRow l s r) [])
+  pub block-onward : (r : Row) → r .blocks ≡ fillBlock k (rowAt l s .blocks) → r .final ≡ rowAt l s .final → Onward i (stateOf l []) (stateOf (putRow l s r) [])
   unfolding keepsBlock
-  block-onward r f =
+  block-onward r f same =
       let here = row-here l s r (a .slot) sh in
       record {
         blocks = λ s′ b q x t. elim (ℕ-discrete s′ s) [
@@ -106,4 +146,6 @@ module _ {most : ℕ} (i : Input) (l : Ledger) (s : ℕ) (k : Block) (a : Announ
               (subst (λ (z : Row). T (someBlock (isBlock b q x) (z .blocks))) here (subst (λ (j : ℕ). T (keepsBlock (putRow l s r) j b q x)) e t))))
           | no ne ↦ inl (subst (λ (z : Row). T (someBlock (isBlock b q x) (z .blocks))) (row-there l s r s′ ne) t)
         ];
+        newFinal = λ s′. inl (row-part (λ r. r .final) l s r (a .slot) sh same s′);
+        newRecords = λ r t. absurd t;
       }

@@ -1,4 +1,4 @@
--- What stands behind a vote where rule B or D casts it.
+-- What stands behind a vote where rule B or D casts it, and behind a final block that F or the walk reports.
 use mathlib.Core.Path.{_≡_, sym, subst}
 use mathlib.Core.Bool.{Bool, true, false, not, _&&_}
 use mathlib.Core.List.{List, [], _∷_}
@@ -15,12 +15,13 @@ use Rattle.rulebook.specs.Weights.{weight, reaches, dWeights, isFirst}
 use Rattle.rulebook.specs.Ledger.{Ledger, none, noBlock, cellAt, ownCell, blocksAt, firstBlock, someBlock, isFree, hasNumber, isBlock, keepsBlock}
 use Rattle.rulebook.specs.Pool.{hasFallback, counts, weigh, weighs, signersOf, fifthsOf, held, parentHeld, skippedBetween, ready}
 use Rattle.rulebook.specs.Checker.{isOtherKind, blockMisfits}
-use Rattle.rulebook.specs.Rules.{parentFits, fallbackWeights, parentBacked, isBacked, isGrounded}
+use Rattle.rulebook.specs.Rules.{parentFits, fallbackWeights, parentBacked, isBacked, isGrounded, isFinal, findBlock}
 use Rattle.rulebook.proofs.ToolLaws.{all-at}
+use Rattle.rulebook.proofs.BlockLaws.{find-kept}
 use Rattle.safety.specs.Slot.{notar, notarFallback, skip}
 use Rattle.safety.specs.Ballots.{has}
-use Rattle.safety.specs.Grounds.{signs, weightOf, Held, byVotes, BackedAt, ReadyParent, HeldParent, NotarGrounds}
-use Rattle.safety.proofs.Tests.{T-true, true-T, and-T, T-and, or-T, T-left, T-right}
+use Rattle.safety.specs.Grounds.{signs, weightOf, Held, byVotes, BackedAt, ReadyParent, HeldParent, NotarGrounds, FinalIn, fast, slow}
+use Rattle.safety.proofs.Tests.{T-true, true-T, not-false, and-T, T-and, or-T, T-left, T-right}
 use Rattle.safety.proofs.Weighing.{reaches-more, reaches-less, weights-more, weight-mono}
 use Rattle.safety.proofs.Cells.{is-notar}
 use Rattle.safety.proofs.Guards.{given-T}
@@ -44,6 +45,15 @@ is-block k b h e =
     T-and (not (isFree k)) (hasNumber b k && (eqb (k .parentslot .0) (k .parentslot .0) && eqb (k .parent) (k .parent))) h
     (T-and (hasNumber b k) (eqb (k .parentslot .0) (k .parentslot .0) && eqb (k .parent) (k .parent)) e
     (T-and (eqb (k .parentslot .0) (k .parentslot .0)) (eqb (k .parent) (k .parent)) (eqb-refl (k .parentslot .0)) (eqb-refl (k .parent))))
+
+-- A kept block has a number.
+pub kept-number : (l : Ledger) (s b p x : ℕ) → T (keepsBlock l s b p x) → T (not (none b))
+unfolding keepsBlock isBlock
+kept-number l s b p x t =
+    let h = some-block-at (isBlock b p x) (blocksAt l s) t in
+    let k = h .0 in
+    let a = and-T (not (isFree k)) (hasNumber b k && (eqb (k .parentslot .0) p && eqb (k .parent) x)) (h .1) in
+    subst (λ (n : ℕ). T (not (none n))) (eqb→eq (k .number) b (and-T (hasNumber b k) _ (a .1) .0)) (a .0)
 
 -- ---- held
 
@@ -182,3 +192,21 @@ module _ (l : Ledger) where
       let kp : T (keepsBlock l s b (k .parentslot .0) (k .parent)) = h .2 (isBlock b (k .parentslot .0) (k .parent)) (is-block k b (c .0) (c .1)) in
       let g = ok s b (k .parentslot .0) (k .parent) kp in
       record { slot = k .parentslot .0; parent = k .parent; kept = kp; backed = held-Held certificate.NotarFallback (k .parentslot .0) (k .parent) tt (g .1) (given-T _ _ (a .1) .1) })
+
+  -- ---- rule F and the walk
+
+  pub certified-final : (s b : ℕ) → T (not (none b)) → T (isFinal l s b) → FinalIn l s b
+  unfolding isFinal isOtherKind blockMisfits
+  certified-final s b nb t =
+      or-T (held l certificate.FastFinal s b) (held l certificate.Notar s b && held l certificate.Final s 0) t
+      (λ u. fast (held-Held certificate.FastFinal s b tt nb u))
+      (λ u. let a = and-T (held l certificate.Notar s b) (held l certificate.Final s 0) u in
+      slow (held-Held certificate.Notar s b tt nb (a .0)) (held-Held certificate.Final s 0 tt tt (a .1)))
+
+  -- A block that is found with its parent is kept with it.
+  pub found-kept : (s b : ℕ) → T (not (none (findBlock b (blocksAt l s) .parentslot .0)))
+      → T (keepsBlock l s b (findBlock b (blocksAt l s) .parentslot .0) (findBlock b (blocksAt l s) .parent))
+  unfolding keepsBlock
+  found-kept s b t =
+      true-T (someBlock (isBlock b (findBlock b (blocksAt l s) .parentslot .0) (findBlock b (blocksAt l s) .parent)) (blocksAt l s))
+      (find-kept b (blocksAt l s) (not-false (none (findBlock b (blocksAt l s) .parentslot .0)) t))

@@ -4,13 +4,15 @@ use mathlib.Core.Bool.{_||_}
 use Prim.Native.Nat.{ℕ, zero, suc, _≤_}
 use lib.Dec.{T}
 use Rattle.rulebook.specs.declared.CertificateKind.{CertificateKind}
+use Rattle.rulebook.specs.declared.CertificateKind.the-variants as certificate
 use Rattle.rulebook.specs.Weights.{weight, reaches, dWeights}
 use Rattle.rulebook.specs.Ledger.{Ledger, rowAt, cellAt, keepsBlock}
 use Rattle.rulebook.specs.Pool.{fifthsOf}
+use Rattle.rulebook.specs.Rules.{Record}
 use Rattle.safety.specs.Slot.{Ballot, notar, notarFallback, skip, skipFallback, final}
 use Rattle.safety.specs.Ballots.{has}
 use Rattle.safety.specs.Ring.{ballotA, ballotB}
-use Rattle.safety.specs.Grounds.{weightOf, Held, byVotes, BackedAt, Grounds}
+use Rattle.safety.specs.Grounds.{weightOf, Held, byVotes, BackedAt, Grounds, FinalIn, fast, slow, ancestor, ClashIn, Behind}
 use Rattle.safety.specs.Moves.{SameTable, SameRest}
 use Rattle.safety.proofs.Tests.{or-T, T-left, T-right}
 use Rattle.safety.proofs.Weighing.{reaches-more, weights-more, weight-mono}
@@ -122,3 +124,16 @@ module _ (l m : Ledger) (table : SameTable l m) (grow : Grow l m) where
   grounds-grow me s skip g = tt
   grounds-grow me s skipFallback g = tt
   grounds-grow me s final g = tt
+
+  pub final-grow : (s b : ℕ) → FinalIn l s b → FinalIn m s b
+  final-grow s b (fast h) = fast (held-grow certificate.FastFinal s b h)
+  final-grow s b (slow h f) = slow (held-grow certificate.Notar s b h) (held-grow certificate.Final s 0 f)
+  final-grow s b (ancestor {s = t} {b = c} k i) = ancestor (final-grow t c k) (grow .blocks t c s b i)
+
+  clash-grow : (s b : ℕ) → ClashIn l s b → ClashIn m s b
+  clash-grow s b c =
+      record { other = c .other; differs = c .differs; old = final-grow s (c .other) (c .old); newcomer = final-grow s b (c .newcomer) }
+
+  pub behind-grow : (r : Record) → Behind l r → Behind m r
+  behind-grow r h =
+      record { final = λ e. final-grow (r .slot) (r .block) (h .final e); clash = λ e. clash-grow (r .slot) (r .block) (h .clash e) }

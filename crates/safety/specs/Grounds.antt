@@ -1,5 +1,5 @@
--- What stands behind a node's own votes besides their guards in the slot: certificates held, kept blocks with their parents. All of it
--- only grows truer, so that the node's end tells what held when it voted.
+-- What stands behind a node's own votes besides their guards in the slot, and behind its final blocks: certificates held, kept blocks with
+-- their parents. All of it only grows truer, so that the node's end tells what held when it voted.
 use mathlib.Core.Path.{_≡_}
 use mathlib.Core.Bool.{Bool, not, _||_}
 use Prim.Native.Nat.{ℕ, zero, suc, _<_}
@@ -10,6 +10,7 @@ use Rattle.rulebook.specs.declared.CertificateKind.the-variants as certificate
 use Rattle.rulebook.specs.Weights.{weight, reaches, dWeights, isFirst}
 use Rattle.rulebook.specs.Ledger.{Ledger, cellAt, keepsBlock}
 use Rattle.rulebook.specs.Pool.{fifthsOf}
+use Rattle.rulebook.specs.Rules.{Record}
 use Rattle.safety.specs.Slot.{Ballot, notar, notarFallback, skip, skipFallback, final}
 use Rattle.safety.specs.Ballots.{has}
 use Rattle.safety.specs.Ring.{ballotA, ballotB}
@@ -72,3 +73,21 @@ Grounds me l s (notarFallback b) = FallbackGrounds l s b
 Grounds me l s skip = Unit {0}
 Grounds me l s skipFallback = Unit {0}
 Grounds me l s final = Unit {0}
+
+-- Block b of slot s is final: by certificates, or as the parent of a final block that is kept with it.
+pub data FinalIn (l : Ledger) : ℕ → ℕ → Type 0 where
+  fast : {s b : ℕ} → Held l certificate.FastFinal s b → FinalIn l s b
+  slow : {s b : ℕ} → Held l certificate.Notar s b → Held l certificate.Final s 0 → FinalIn l s b
+  ancestor : {s b p x : ℕ} → FinalIn l s b → T (keepsBlock l s b p x) → FinalIn l p x
+
+-- Block b of slot s is final, and another block of that slot too.
+pub record ClashIn (l : Ledger) (s b : ℕ) : Type 0 where
+  pub other : ℕ
+  pub differs : ¬ (other ≡ b)
+  pub old : FinalIn l s other
+  pub newcomer : FinalIn l s b
+
+-- What stands behind a record that is no vote.
+pub record Behind (l : Ledger) (r : Record) : Type 0 where
+  pub final : r .kind ≡ 6 → FinalIn l (r .slot) (r .block)
+  pub clash : r .kind ≡ 8 → ClashIn l (r .slot) (r .block)

@@ -67,11 +67,12 @@ unfolding rowFits cellsFit
 row-facts l s e =
     let r : Row = rowAt l s in
     let p = and-both (blocksFit l s (r .blocks)) _ e in
-    let z = and-both (flag (r .timedOut)) (cellsFit l s (l .count) && ownFits l s) (p .1) in
+    let z = and-both (flag (r .timedOut) && flag (r .clash)) (cellsFit l s (l .count) && ownFits l s) (p .1) in
     let q = and-both (cellsFit l s (l .count)) (ownFits l s) (z .1) in
     record {
       blocks = p .0;
-      timedOut = leb-true (r .timedOut) 1 (z .0);
+      timedOut = leb-true (r .timedOut) 1 (and-both (flag (r .timedOut)) (flag (r .clash)) (z .0) .0);
+      clash = leb-true (r .clash) 1 (and-both (flag (r .timedOut)) (flag (r .clash)) (z .0) .1);
       cells = λ n a b. sym (given-on (ltb n (l .count)) (cellBlank (cellAt l s n)) (λ _. cellFits (cellAt l s n)) (lt-ltb n (l .count) b)) ∙ all-at (places l) n (cellOk r (l .count)) (q .0) a;
       beyond = λ n a b. sym (given-off (ltb n (l .count)) (cellBlank (cellAt l s n)) (λ _. cellFits (cellAt l s n)) (le-ltb n (l .count) (omega arith))) ∙ all-at (places l) n (cellOk r (l .count)) (q .0) a;
     }
@@ -82,7 +83,7 @@ unfolding rowFits
 row-own l s e =
     let r : Row = rowAt l s in
     let p = and-both (blocksFit l s (r .blocks)) _ e in
-    let z = and-both (flag (r .timedOut)) (cellsFit l s (l .count) && ownFits l s) (p .1) in
+    let z = and-both (flag (r .timedOut) && flag (r .clash)) (cellsFit l s (l .count) && ownFits l s) (p .1) in
     and-both (cellsFit l s (l .count)) (ownFits l s) (z .1) .1
 
 pub facts-row : (l : Ledger) (s : ℕ) → RowFacts l s (rowAt l s) → ownFits l s ≡ true → rowFits l s ≡ true
@@ -90,7 +91,8 @@ unfolding rowFits cellsFit
 facts-row l s f o =
     let r : Row = rowAt l s in
     both-and (blocksFit l s (r .blocks)) _ (f .blocks)
-    (both-and (flag (r .timedOut)) (cellsFit l s (l .count) && ownFits l s) (le-leb (r .timedOut) 1 (f .timedOut))
+    (both-and (flag (r .timedOut) && flag (r .clash)) (cellsFit l s (l .count) && ownFits l s)
+    (both-and (flag (r .timedOut)) (flag (r .clash)) (le-leb (r .timedOut) 1 (f .timedOut)) (le-leb (r .clash) 1 (f .clash)))
     (both-and (cellsFit l s (l .count)) (ownFits l s)
     (all-each (places l) (cellOk r (l .count)) (λ n a.
     by-test (ltb n (l .count))

@@ -63,7 +63,7 @@ module _ (l : Ledger) (h : Placed l) (t : ℕ) (high : t ≤ lastSlot) (k : Vote
   abbrev voted : Row
   voted =
       let r = rowAt l t in
-      record { blocks = r .blocks; timedOut = r .timedOut; final = r .final; cells = set (r .cells) (l .own) (withVote (ownCell l t) k b) }
+      record { blocks = r .blocks; timedOut = r .timedOut; final = r .final; clash = r .clash; cells = set (r .cells) (l .own) (withVote (ownCell l t) k b) }
 
   -- The own cell of its slot has the vote, those of other slots stay.
   own-here : ownCell (storeVote l t (l .own) k b) t ≡ withVote (ownCell l t) k b
@@ -103,10 +103,10 @@ vote-taken s o h t high k b e m =
 -- ---- every rule
 
 -- A row with the same cells leaves what is left.
-left-row : (l : Ledger) (s t : ℕ) (bs : List Block) (x f : ℕ) → t < length (l .rows)
-    → fallbacksLeft (ownCell (putRow l t (record { blocks = bs; timedOut = x; final = f; cells = rowAt l t .cells })) s) ≡ fallbacksLeft (ownCell l s)
-left-row l s t bs x f h =
-    ap (λ (c : Cell). fallbacksLeft c) (row-cells l t (record { blocks = bs; timedOut = x; final = f; cells = rowAt l t .cells }) h refl s (l .own))
+left-row : (l : Ledger) (s t : ℕ) (bs : List Block) (x f c : ℕ) → t < length (l .rows)
+    → fallbacksLeft (ownCell (putRow l t (record { blocks = bs; timedOut = x; final = f; clash = c; cells = rowAt l t .cells })) s) ≡ fallbacksLeft (ownCell l s)
+left-row l s t bs x f c h =
+    ap (λ (d : Cell). fallbacksLeft d) (row-cells l t (record { blocks = bs; timedOut = x; final = f; clash = c; cells = rowAt l t .cells }) h refl s (l .own))
 
 pub taken-lawful : (s left : ℕ) → Lawful (Taken s left)
 unfolding fallbacksTold part
@@ -125,7 +125,14 @@ taken-lawful s left =
             sound = sound-lawful .tell o t b low high e m (h .sound);
             balance =
                 let r : Row = rowAt (o .ledger) t in
-                omega (arith, part-le (eqb t s) 0, left-row (o .ledger) s t (r .blocks) (r .timedOut) b (omega (arith, h .sound .shaped .rows)), h .balance);
+                omega (arith, part-le (eqb t s) 0, left-row (o .ledger) s t (r .blocks) (r .timedOut) b (r .clash) (omega (arith, h .sound .shaped .rows)), h .balance);
+          };
+      clash = λ o t b low high e h.
+          record {
+            sound = sound-lawful .clash o t b low high e (h .sound);
+            balance =
+                let r : Row = rowAt (o .ledger) t in
+                omega (arith, part-le (eqb t s) 0, left-row (o .ledger) s t (r .blocks) (r .timedOut) (r .final) 1 (omega (arith, h .sound .shaped .rows)), h .balance);
           };
     }
 
@@ -142,7 +149,7 @@ module _ (l : Ledger) (h : Sound l) (s : ℕ) where
   unfolding fallbacksTold
   timedOut-taken t low high =
       let r : Row = rowAt l t in
-      record { sound = sound-timedOut l h t low high; balance = omega (arith, left-row l s t (r .blocks) 1 (r .final) (rows-there t high)) }
+      record { sound = sound-timedOut l h t low high; balance = omega (arith, left-row l s t (r .blocks) 1 (r .final) (r .clash) (rows-there t high)) }
 
   -- Another node's vote.
   outside-left : (v : Vote) → VoteFine l v → fallbacksLeft (ownCell (storeVote l (v .slot .0) (v .node .0) (v .kind) (v .block)) s) ≡ left
@@ -161,7 +168,7 @@ module _ (l : Ledger) (h : Sound l) (s : ℕ) where
       let r : Row = rowAt l (t .0) in
       record {
         sound = intake-sound l h (input.Block t b) e;
-        balance = omega (arith, left-row l s (t .0) (fillBlock b (r .blocks)) (r .timedOut) (r .final) (rows-there (t .0) (f .high)));
+        balance = omega (arith, left-row l s (t .0) (fillBlock b (r .blocks)) (r .timedOut) (r .final) (r .clash) (rows-there (t .0) (f .high)));
       }
   intake-taken (input.Timeout t) e =
       let f = timeout-fine l (t .0) e in

@@ -15,7 +15,7 @@ use Rattle.rulebook.specs.declared.VoteKind.the-variants as vote
 use Rattle.rulebook.specs.declared.Place.the-variants.{Free}
 use Rattle.rulebook.specs.Tools.{given, allTo}
 use Rattle.rulebook.specs.Weights.{lastSlot, windowOf}
-use Rattle.rulebook.specs.Ledger.{Ledger, Row, none, noCell, noInitial, places, rowAt, cellAt, blocksAt, allBlocks, isFree, fillBlock, putRow, putBlocks, putTimedOut, putFinal, putArmed}
+use Rattle.rulebook.specs.Ledger.{Ledger, Row, none, noCell, noInitial, places, rowAt, cellAt, blocksAt, allBlocks, isFree, fillBlock, putRow, putBlocks, putTimedOut, putFinal, putClash, putArmed}
 use Rattle.rulebook.specs.Pool.{hasFallback}
 use Rattle.rulebook.specs.Votes.{placeOf, withVote, fillFallback, storeVote}
 use Rattle.rulebook.specs.Inputs.{badParent}
@@ -161,6 +161,7 @@ row-same l m s r g n k f =
     record {
       blocks = blocks-same l m s (r .blocks) g (f .blocks);
       timedOut = f .timedOut;
+      clash = f .clash;
       cells = λ i a b. f .cells i (omega arith) (omega arith);
       beyond = λ i a b. f .beyond i (omega arith) (omega arith);
     }
@@ -169,7 +170,7 @@ row-same l m s r g n k f =
 abbrev blankOf : ℕ → Row → Bool
 blankOf p r =
     allBlocks blockBlank (r .blocks)
-    && ((none (r .timedOut) && none (r .final))
+    && ((none (r .timedOut) && (none (r .final) && none (r .clash)))
     && allTo p (λ n. given (ltb n 0) (cellBlank (getD (r .cells) n noCell)) (λ _. cellFits (getD (r .cells) n noCell))))
 
 blank-is : (l : Ledger) → rowBlank l ≡ blankOf (places l) (rowAt l 0)
@@ -213,10 +214,11 @@ module _ (l : Ledger) (h : Shaped (places l) l) (f : Formed l) where
         let g = f .rows s a b in
         let few = count-placed l (f .head) in
         let long : n < length (r .cells) = omega (arith, h .cells s (omega arith)) in
-        formed-row s (record { blocks = r .blocks; timedOut = r .timedOut; final = r .final; cells = set (r .cells) n c }) a b
+        formed-row s (record { blocks = r .blocks; timedOut = r .timedOut; final = r .final; clash = r .clash; cells = set (r .cells) n c }) a b
         (record {
           blocks = g .blocks;
           timedOut = g .timedOut;
+          clash = g .clash;
           cells = λ i p q.
               cell-cases (λ _ y. cellFits y ≡ true) r n c i long
               (vote-fits (cellAt l s n) k x e (g .cells n (omega arith) low)) (λ _. g .cells i p q);
@@ -231,22 +233,29 @@ module _ (l : Ledger) (h : Shaped (places l) l) (f : Formed l) where
     formed-blocks xs e =
         let r : Row = rowAt l s in
         let g = f .rows s a b in
-        formed-row s (record { blocks = xs; timedOut = r .timedOut; final = r .final; cells = r .cells }) a b
-        (record { blocks = e; timedOut = g .timedOut; cells = g .cells; beyond = g .beyond }) (own-row l s _ (omega (arith, h .rows)) refl)
+        formed-row s (record { blocks = xs; timedOut = r .timedOut; final = r .final; clash = r .clash; cells = r .cells }) a b
+        (record { blocks = e; timedOut = g .timedOut; clash = g .clash; cells = g .cells; beyond = g .beyond }) (own-row l s _ (omega (arith, h .rows)) refl)
 
     pub formed-timedOut : Formed (putTimedOut l s)
     formed-timedOut =
         let r : Row = rowAt l s in
         let g = f .rows s a b in
-        formed-row s (record { blocks = r .blocks; timedOut = 1; final = r .final; cells = r .cells }) a b
-        (record { blocks = g .blocks; timedOut = omega arith; cells = g .cells; beyond = g .beyond }) (own-row l s _ (omega (arith, h .rows)) refl)
+        formed-row s (record { blocks = r .blocks; timedOut = 1; final = r .final; clash = r .clash; cells = r .cells }) a b
+        (record { blocks = g .blocks; timedOut = omega arith; clash = g .clash; cells = g .cells; beyond = g .beyond }) (own-row l s _ (omega (arith, h .rows)) refl)
 
     pub formed-final : (x : ℕ) → Formed (putFinal l s x)
     formed-final x =
         let r : Row = rowAt l s in
         let g = f .rows s a b in
-        formed-row s (record { blocks = r .blocks; timedOut = r .timedOut; final = x; cells = r .cells }) a b
-        (record { blocks = g .blocks; timedOut = g .timedOut; cells = g .cells; beyond = g .beyond }) (own-row l s _ (omega (arith, h .rows)) refl)
+        formed-row s (record { blocks = r .blocks; timedOut = r .timedOut; final = x; clash = r .clash; cells = r .cells }) a b
+        (record { blocks = g .blocks; timedOut = g .timedOut; clash = g .clash; cells = g .cells; beyond = g .beyond }) (own-row l s _ (omega (arith, h .rows)) refl)
+
+    pub formed-clash : Formed (putClash l s)
+    formed-clash =
+        let r : Row = rowAt l s in
+        let g = f .rows s a b in
+        formed-row s (record { blocks = r .blocks; timedOut = r .timedOut; final = r .final; clash = 1; cells = r .cells }) a b
+        (record { blocks = g .blocks; timedOut = g .timedOut; clash = omega arith; cells = g .cells; beyond = g .beyond }) (own-row l s _ (omega (arith, h .rows)) refl)
 
     pub formed-armed : Formed (putArmed l s)
     formed-armed =

@@ -1,4 +1,4 @@
--- A node whose ledger is sound makes at most 116 records in its life, whatever it is fed.
+-- A node whose ledger is sound makes at most 132 records in its life, whatever it is fed.
 use mathlib.Core.Path.{_≡_, refl, _∙_}
 use mathlib.Core.List.{List, [], _∷_}
 use Prim.Native.Nat.{ℕ, _≤_}
@@ -49,7 +49,7 @@ paid-came l o p a c =
           };
     }
 
--- So many records fit: at most 116 are made.
+-- So many records fit: at most 132 are made.
 pub paid-within : (l m : Ledger) (n : ℕ) → Paid l m n → n ≤ mostRecords
 paid-within l m n h = omega (arith, h .spent, spare-most l)
 
@@ -105,7 +105,7 @@ module _ (l : Ledger) (h : Sound l) where
   called-paid i e =
       let p = intake-paid i e in paid-came l (intake l i) (run (intake l i)) p (run-comes (intake l i) (p .sound))
 
-  -- An outbox of 128 records has room for a call.
+  -- An outbox of 160 records has room for a call.
   pub called-within : (i : Input) → verdict l i ≡ Fine → made (run (intake l i)) ≤ mostRecords
   called-within i e = paid-within l (run (intake l i) .ledger) (made (run (intake l i))) (called-paid i e)
 
@@ -154,6 +154,6 @@ life-paid l (i ∷ is) h =
           };
     }
 
--- "a node makes at most 116 records in its life".
+-- "the life total is at most 132".
 pub life-within : (l : Ledger) (is : List Input) → Sound l → length (life l is) ≤ mostRecords
 life-within l is h = paid-within l (after l is) (length (life l is)) (life-paid l is h)

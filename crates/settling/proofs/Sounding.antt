@@ -1,29 +1,33 @@
 -- What every call finds and leaves: a ledger of the right shape that is well-formed. Each writing keeps it so, and in it there is no fourth
 -- own fallback.
-use mathlib.Core.Path.{_≡_, _∙_}
-use mathlib.Core.Bool.{true, false}
+use mathlib.Core.Path.{_≡_, sym, ap, _∙_}
+use mathlib.Core.Bool.{true, false, not, _&&_}
+use mathlib.Core.List.{List}
 use Prim.Native.Nat.{ℕ, _<_, _≤_}
 use native.Mathlib.Omega.{arith}
 use lib.ListN.{set, length-set}
+use lib.Dec.{ltb}
+use borrow.Author.Tests.{not-true, eqb-false, ltb-true}
+use lib.Arith.{lt-of-le-ne}
 use Rattle.rulebook.specs.declared.Cell.{Cell}
 use Rattle.rulebook.specs.declared.Block.{Block}
 use Rattle.rulebook.specs.declared.VoteKind.{VoteKind}
 use Rattle.rulebook.specs.declared.Place.the-variants.{Free}
 use Rattle.rulebook.specs.Weights.{lastSlot, stakeIn, totalTo}
-use Rattle.rulebook.specs.Ledger.{places, Ledger, Row, none, rowAt, cellAt, ownCell, blocksAt, fillBlock, putTimedOut, putFinal, putArmed}
+use Rattle.rulebook.specs.Ledger.{places, Ledger, Row, none, rowAt, cellAt, ownCell, blocksAt, allBlocks, isFree, fillBlock, putTimedOut, putFinal, putClash, putArmed}
 use Rattle.rulebook.specs.Pool.{hasFallback}
 use Rattle.rulebook.specs.Votes.{placeOf, withVote, storeVote}
-use Rattle.rulebook.specs.Rules.{fallbackWeights}
-use Rattle.rulebook.specs.Inputs.{keepBlock}
-use Rattle.rulebook.specs.WellFormed.{Shaped}
-use Rattle.rulebook.proofs.ToolLaws.{sum-term}
-use Rattle.rulebook.proofs.BlockLaws.{fill-length}
+use Rattle.rulebook.specs.Rules.{fallbackWeights, findBlock}
+use Rattle.rulebook.specs.Inputs.{badParent, keepBlock}
+use Rattle.rulebook.specs.WellFormed.{Shaped, keptFits, blocksApart, blocksFit}
+use Rattle.rulebook.proofs.ToolLaws.{given-on, and-both, sum-term}
+use Rattle.rulebook.proofs.BlockLaws.{fill-length, find-all}
 use Rattle.rulebook.proofs.FourthLaws.{Counted}
 use Rattle.settling.specs.Facts.{CellFacts, HeadFacts, Sound}
-use Rattle.settling.specs.Steps.{Placed, weighed, BlockFine}
+use Rattle.settling.specs.Steps.{Placed, weighed, BlockFine, WalkParent}
 use Rattle.settling.proofs.Places.{shaped-row, shaped-armed}
 use Rattle.settling.proofs.FactLaws.{formed, well-formed, count-placed, cell-facts}
-use Rattle.settling.proofs.FormedLaws.{formed-vote, formed-blocks, formed-timedOut, formed-final, formed-armed, fine-blocks}
+use Rattle.settling.proofs.FormedLaws.{formed-vote, formed-blocks, formed-timedOut, formed-final, formed-clash, formed-armed, fine-blocks}
 use Rattle.settling.proofs.Weighing.{third-free}
 
 -- ---- the shape
@@ -33,7 +37,7 @@ unfolding storeVote
 stored-shaped l s n k b h a =
     let r : Row = rowAt l s in
     let c : Cell = withVote (cellAt l s n) k b in
-    shaped-row l s (record { blocks = r .blocks; timedOut = r .timedOut; final = r .final; cells = set (r .cells) n c }) h a (h .blocks s (omega arith))
+    shaped-row l s (record { blocks = r .blocks; timedOut = r .timedOut; final = r .final; clash = r .clash; cells = set (r .cells) n c }) h a (h .blocks s (omega arith))
     (length-set (r .cells) n c ∙ h .cells s (omega arith))
 
 module _ (l : Ledger) (h : Placed l) where
@@ -41,13 +45,13 @@ module _ (l : Ledger) (h : Placed l) where
   unfolding keepBlock
   kept-shaped s b a =
       let r : Row = rowAt l s in
-      shaped-row l s (record { blocks = fillBlock b (r .blocks); timedOut = r .timedOut; final = r .final; cells = r .cells }) (h .shaped) a
+      shaped-row l s (record { blocks = fillBlock b (r .blocks); timedOut = r .timedOut; final = r .final; clash = r .clash; cells = r .cells }) (h .shaped) a
       (fill-length b (r .blocks) ∙ h .shaped .blocks s (omega arith)) (h .shaped .cells s (omega arith))
 
   pub timedOut-shaped : (s : ℕ) → s ≤ lastSlot → Shaped (places (putTimedOut l s)) (putTimedOut l s)
   timedOut-shaped s a =
       let r : Row = rowAt l s in
-      shaped-row l s (record { blocks = r .blocks; timedOut = 1; final = r .final; cells = r .cells }) (h .shaped) a (h .shaped .blocks s (omega arith)) (h .shaped .cells s (omega arith))
+      shaped-row l s (record { blocks = r .blocks; timedOut = 1; final = r .final; clash = r .clash; cells = r .cells }) (h .shaped) a (h .shaped .blocks s (omega arith)) (h .shaped .cells s (omega arith))
 
 -- A sound ledger has a place for the own cells.
 pub sound-placed : (l : Ledger) → Sound l → Placed l
@@ -82,8 +86,16 @@ module _ (l : Ledger) (h : Sound l) (s : ℕ) (a : 1 ≤ s) (b : s ≤ lastSlot)
   sound-final x =
       let r : Row = rowAt l s in
       record {
-        shaped = shaped-row l s (record { blocks = r .blocks; timedOut = r .timedOut; final = x; cells = r .cells }) (h .shaped) b (h .shaped .blocks s (omega arith)) (h .shaped .cells s (omega arith));
+        shaped = shaped-row l s (record { blocks = r .blocks; timedOut = r .timedOut; final = x; clash = r .clash; cells = r .cells }) (h .shaped) b (h .shaped .blocks s (omega arith)) (h .shaped .cells s (omega arith));
         formed = well-formed (putFinal l s x) (formed-final l (h .shaped) (formed l (h .formed)) s a b x);
+      }
+
+  pub sound-clash : Sound (putClash l s)
+  sound-clash =
+      let r : Row = rowAt l s in
+      record {
+        shaped = shaped-row l s (record { blocks = r .blocks; timedOut = r .timedOut; final = r .final; clash = 1; cells = r .cells }) (h .shaped) b (h .shaped .blocks s (omega arith)) (h .shaped .cells s (omega arith));
+        formed = well-formed (putClash l s) (formed-clash l (h .shaped) (formed l (h .formed)) s a b);
       }
 
   pub sound-armed : Sound (putArmed l s)
@@ -109,3 +121,28 @@ fourth-free l h s low high b nb w new =
     let facts : (n : ℕ) → n < l .count → CellFacts (cellAt l s n) = λ n k. cell-facts (cellAt l s n) (f .rows s low high .cells n (omega arith) k) in
     let counted : Counted l s = record { sum = d .sum; some = some-stake l d; initial = λ n k. facts n k .initial } in
     third-free l s b counted (facts (l .own) (d .mine)) (f .own s low high) (record { block = nb; weights = w }) new
+
+-- ---- the walk's next slot
+
+-- A block that is found is kept, so its parent has a number.
+pub walk-parent : (l : Ledger) → Sound l → (s : ℕ) → 1 ≤ s → s ≤ lastSlot → (b : ℕ)
+    → (not (none (findBlock b (blocksAt l s) .parentslot .0)) && ltb (findBlock b (blocksAt l s) .parentslot .0) s) ≡ true
+    → WalkParent s (findBlock b (blocksAt l s) .parentslot .0) (findBlock b (blocksAt l s) .parent)
+unfolding blocksFit keptFits
+walk-parent l h s low high b e =
+    let bs : List Block = blocksAt l s in
+    let k : Block = findBlock b bs in
+    let p : ℕ = k .parentslot .0 in
+    let t = and-both (not (none p)) (ltb p s) e in
+    let fits = and-both (allBlocks (keptFits l s) bs) (blocksApart bs) (formed l (h .formed) .rows s low high .blocks) .0 in
+    let f = find-all (keptFits l s) b bs fits (not-true (none p) (t .0)) in
+    let g =
+    sym (given-on (not (isFree k)) (none p && none (k .parent)) (λ _. not (none (k .parent)) && not (badParent l s k)) (ap not (f .0))) ∙ f .1
+    in
+    let lower : p < s = ltb-true p s (t .1) in
+    record {
+      low = lt-of-le-ne (omega arith) (λ z. eqb-false p 0 (not-true (none p) (t .0)) (sym z));
+      lower = lower;
+      high = omega arith;
+      number = not-true (none (k .parent)) (and-both (not (none (k .parent))) (not (badParent l s k)) g .0);
+    }

@@ -8,17 +8,17 @@ use lib.ListN.{length, length-append}
 use Rattle.rulebook.specs.declared.VoteKind.{VoteKind}
 use Rattle.rulebook.specs.Weights.{lastSlot}
 use Rattle.rulebook.specs.PaperNumbers.{voteNumber}
-use Rattle.rulebook.specs.Ledger.{Ledger, putArmed, putFinal}
+use Rattle.rulebook.specs.Ledger.{Ledger, putArmed, putFinal, putClash}
 use Rattle.rulebook.specs.Votes.{storeVote}
-use Rattle.rulebook.specs.Rules.{Record, State, recordOf, report, cast, castSkips, ruleA, ruleB, ruleC, ruleD, ruleE, ruleF}
+use Rattle.rulebook.specs.Rules.{Record, State, recordOf, report, cast, castSkips, ruleA, ruleB, ruleC, ruleD, ruleE, ruleF, ruleG}
 use Rattle.rulebook.specs.Run.{made, ruleAt, firstRule, firstSlot, scan, runFor, run}
 use Rattle.settling.specs.Spare.{spare}
 use Rattle.settling.specs.Steps.{SameNode, Lawful, Came}
 use Rattle.settling.specs.Facts.{Sound}
 use Rattle.settling.proofs.FactLaws.{formed}
-use Rattle.settling.proofs.Sounding.{sound-placed, sound-vote, sound-armed, sound-final}
-use Rattle.settling.proofs.SpareLaws.{spare-own, spare-armed, spare-final}
-use Rattle.settling.proofs.LawfulRules.{skips-keep, A-keeps, B-keeps, C-keeps, D-keeps, E-keeps, F-keeps, rule-keeps, rules-keep, slots-keep, scan-keeps, runFor-keeps, run-keeps}
+use Rattle.settling.proofs.Sounding.{sound-placed, sound-vote, sound-armed, sound-final, sound-clash}
+use Rattle.settling.proofs.SpareLaws.{spare-own, spare-armed, spare-final, spare-clash}
+use Rattle.settling.proofs.LawfulRules.{skips-keep, A-keeps, B-keeps, C-keeps, D-keeps, E-keeps, F-keeps, G-keeps, rule-keeps, rules-keep, slots-keep, scan-keeps, runFor-keeps, run-keeps}
 
 -- ---- the node stays
 
@@ -76,6 +76,11 @@ came-lawful o =
           (sound-final (p .ledger) (c .sound) s low high b)
           (record { own = refl; count = refl; total = refl; genesis = refl; stakes = refl })
           (spare-final (p .ledger) s (sound-placed (p .ledger) (c .sound)) low high b e m);
+      clash = λ p s b low high e c.
+          came-one o p (putClash (p .ledger) s) 8 s b c
+          (sound-clash (p .ledger) (c .sound) s low high)
+          (record { own = refl; count = refl; total = refl; genesis = refl; stakes = refl })
+          (spare-clash (p .ledger) s (sound-placed (p .ledger) (c .sound)) low high e);
     }
 
 pub came-trans : (o p q : State) → Came o p → Came p q → Came o q
@@ -123,6 +128,9 @@ module _ (o : State) (h : Sound (o .ledger)) where
 
     pub F-comes : Came o (ruleF o s)
     F-comes = F-keeps (Came o) (came-lawful o) s a b o (came-self o h)
+
+    pub G-comes : Came o (ruleG o s)
+    G-comes = G-keeps (Came o) (came-lawful o) s a b o (came-self o h)
 
     pub rule-comes : (r : ℕ) → Came o (ruleAt r o s)
     rule-comes r = rule-keeps (Came o) (came-lawful o) s a b r o (came-self o h)

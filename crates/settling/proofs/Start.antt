@@ -1,4 +1,4 @@
--- A node that starts is sound, and so it stays; and its life makes at most 116 records.
+-- A node that starts is sound, and so it stays; and its life makes at most 132 records.
 use mathlib.Core.Path.{_≡_, refl, sym, ap, _∙_, subst}
 use mathlib.Core.Bool.{true, false, not, _&&_, _||_}
 use mathlib.Core.List.{List, [], _∷_, _++_}
@@ -60,6 +60,7 @@ blank-facts l s p =
     record {
       blocks = refl;
       timedOut = omega arith;
+      clash = omega arith;
       cells = λ n a b. ap cellFits (blank-cell p n) ∙ no-cell-fits;
       beyond = λ n a b. ap cellBlank (blank-cell p n) ∙ no-cell-blank;
     }
@@ -150,7 +151,7 @@ module _ (stakes : List ℕ) (own genesis : ℕ) (e : startVerdict stakes own ge
   pub fresh-sound : Sound (fresh stakes own genesis)
   fresh-sound = record { shaped = fresh-shaped; formed = well-formed (fresh stakes own genesis) fresh-formed }
 
-  -- It stays so, whatever it is fed, and makes at most 116 records.
+  -- It stays so, whatever it is fed, and makes at most 132 records.
   pub start-sound : (is : List Input) → Sound (after (fresh stakes own genesis) is)
   start-sound is = life-sound (fresh stakes own genesis) is fresh-sound
 

@@ -35,6 +35,7 @@ pub record SameTable (l m : Ledger) : Type 0 where
 pub record RowFacts (l : Ledger) (s : ℕ) (r : Row) : Type 0 where
   pub blocks : blocksFit l s (r .blocks) ≡ true
   pub timedOut : r .timedOut ≤ 1
+  pub clash : r .clash ≤ 1
   pub cells : (n : ℕ) → n < places l → n < l .count → cellFits (getD (r .cells) n noCell) ≡ true
   pub beyond : (n : ℕ) → n < places l → l .count ≤ n → cellBlank (getD (r .cells) n noCell) ≡ true
 

@@ -10,7 +10,7 @@ use Rattle.rulebook.specs.declared.VoteKind.the-variants as vote
 use Rattle.rulebook.specs.declared.Place.the-variants.{Free}
 use Rattle.rulebook.specs.declared.Input.{Input}
 use Rattle.rulebook.specs.Weights.{lastSlot}
-use Rattle.rulebook.specs.Ledger.{Ledger, none, places, rowAt, cellAt, ownCell, isArmed, blocksAt, someBlock, isFree, hasNumber, putArmed, putFinal}
+use Rattle.rulebook.specs.Ledger.{Ledger, none, places, rowAt, cellAt, ownCell, isArmed, blocksAt, someBlock, isFree, hasNumber, putArmed, putFinal, putClash}
 use Rattle.rulebook.specs.Votes.{placeOf}
 use Rattle.rulebook.specs.Rules.{Record, State, report, cast, fallbackWeights}
 use Rattle.rulebook.specs.Run.{made, ruleAt, runFor, run}
@@ -42,7 +42,7 @@ weighed l s vote.Final b = true
 weighed l s vote.Other b = true
 
 -- A property of states with sound ledgers that every way of making a record keeps: an own vote into a free place, an arming, a final block
--- told.
+-- told, another told.
 pub record Lawful (P : State → Type 0) : Type 1 where
   pub sound : (o : State) → P o → Sound (o .ledger)
   pub vote : (o : State) (s : ℕ) (k : VoteKind) (b : ℕ) → 1 ≤ s → s ≤ lastSlot
@@ -51,6 +51,15 @@ pub record Lawful (P : State → Type 0) : Type 1 where
       → isArmed (o .ledger) s ≡ false → P o → P (report o (putArmed (o .ledger) s) 7 s 0)
   pub tell : (o : State) (s b : ℕ) → 1 ≤ s → s ≤ lastSlot
       → none (rowAt (o .ledger) s .final) ≡ true → none b ≡ false → P o → P (report o (putFinal (o .ledger) s b) 6 s b)
+  pub clash : (o : State) (s b : ℕ) → 1 ≤ s → s ≤ lastSlot
+      → none (rowAt (o .ledger) s .clash) ≡ true → P o → P (report o (putClash (o .ledger) s) 8 s b)
+
+-- A parent to walk to: its slot, which is lower, and its number.
+pub record WalkParent (s p x : ℕ) : Type 0 where
+  pub low : 1 ≤ p
+  pub lower : p < s
+  pub high : p ≤ lastSlot
+  pub number : none x ≡ false
 
 -- State p came of state o by making records: new ones in front of the old, each of them paid by one of the potential; where there
 -- is no new one nothing has changed.

@@ -1,0 +1,103 @@
+-- Computed cases of finality of ancestors: the walk, what halts it, and two final blocks in one slot.
+use mathlib.Core.Bool.{Bool, _&&_}
+use mathlib.Core.List.{List, [], _∷_, _++_}
+use Prim.Native.Nat.{ℕ}
+use lib.ListN.{length}
+use lib.Dec.{T}
+use Rattle.rulebook.specs.declared.Input.{Input}
+use Rattle.rulebook.specs.Ledger.{Ledger, putArmed, putFinal}
+use Rattle.rulebook.specs.Rules.{stateOf, ruleG}
+use Rattle.rulebook.specs.Scripts.{vote, block, look, flatten, answers, stored, told, ring, equal, equals, all}
+use Rattle.rulebook.specs.Computes.{rules}
+
+-- A ring with its windows armed, whose own node never votes: no block of these cases has the parent that B asks for. Node 1 has 80
+-- percent.
+abbrev watching : Ledger
+watching = putArmed (putArmed (ring (1 ∷ 8 ∷ 1 ∷ []) []) 1) 5
+
+-- Node 1's vote, which makes a block final.
+abbrev seal : ℕ → ℕ → Input
+seal s b = vote 1 1 s b
+
+-- Blocks 21, 31, 41 and 51 of slots 2 to 5, each the parent of the next; 21 is a child of genesis.
+abbrev second : Input
+second = block 2 21 0 1
+
+abbrev third : Input
+third = block 3 31 2 21
+
+abbrev fourth : Input
+fourth = block 4 41 3 31
+
+abbrev fifth : Input
+fifth = block 5 51 4 41
+
+-- A chain of four made final by its last block in one walk, highest slot first; genesis gets no record, and all is told once.
+abbrev wholeChain : Bool
+wholeChain =
+    equals (answers (stored watching (second ∷ third ∷ fourth ∷ fifth ∷ [])) (look ∷ seal 5 51 ∷ look ∷ vote 1 2 5 51 ∷ []))
+    ((0 ∷ []) ∷ (0 ∷ 6 ∷ 5 ∷ 51 ∷ 6 ∷ 4 ∷ 41 ∷ 6 ∷ 3 ∷ 31 ∷ 6 ∷ 2 ∷ 21 ∷ []) ∷ (0 ∷ []) ∷ (0 ∷ []) ∷ [])
+
+-- "A missing block halts the walk until it is announced": another block of that slot, or that number in another, does not resume it.
+abbrev halted : Bool
+halted =
+    equals (answers (stored watching (second ∷ fourth ∷ fifth ∷ [])) (seal 5 51 ∷ block 3 32 2 22 ∷ block 4 31 2 21 ∷ third ∷ []))
+    ((0 ∷ 6 ∷ 5 ∷ 51 ∷ 6 ∷ 4 ∷ 41 ∷ 6 ∷ 3 ∷ 31 ∷ []) ∷ (0 ∷ []) ∷ (0 ∷ []) ∷ (0 ∷ 6 ∷ 2 ∷ 21 ∷ []) ∷ [])
+    && equals (answers (stored watching (second ∷ third ∷ fourth ∷ [])) (seal 5 51 ∷ fifth ∷ []))
+    ((0 ∷ 6 ∷ 5 ∷ 51 ∷ []) ∷ (0 ∷ 6 ∷ 4 ∷ 41 ∷ 6 ∷ 3 ∷ 31 ∷ 6 ∷ 2 ∷ 21 ∷ []) ∷ [])
+
+-- The final block is found in each of the four places.
+abbrev eachPlace : Bool
+eachPlace =
+    let other : ℕ → Input = (λ b. block 5 b 3 31) in
+    let parent : List Input → List ℕ = (λ is. told (stored watching (is ++ (seal 5 51 ∷ [])))) in
+    let both : List ℕ = 6 ∷ 5 ∷ 51 ∷ 6 ∷ 4 ∷ 41 ∷ [] in
+    equals (parent (fifth ∷ other 52 ∷ []) ∷ parent (other 52 ∷ fifth ∷ []) ∷ parent (other 52 ∷ other 53 ∷ fifth ∷ []) ∷ parent (other 52 ∷ other 53 ∷ other 54 ∷ fifth ∷ []) ∷ [])
+    (both ∷ both ∷ both ∷ both ∷ [])
+
+-- Over slots without a block, and over windows.
+abbrev overWindows : Bool
+overWindows =
+    equal (told (stored watching (second ∷ block 7 71 2 21 ∷ block 14 91 7 71 ∷ seal 14 91 ∷ [])))
+    (6 ∷ 14 ∷ 91 ∷ 6 ∷ 7 ∷ 71 ∷ 6 ∷ 2 ∷ 21 ∷ [])
+
+-- Slot 3 has the final block 30 when the walk comes with 31: (8, 3, 31), and no further, so 21 is not final. It is told once, whatever
+-- comes again: a look, another walk with another block, and F with a third.
+abbrev meetsAnother : Bool
+meetsAnother =
+    equals (answers (stored watching (second ∷ third ∷ fourth ∷ fifth ∷ block 6 61 3 32 ∷ [])) (seal 3 30 ∷ seal 5 51 ∷ look ∷ seal 6 61 ∷ []))
+    ((0 ∷ 6 ∷ 3 ∷ 30 ∷ []) ∷ (0 ∷ 6 ∷ 5 ∷ 51 ∷ 6 ∷ 4 ∷ 41 ∷ 8 ∷ 3 ∷ 31 ∷ []) ∷ (0 ∷ []) ∷ (0 ∷ 6 ∷ 6 ∷ 61 ∷ []) ∷ [])
+    && equals (answers (stored watching (fourth ∷ block 6 61 3 32 ∷ [])) (seal 4 41 ∷ seal 6 61 ∷ seal 3 33 ∷ []))
+    ((0 ∷ 6 ∷ 4 ∷ 41 ∷ 6 ∷ 3 ∷ 31 ∷ []) ∷ (0 ∷ 6 ∷ 6 ∷ 61 ∷ 8 ∷ 3 ∷ 32 ∷ []) ∷ (0 ∷ []) ∷ [])
+
+-- Slot 4 is final by a walk when F's condition comes to hold for 40 or for 42: (8, 4, b), once in all, also for a walk that comes later;
+-- nothing where it comes to hold for that very block.
+abbrev newcomer : Bool
+newcomer =
+    let walked = stored watching (fifth ∷ block 6 61 4 43 ∷ []) in
+    equals (answers walked (seal 5 51 ∷ seal 4 42 ∷ vote 1 2 4 42 ∷ look ∷ seal 6 61 ∷ []))
+    ((0 ∷ 6 ∷ 5 ∷ 51 ∷ 6 ∷ 4 ∷ 41 ∷ []) ∷ (0 ∷ 8 ∷ 4 ∷ 42 ∷ []) ∷ (0 ∷ []) ∷ (0 ∷ []) ∷ (0 ∷ 6 ∷ 6 ∷ 61 ∷ []) ∷ [])
+    && equals (answers walked (seal 5 51 ∷ seal 4 40 ∷ [])) ((0 ∷ 6 ∷ 5 ∷ 51 ∷ 6 ∷ 4 ∷ 41 ∷ []) ∷ (0 ∷ 8 ∷ 4 ∷ 40 ∷ []) ∷ [])
+    && equals (answers walked (seal 6 61 ∷ seal 4 43 ∷ [])) ((0 ∷ 6 ∷ 6 ∷ 61 ∷ 6 ∷ 4 ∷ 43 ∷ []) ∷ (0 ∷ []) ∷ [])
+
+-- Certificates that came before the walk: F of each slot, then the walk of the higher, which finds 30 in its way.
+abbrev certificatesFirst : Bool
+certificatesFirst =
+    equal (told (stored watching (third ∷ fourth ∷ fifth ∷ seal 3 30 ∷ seal 5 51 ∷ []))) (6 ∷ 3 ∷ 30 ∷ 6 ∷ 5 ∷ 51 ∷ 6 ∷ 4 ∷ 41 ∷ 8 ∷ 3 ∷ 31 ∷ [])
+
+-- The walk comes after F in a slot.
+abbrev FbeforeG : Bool
+FbeforeG = equal (told (putFinal (stored watching (fifth ∷ seal 5 52 ∷ [])) 5 51)) (8 ∷ 5 ∷ 52 ∷ 6 ∷ 4 ∷ 41 ∷ [])
+
+-- The walk alone, from slot 5: through a slot that has that very final block it goes on without a record, from one that has another it
+-- goes no further; a slot without a final block starts none.
+abbrev through : Bool
+through =
+    let l = stored watching (third ∷ fourth ∷ block 4 42 3 32 ∷ fifth ∷ []) in
+    let walk : Ledger → List ℕ = (λ m. flatten (ruleG (stateOf m []) 5 .records)) in
+    equals (walk (putFinal (putFinal l 4 41) 5 51) ∷ walk (putFinal (putFinal (putFinal l 3 31) 4 41) 5 51) ∷ walk (putFinal (putFinal l 4 42) 5 51) ∷ walk (putFinal l 4 41) ∷ [])
+    ((6 ∷ 2 ∷ 21 ∷ 6 ∷ 3 ∷ 31 ∷ []) ∷ (6 ∷ 2 ∷ 21 ∷ []) ∷ (8 ∷ 4 ∷ 41 ∷ []) ∷ [] ∷ [])
+
+cornersOfAncestors : T (all (wholeChain ∷ halted ∷ eachPlace ∷ overWindows ∷ meetsAnother ∷ newcomer ∷ certificatesFirst ∷ FbeforeG ∷ through ∷ []))
+unfolding rules
+cornersOfAncestors = tt
