@@ -1,6 +1,6 @@
 -- Kept blocks by their place: what a loop over a slot's places finds, and where the next block goes. Assumes nothing.
 use mathlib.Core.Path.{_≡_, refl, sym, ap, _∙_}
-use mathlib.Core.Bool.{Bool, true, false, _&&_, _||_}
+use mathlib.Core.Bool.{Bool, true, false, not, _&&_, _||_}
 use mathlib.Core.List.{List, [], _∷_}
 use mathlib.Core.Logic.{⊎-elim}
 use Prim.Native.Nat.{ℕ, zero, suc, _+_, _<_, _≤_}
@@ -10,7 +10,8 @@ use lib.ListN.{length, getD, set}
 use lib.Seq.{set-getD, set-out}
 use Rattle.rulebook.specs.declared.Block.{Block}
 use Rattle.rulebook.specs.Tools.{choose, allTo, someTo}
-use Rattle.rulebook.specs.Ledger.{Ledger, Row, noBlock, noRow, rowAt, blocksAt, someBlock, allBlocks, isFree, fillBlock, putRow, putBlocks}
+use Rattle.rulebook.specs.Ledger.{Ledger, Row, noBlock, noRow, rowAt, blocksAt, someBlock, allBlocks, isFree, hasNumber, fillBlock, putRow, putBlocks}
+use Rattle.rulebook.specs.Rules.{findBlock}
 use Rattle.rulebook.specs.Inputs.{keepBlock}
 use Rattle.rulebook.specs.WellFormed.{inOrder, blocksApart}
 use Rattle.rulebook.proofs.ToolLaws.{choose-on, choose-off, all-none, all-same}
@@ -95,16 +96,39 @@ free-at (k ∷ ks) zero l f e = choose-on (isFree k) 0 (suc (freePlace ks)) e
 free-at (k ∷ ks) (suc i) l f e =
     choose-off (isFree k) 0 (suc (freePlace ks)) (f 0 (omega arith)) ∙ ap suc (free-at ks i (omega arith) (λ j h. f (suc j) (omega arith)) e)
 
--- A loop that looks for it: the places behind it keep a block each.
-pub full-more : (ks : List Block) (n : ℕ) → ((j : ℕ) → j < n → isFree (getD ks j noBlock) ≡ false) → isFree (getD ks n noBlock) ≡ false → (j : ℕ) → j < n + 1 → isFree (getD ks j noBlock) ≡ false
-full-more ks n f e j h =
-    ⊎-elim (λ (q : j ≡ n). ap (λ (i : ℕ). isFree (getD ks i noBlock)) q ∙ e) (λ q. f j q) (eq-or-lt-of-le {n = j} {m = n} (omega arith))
+-- A loop that looks for a place of which a test holds: it holds of none behind it.
+pub none-more : (p : Block → Bool) (ks : List Block) (n : ℕ) → ((j : ℕ) → j < n → p (getD ks j noBlock) ≡ false) → p (getD ks n noBlock) ≡ false
+    → (j : ℕ) → j < n + 1 → p (getD ks j noBlock) ≡ false
+none-more p ks n f e j h =
+    ⊎-elim (λ (q : j ≡ n). ap (λ (i : ℕ). p (getD ks i noBlock)) q ∙ e) (λ q. f j q) (eq-or-lt-of-le {n = j} {m = n} (omega arith))
 
 pub free-none : (ks : List Block) → ((j : ℕ) → j < length ks → isFree (getD ks j noBlock) ≡ false) → freePlace ks ≡ length ks
 unfolding freePlace
 free-none [] f = refl
 free-none (k ∷ ks) f =
     choose-off (isFree k) 0 (suc (freePlace ks)) (f 0 (omega arith)) ∙ ap suc (free-none ks (λ j h. f (suc j) (omega arith)))
+
+-- ---- the block of a number
+
+-- The place keeps the block that is looked for.
+abbrev pub isNumber : ℕ → Block → Bool
+isNumber b k = not (isFree k) && hasNumber b k
+
+pub find-at : (b : ℕ) (ks : List Block) (i : ℕ) → i < length ks → ((j : ℕ) → j < i → isNumber b (getD ks j noBlock) ≡ false) → isNumber b (getD ks i noBlock) ≡ true
+    → findBlock b ks ≡ getD ks i noBlock
+unfolding findBlock
+find-at b [] i l f e = absurd (omega arith)
+find-at b (k ∷ ks) zero l f e = choose-on (isNumber b k) k (findBlock b ks) e
+find-at b (k ∷ ks) (suc i) l f e =
+    choose-off (isNumber b k) k (findBlock b ks) (f 0 (omega arith)) ∙ find-at b ks i (omega arith) (λ j h. f (suc j) (omega arith)) e
+
+pub find-none : (b : ℕ) (ks : List Block) → ((j : ℕ) → j < length ks → isNumber b (getD ks j noBlock) ≡ false) → findBlock b ks ≡ noBlock
+unfolding findBlock
+find-none b [] f = refl
+find-none b (k ∷ ks) f =
+    choose-off (isNumber b k) k (findBlock b ks) (f 0 (omega arith)) ∙ find-none b ks (λ j h. f (suc j) (omega arith))
+
+-- ---- a block kept
 
 -- A block in the first free place is one store; none where every place keeps a block.
 pub fill-place : (b : Block) (ks : List Block) → fillBlock b ks ≡ set ks (freePlace ks) b

@@ -8,7 +8,7 @@ use Rattle.rulebook.specs.declared.Cell.{Cell}
 use Rattle.rulebook.specs.Weights.{lastSlot, windows, windowOf, stakeIn}
 use Rattle.rulebook.specs.Ledger.{Ledger, Row, noRow, noCell, noBlock, mostBlocks, blocksAt, places, rowAt, cellAt}
 use Rattle.rulebook.specs.WellFormed.{Shaped}
-use Rattle.record.specs.Layout.{wordAt, armedStart, stakeStart, rowStart, timeoutAt, finalAt, blockStart, cellStart, tabulate, placesIn, cellFrom, blockFrom, blockOf, cellOf, rowOf, ledgerAt, ledgerOf, Placed, InSlot, InBlocks, InWindow}
+use Rattle.record.specs.Layout.{wordAt, armedStart, stakeStart, rowStart, timeoutAt, finalAt, clashAt, blockStart, cellStart, tabulate, placesIn, cellFrom, blockFrom, blockOf, cellOf, rowOf, ledgerAt, ledgerOf, Placed, InSlot, InBlocks, InWindow}
 use Rattle.record.proofs.Tables.{length-tabulate, getD-tabulate}
 use Rattle.record.proofs.Places.{node-placed}
 
@@ -82,6 +82,9 @@ module _ (ws : List ℕ) (s i : ℕ) (h : InSlot ws s) (e : i ≡ rowStart (plac
 
   pub final-read : wordAt ws (i + finalAt) ≡ rowAt (ledgerOf ws) s .final
   final-read = ap (λ (k : ℕ). wordAt ws (k + finalAt)) e ∙ ap (λ (r : Row). r .final) here
+
+  pub clash-read : wordAt ws (i + clashAt) ≡ rowAt (ledgerOf ws) s .clash
+  clash-read = ap (λ (k : ℕ). wordAt ws (k + clashAt)) e ∙ ap (λ (r : Row). r .clash) here
 
 -- A slot's window is one of the four.
 pub window-small : (s : ℕ) → 1 ≤ s → s < suc lastSlot → windowOf s < windows

@@ -10,7 +10,7 @@ use lib.Seq.{getD-set-same, getD-set-other, getD-take, getD-drop, ext-getD, leng
 use Rattle.rulebook.specs.declared.Cell.{Cell}
 use Rattle.rulebook.specs.Weights.{lastSlot, windows}
 use Rattle.rulebook.specs.Ledger.{Ledger, Row, noCell, noBlock, mostBlocks, blankRow, places}
-use Rattle.record.specs.Layout.{wordAt, armedStart, stakeStart, rowStart, timeoutAt, finalAt, blockStart, cellStart, recordWords, placesIn, tabulate, blockOf, cellOf, rowOf, ledgerAt, ledgerOf, Long, InTable}
+use Rattle.record.specs.Layout.{wordAt, armedStart, stakeStart, rowStart, timeoutAt, finalAt, clashAt, blockStart, cellStart, recordWords, placesIn, tabulate, blockOf, cellOf, rowOf, ledgerAt, ledgerOf, Long, InTable}
 use Rattle.record.specs.Setting.{noLedger, putHead, putStake}
 use Rattle.record.proofs.Tables.{lt-or-gt, length-tabulate, getD-tabulate, tabulate-same, tabulate-set, sets-out, sets-in}
 use Rattle.record.proofs.Places.{head-before, places-words, node-placed, same-shape}
@@ -56,6 +56,7 @@ module _ (p m : ℕ) where
         blocks = tabulate-all mostBlocks (blockOf p (replicate m 0) s) noBlock (block-zeros s) i;
         timedOut = zeros m (rowStart p s + timeoutAt) i;
         final = zeros m (rowStart p s + finalAt) i;
+        clash = zeros m (rowStart p s + clashAt) i;
         cells = tabulate-all p (cellOf p (replicate m 0) s) noCell (cell-zeros s) i;
       }
 

@@ -76,14 +76,14 @@ module _ (p : ℕ) (ws : List ℕ) where
       (λ n l. block-spelled (blockStart p s n)
       ∙ tabulate-same blockWords (λ j. wordAt ws (blockStart p s n + j)) (λ j. wordAt ws (rowStart p s + (blockWords * n + j))) (λ j m. ap (wordAt ws) (omega arith)))
 
-  marks-spelled : (s : ℕ) → rowOf p ws s .timedOut ∷ rowOf p ws s .final ∷ [] ≡ tabulate 2 (λ j. wordAt ws (rowStart p s + (timeoutAt + j)))
+  marks-spelled : (s : ℕ) → rowOf p ws s .timedOut ∷ rowOf p ws s .final ∷ rowOf p ws s .clash ∷ [] ≡ tabulate 3 (λ j. wordAt ws (rowStart p s + (timeoutAt + j)))
   unfolding tabulate
   marks-spelled s = refl
 
   head-spelled : (s : ℕ) → spellHead (rowOf p ws s) ≡ tabulate rowHead (λ j. wordAt ws (rowStart p s + j))
   head-spelled s =
       sym
-      (tabulate-split rowHead timeoutAt 2 (λ j. wordAt ws (rowStart p s + j)) refl
+      (tabulate-split rowHead timeoutAt 3 (λ j. wordAt ws (rowStart p s + j)) refl
       ∙ (λ i. (tabulate-rows timeoutAt mostBlocks blockWords (λ j. wordAt ws (rowStart p s + j)) refl ∙ ap joined (sym (blocks-spelled s))) i ++ sym (marks-spelled s) i))
 
   cells-spelled : (s : ℕ) → map spellCell (tabulate p (cellOf p ws s)) ≡ tabulate p (λ n. tabulate cellWords (λ j. wordAt ws (rowStart p s + (rowHead + (cellWords * n + j)))))
@@ -213,14 +213,14 @@ spelled-at g k xs d n j e h l =
 
 -- The marks behind the blocks.
 abbrev spellMarks : Row → List ℕ
-spellMarks r = r .timedOut ∷ r .final ∷ []
+spellMarks r = r .timedOut ∷ r .final ∷ r .clash ∷ []
 
 module _ (r : Row) (four : length (r .blocks) ≡ mostBlocks) where
   blocks-long : length (joined (map spellBlock (r .blocks))) ≡ timeoutAt
   blocks-long = spelled-long spellBlock blockWords (r .blocks) noBlock (λ i h. refl) ∙ ap (λ (k : ℕ). blockWords * k) four
 
   head-long : length (spellHead r) ≡ rowHead
-  head-long = length-append (joined (map spellBlock (r .blocks))) (spellMarks r) ∙ ap (λ (k : ℕ). k + 2) blocks-long
+  head-long = length-append (joined (map spellBlock (r .blocks))) (spellMarks r) ∙ ap (λ (k : ℕ). k + 3) blocks-long
 
   row-long : (p : ℕ) → length (r .cells) ≡ p → length (spellRow r) ≡ rowWords p
   row-long p e =
@@ -237,7 +237,7 @@ module _ (r : Row) (four : length (r .blocks) ≡ mostBlocks) where
       ∙ List·getD-append (joined (map spellBlock (r .blocks))) (spellMarks r) 0 (blockWords * n + j) (omega (arith, blocks-long))
       ∙ spelled-at spellBlock blockWords (r .blocks) noBlock n j (λ i h. refl) (omega (arith, four)) l
 
-  row-mark : (j : ℕ) → j < 2 → wordAt (spellRow r) (timeoutAt + j) ≡ wordAt (spellMarks r) j
+  row-mark : (j : ℕ) → j < 3 → wordAt (spellRow r) (timeoutAt + j) ≡ wordAt (spellMarks r) j
   row-mark j h =
       let z : timeoutAt + j ≡ length (joined (map spellBlock (r .blocks))) + j = ap (λ (k : ℕ). k + j) (sym blocks-long) in
       head-at (timeoutAt + j) (omega arith) ∙ ap (wordAt (spellHead r)) z ∙ getD-append-add (joined (map spellBlock (r .blocks))) (spellMarks r) j 0
@@ -332,13 +332,14 @@ module _ (p : ℕ) (l : Ledger) (w : Shaped p l) where
 
   row-back : (s : ℕ) → s < suc lastSlot → rowOf p (wordsOf l) s ≡ rowAt l s
   row-back s h =
-      let mark : (j : ℕ) → j < 2 → wordAt (wordsOf l) (rowStart p s + (timeoutAt + j)) ≡ wordAt (spellMarks (rowAt l s)) j = (λ j m. row-word s (timeoutAt + j) h (omega arith) ∙ row-mark (rowAt l s) (w .blocks s h) j m) in
+      let mark : (j : ℕ) → j < 3 → wordAt (wordsOf l) (rowStart p s + (timeoutAt + j)) ≡ wordAt (spellMarks (rowAt l s)) j = (λ j m. row-word s (timeoutAt + j) h (omega arith) ∙ row-mark (rowAt l s) (w .blocks s h) j m) in
       λ i. record {
         blocks = (tabulate-same mostBlocks (blockOf p (wordsOf l) s) (λ n. getD (blocksAt l s) n noBlock) (λ n k. block-back s n h k)
             ∙ ap (λ k. tabulate k (λ n. getD (blocksAt l s) n noBlock)) (sym (w .blocks s h))
             ∙ sym (tabulate-getD (blocksAt l s) noBlock)) i;
         timedOut = mark 0 (omega arith) i;
         final = mark 1 (omega arith) i;
+        clash = mark 2 (omega arith) i;
         cells = (tabulate-same p (cellOf p (wordsOf l) s) (λ n. getD (rowAt l s .cells) n noCell) (λ n k. cell-back s n h k)
             ∙ ap (λ k. tabulate k (λ n. getD (rowAt l s .cells) n noCell)) (sym (w .cells s h))
             ∙ sym (tabulate-getD (rowAt l s .cells) noCell)) i;

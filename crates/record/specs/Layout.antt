@@ -1,5 +1,6 @@
 -- What a node's words mean: a head (count, total, own number, genesis, the armed windows, the stakes), then a row for each
--- slot: four places for blocks (number, its parent's slot and number), timed out, final block, then a cell for each node.
+-- slot: four places for blocks (number, its parent's slot and number), timed out, final block, the mark of another, then a cell
+-- for each node.
 use mathlib.Core.Path.{_≡_}
 use mathlib.Core.Bool.{Bool}
 use mathlib.Core.List.{List, [], _∷_}
@@ -29,15 +30,18 @@ cellWords = 7
 abbrev pub blockWords : ℕ
 blockWords = 3
 
--- In a row's head: the mark of its timeout behind the blocks, then its final block.
+-- In a row's head: the mark of its timeout behind the blocks, then its final block, then the mark of another.
 abbrev pub timeoutAt : ℕ
 timeoutAt = 12
 
 abbrev pub finalAt : ℕ
 finalAt = 13
 
+abbrev pub clashAt : ℕ
+clashAt = 14
+
 abbrev pub rowHead : ℕ
-rowHead = 14
+rowHead = 15
 
 abbrev pub rowWords : ℕ → ℕ
 rowWords p = rowHead + cellWords * p
@@ -58,7 +62,7 @@ recordWords p = rowStart p (suc lastSlot)
 
 -- That is so many words without any place, and so many more for each.
 abbrev pub bareWords : ℕ
-bareWords = 246
+bareWords = 263
 
 abbrev pub placeWords : ℕ
 placeWords = 120
@@ -105,6 +109,7 @@ rowOf p ws s =
       blocks = tabulate mostBlocks (blockOf p ws s);
       timedOut = wordAt ws (rowStart p s + timeoutAt);
       final = wordAt ws (rowStart p s + finalAt);
+      clash = wordAt ws (rowStart p s + clashAt);
       cells = tabulate p (cellOf p ws s);
     }
 

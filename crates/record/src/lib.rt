@@ -5,8 +5,9 @@ ghost use mathlib.Core.Bool.{not};
 ghost use Prim.Native.Nat.{_<_};
 ghost use lib.ListN.{length, getD, set, take, replicate};
 ghost use Rattle.rulebook.specs.Weights.{placesFor, windows, stakeIn};
-ghost use Rattle.rulebook.specs.Ledger.{none, noBlock, places, rowAt, cellAt, ownCell, blocksAt, isArmed, putCell, putBlocks, putTimedOut, putFinal, putArmed};
+ghost use Rattle.rulebook.specs.Ledger.{none, noBlock, places, rowAt, cellAt, ownCell, blocksAt, isArmed, putCell, putBlocks, putTimedOut, putFinal, putClash, putArmed};
 ghost use Rattle.rulebook.specs.Votes.{storeVote};
+ghost use Rattle.rulebook.specs.Rules.{findBlock};
 ghost use Rattle.rulebook.specs.Inputs.{keepBlock};
 ghost use Rattle.record.specs.Layout.{recordWords, isLong, Long, InSlot, InWindow, InTable, InBlocks, Placed, RowAt, BlockAt, CellAt, OwnIn, Counted, ledgerOf};
 ghost use Rattle.record.specs.Setting.{putHead, putStake};
@@ -29,7 +30,7 @@ pub const WINDOWS: usize = 4;
 pub const MOST_BLOCKS: usize = 4;
 
 // The layout: 4 numbers, the armed windows, the stakes; then a row for slot 0 and each slot: 3 words for each kept block, the
-// timeout's mark, the final block, and 7 words for each node.
+// timeout's mark, the final block, the mark of another, and 7 words for each node.
 const ARMED_START: usize = 4;
 
 const STAKE_START: usize = ARMED_START + WINDOWS;
@@ -42,7 +43,9 @@ const TIMEOUT_AT: usize = BLOCK_WORDS * MOST_BLOCKS;
 
 const FINAL_AT: usize = TIMEOUT_AT + 1;
 
-const ROW_HEAD: usize = FINAL_AT + 1;
+const CLASH_AT: usize = FINAL_AT + 1;
+
+const ROW_HEAD: usize = CLASH_AT + 1;
 
 // The words of a record without any place, and how many more each place takes.
 const BARE_WORDS: usize = STAKE_START + ROW_HEAD * (LAST_SLOT + 1);
@@ -190,6 +193,24 @@ pub fn keep_block(rec: &mut [u64], s: Slot, b: Block)
     }
 }
 
+// The block of a number that a slot keeps, with its parent; blank where it keeps none of that number.
+pub fn find_block(rec: &[u64], s: Slot, b: u64) -> Block
+    requires { ⌜ InSlot (now rec) (s .0) ⌝ }
+    ensures { λ r. ⌜ r ≡ findBlock b (blocksAt (ledgerOf (now (rec .entry))) (s .0)) ⌝ }
+{
+    for n in 0..MOST_BLOCKS {
+        let k = load_block(rec, s, n);
+        if (k.number != 0) & (k.number == b) {
+            return k;
+        }
+    }
+    Block {
+        number: 0,
+        parentslot: Slot(0),
+        parent: 0,
+    }
+}
+
 // The word that marks a slot's timeout, whatever stands in it.
 pub fn timeout_word(rec: &[u64], s: Slot) -> u64
     requires { ⌜ InSlot (now rec) (s .0) ⌝ }
@@ -232,6 +253,24 @@ pub fn set_final(rec: &mut [u64], s: Slot, b: u64)
 {
     let i = row_start(rec, s);
     rec[i + FINAL_AT] = b;
+}
+
+// The word that marks a slot in which another final block was reported, whatever stands in it.
+pub fn clash_word(rec: &[u64], s: Slot) -> u64
+    requires { ⌜ InSlot (now rec) (s .0) ⌝ }
+    ensures { λ r. ⌜ r ≡ rowAt (ledgerOf (now (rec .entry))) (s .0) .clash ⌝ }
+{
+    let i = row_start(rec, s);
+    rec[i + CLASH_AT]
+}
+
+// Marks that another final block was reported in a slot.
+pub fn mark_clash(rec: &mut [u64], s: Slot)
+    requires { ⌜ InSlot (now rec) (s .0) ⌝ }
+    ensures { λ _. ⌜ ledgerOf (now (rec .exit)) ≡ putClash (ledgerOf (now (rec .entry))) (s .0) ⌝ }
+{
+    let i = row_start(rec, s);
+    rec[i + CLASH_AT] = 1;
 }
 
 // The word that marks a window as armed, whatever stands in it.

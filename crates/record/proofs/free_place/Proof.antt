@@ -10,7 +10,7 @@ use Rattle.rulebook.specs.declared.Block.{Block}
 use Rattle.rulebook.specs.Ledger.{noBlock, blocksAt, isFree}
 use Rattle.record.specs.Layout.{ledgerOf}
 use Rattle.record.proofs.Reading.{ledger-shaped}
-use Rattle.record.proofs.BlockPlaces.{full-more, free-at, free-none}
+use Rattle.record.proofs.BlockPlaces.{none-more, free-at, free-none}
 use Rattle.record.proofs.free_place.Statement.{statement}
 use Rattle.record.proofs.free_place.Tie as tie
 
@@ -50,7 +50,7 @@ loop-again : tie.Need-loop-again Inv-loop μ-loop
 loop-again c =
     let a = c .before .before .before .before .before .before .args in
     let k = c .before .before .before .before .loop in
-    (omega arith, full-more (blocksAt (ledgerOf (a .rec .now)) (a .s .0)) (k .n) (k .inv .1) (ap (λ (x : Block). isFree x) (sym (c .before .before .load-block .ensures)) ∙ ne-eqb _ 0 (c .if1 .left)))
+    (omega arith, none-more (λ k. isFree k) (blocksAt (ledgerOf (a .rec .now)) (a .s .0)) (k .n) (k .inv .1) (ap (λ (x : Block). isFree x) (sym (c .before .before .load-block .ensures)) ∙ ne-eqb _ 0 (c .if1 .left)))
 
 returns-2 : tie.Need-returns-2 Inv-loop μ-loop
 returns-2 c =
