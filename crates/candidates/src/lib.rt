@@ -5,7 +5,7 @@ ghost use Prim.Native.Nat.{max};
 ghost use Rattle.rulebook.specs.declared.Who.the-variants as who;
 ghost use Rattle.rulebook.specs.Tools.{lower, lowest, largest};
 ghost use Rattle.rulebook.specs.Pool.{weigh, names};
-ghost use Rattle.rulebook.specs.Rules.{fallbackWeights, parentBacked, isBacked, isGrounded, fallsBack, fallbackBlock, skipWeights, isFinal};
+ghost use Rattle.rulebook.specs.Rules.{fallbackWeights, parentBacked, isBacked, isGrounded, fallsBack, fallbackBlock, skipWeights, isFinal, isNewcomer};
 ghost use Rattle.record.specs.Layout.{ledgerOf};
 ghost use Rattle.pool.specs.Weighing.{Weighing, Passed};
 ghost use Rattle.candidates.specs.Judging.{Judging, isNew};
@@ -17,6 +17,7 @@ use pool::is_first;
 use pool::weigh;
 use record::MOST_BLOCKS;
 use record::count;
+use record::final_block;
 use record::load_block;
 use record::load_cell;
 use record::own_cell;
@@ -175,18 +176,34 @@ pub fn is_final(rec: &[u64], s: Slot, b: u64) -> bool
     held(rec, CertificateKind::Final, s, 0)
 }
 
-// F's block: the lowest that is final in slot s, 0 where there is none; likewise.
-pub fn final_candidate(rec: &[u64], s: Slot) -> u64
+// Whether F's test passes for b, and the slot's final block is not b.
+fn is_newcomer(rec: &[u64], s: Slot, b: u64) -> bool
     requires { ⌜ Weighing (now rec) (s .0) ⌝ }
-    ensures { λ r. ⌜ r ≡ lowest (isFinal (ledgerOf (now (rec .entry))) (s .0)) (names (ledgerOf (now (rec .entry))) (s .0)) ⌝ }
+    ensures { λ r. ⌜ r ≡ isNewcomer (ledgerOf (now (rec .entry))) (s .0) b ⌝ }
 {
+    if b == final_block(rec, s) {
+        return false;
+    }
+    is_final(rec, s, b)
+}
+
+// F's block: the lowest other than the slot's final block that is final in slot s, 0 where there is none; likewise. Where
+// the nodes whose notar vote is the slot's final block reach 60 (those without a notar vote, where it has none) the others
+// do not.
+pub fn newcomer(rec: &[u64], s: Slot) -> u64
+    requires { ⌜ Weighing (now rec) (s .0) ⌝ }
+    ensures { λ r. ⌜ r ≡ lowest (isNewcomer (ledgerOf (now (rec .entry))) (s .0)) (names (ledgerOf (now (rec .entry))) (s .0)) ⌝ }
+{
+    if held(rec, CertificateKind::Notar, s, final_block(rec, s)) {
+        return 0;
+    }
     let nodes = count(rec);
     let mut best: u64 = 0;
     for n in 0..nodes {
         let c = load_cell(rec, s, Node(n));
         let b = c.notar;
         if is_new(rec, s, Node(n), b) {
-            best = lower(is_final(rec, s, b), b, best);
+            best = lower(is_newcomer(rec, s, b), b, best);
         }
     }
     best
