@@ -19,6 +19,7 @@ use record::LAST_SLOT;
 use record::MOST_BLOCKS;
 use record::WINDOWS;
 use record::armed_word;
+use record::clash_word;
 use record::clear;
 use record::count;
 use record::final_block;
@@ -183,7 +184,7 @@ fn row_fits(rec: &[u64], s: Slot) -> bool
     ensures { λ r. ⌜ r ≡ rowFits (ledgerOf (now (rec .entry))) (s .0) ⌝ }
 {
     let kept = blocks_fit(rec, s);
-    let marked = timeout_word(rec, s) <= 1;
+    let marked = (timeout_word(rec, s) <= 1) & (clash_word(rec, s) <= 1);
     let cells = cells_fit(rec, s, count(rec));
     let own = own_fits(rec, s);
     kept & (marked & (cells & own))
@@ -216,7 +217,8 @@ fn row_blank(rec: &[u64]) -> bool
     ensures { λ r. ⌜ r ≡ rowBlank (ledgerOf (now (rec .entry))) ⌝ }
 {
     let kept = blocks_blank(rec, Slot(0));
-    let marks = (timeout_word(rec, Slot(0)) == 0) & (final_block(rec, Slot(0)) == 0);
+    let told = (final_block(rec, Slot(0)) == 0) & (clash_word(rec, Slot(0)) == 0);
+    let marks = (timeout_word(rec, Slot(0)) == 0) & told;
     let cells = cells_fit(rec, Slot(0), 0);
     kept & (marks & cells)
 }
