@@ -1,6 +1,7 @@
 -- From any sound ledger: every record is paid by one of the potential, by whatever part of a call makes it;
 -- records only grow, and where none is made nothing changes.
 use mathlib.Core.Path.{_≡_, refl, sym, ap, _∙_}
+use mathlib.Core.Bool.{false}
 use mathlib.Core.List.{List, [], _∷_, _++_, append-assoc}
 use Prim.Native.Nat.{ℕ, suc, _+_, _-_, _≤_}
 use native.Mathlib.Omega.{arith}
@@ -8,9 +9,9 @@ use lib.ListN.{length, length-append}
 use Rattle.rulebook.specs.declared.VoteKind.{VoteKind}
 use Rattle.rulebook.specs.Weights.{lastSlot}
 use Rattle.rulebook.specs.PaperNumbers.{voteNumber}
-use Rattle.rulebook.specs.Ledger.{Ledger, putArmed, putFinal, putClash}
+use Rattle.rulebook.specs.Ledger.{Ledger, none, putArmed, putFinal, putClash}
 use Rattle.rulebook.specs.Votes.{storeVote}
-use Rattle.rulebook.specs.Rules.{Record, State, recordOf, report, cast, castSkips, ruleA, ruleB, ruleC, ruleD, ruleE, ruleF, ruleG}
+use Rattle.rulebook.specs.Rules.{Record, State, recordOf, report, cast, castSkips, ruleA, ruleB, ruleC, ruleD, ruleE, tellClash, tellFinal, ruleF, ruleG}
 use Rattle.rulebook.specs.Run.{made, ruleAt, firstRule, firstSlot, scan, runFor, run}
 use Rattle.settling.specs.Spare.{spare}
 use Rattle.settling.specs.Steps.{SameNode, Lawful, Came}
@@ -18,7 +19,7 @@ use Rattle.settling.specs.Facts.{Sound}
 use Rattle.settling.proofs.FactLaws.{formed}
 use Rattle.settling.proofs.Sounding.{sound-placed, sound-vote, sound-armed, sound-final, sound-clash}
 use Rattle.settling.proofs.SpareLaws.{spare-own, spare-armed, spare-final, spare-clash}
-use Rattle.settling.proofs.LawfulRules.{skips-keep, A-keeps, B-keeps, C-keeps, D-keeps, E-keeps, F-keeps, G-keeps, rule-keeps, rules-keep, slots-keep, scan-keeps, runFor-keeps, run-keeps}
+use Rattle.settling.proofs.LawfulRules.{skips-keep, A-keeps, B-keeps, C-keeps, D-keeps, E-keeps, clash-keeps, tell-keeps, F-keeps, G-keeps, rule-keeps, rules-keep, slots-keep, scan-keeps, runFor-keeps, run-keeps}
 
 -- ---- the node stays
 
@@ -125,6 +126,12 @@ module _ (o : State) (h : Sound (o .ledger)) where
 
     pub E-comes : Came o (ruleE o s)
     E-comes = E-keeps (Came o) (came-lawful o) s a b o (came-self o h)
+
+    pub clash-comes : (x : ℕ) → Came o (tellClash o s x)
+    clash-comes x = clash-keeps (Came o) (came-lawful o) o s x a b (came-self o h)
+
+    pub tell-comes : (x : ℕ) → none x ≡ false → Came o (tellFinal o s x)
+    tell-comes x m = tell-keeps (Came o) (came-lawful o) o s x a b m (came-self o h)
 
     pub F-comes : Came o (ruleF o s)
     F-comes = F-keeps (Came o) (came-lawful o) s a b o (came-self o h)

@@ -1,0 +1,2 @@
+-- F and G by the ways through their tests.
+pub mod FinalLaws
