@@ -1,26 +1,23 @@
-// The rules A, B, C and F.
+// The rules A, B and C.
 ghost use mathlib.Core.Path.{_≡_};
 ghost use mathlib.Core.Bool.{not, _&&_};
 ghost use Rattle.rulebook.specs.Weights.{isFirst};
 ghost use Rattle.rulebook.specs.Ledger.{isArmed};
-ghost use Rattle.rulebook.specs.Rules.{ruleA, parentFits, ruleB, ruleC, ruleF};
+ghost use Rattle.rulebook.specs.Rules.{ruleA, parentFits, ruleB, ruleC};
 ghost use Rattle.record.specs.Layout.{InWindow, ledgerOf};
 ghost use Rattle.voter.specs.Outbox.{stateIn};
 ghost use Rattle.voter.specs.Voting.{Onward};
 ghost use Rattle.candidates.specs.Judging.{Judging};
 ghost use Rattle.fallbacks.specs.UnderWay.{UnderWayAt};
-use candidates::final_candidate;
 use own_votes::may_final;
 use pool::held;
 use pool::is_first;
 use pool::ready;
 use pool::some_ready;
 use record::arm;
-use record::final_block;
 use record::is_armed;
 use record::load_block;
 use record::own_cell;
-use record::set_final;
 use rulebook::Block;
 use rulebook::CertificateKind;
 use rulebook::Slot;
@@ -91,20 +88,4 @@ pub fn rule_c(rec: &mut [u64], outbox: &mut [u64], at: usize, s: Slot) -> usize
         }
     }
     at
-}
-
-// F. A final block that was not yet told of in the slot: marks and tells it.
-pub fn rule_f(rec: &mut [u64], outbox: &mut [u64], at: usize, s: Slot) -> usize
-    requires { ⌜ UnderWayAt (now rec) (now outbox) at (s .0) ⌝ }
-    ensures { λ r. ⌜ Onward (now (rec .entry)) (now (outbox .entry)) at (now (rec .exit)) (now (outbox .exit)) r (ruleF (stateIn (now (rec .entry)) (now (outbox .entry)) at) (s .0)) ⌝ }
-{
-    if final_block(rec, s) != 0 {
-        return at;
-    }
-    let b = final_candidate(rec, s);
-    if b == 0 {
-        return at;
-    }
-    set_final(rec, s, b);
-    tell(outbox, at, 6, s, b)
 }
