@@ -13,7 +13,7 @@ use Rattle.rulebook.specs.Tools.{someTo, anyOf, lowest}
 use Rattle.rulebook.specs.Weights.{isFirst, reaches}
 use Rattle.rulebook.specs.Ledger.{Ledger, none, rowAt, cellAt, isArmed}
 use Rattle.rulebook.specs.Pool.{counts, weigh, weighs, signersOf, fifthsOf, held, namesTo, names, someReady}
-use Rattle.rulebook.specs.Rules.{State, ruleA, ruleF, isFinal}
+use Rattle.rulebook.specs.Rules.{State, ruleA, ruleF, isNewcomer}
 use Rattle.rulebook.specs.Run.{firstRule}
 use Rattle.rulebook.proofs.ToolLaws.{and-both, or-cases, or-none, by-test, true-not-false, some-more, some-at, some-each}
 use Rattle.rulebook.proofs.WeightLaws.{weight-none, reaches-nothing}
@@ -22,10 +22,11 @@ use Rattle.pool.proofs.NameLaws.{any-start, any-next, any-end}
 use Rattle.pool.proofs.ReadyLaws.{any-later, none-more, cut-ready}
 use Rattle.candidates.proofs.LowestLaws.{lowest-skip}
 use Rattle.candidates.proofs.LoopLaws.{low-start}
-use Rattle.candidates.proofs.NotarLaws.{notarsTo, notars-more, lowest-notar, final-heavy}
-use Rattle.rules.proofs.RuleLaws.{A-off, A-none, F-none, F-off}
+use Rattle.candidates.proofs.NotarLaws.{notarsTo, notars-more, lowest-notar, newcomer-heavy}
+use Rattle.finality.proofs.FinalLaws.{F-off, G-none}
+use Rattle.rules.proofs.RuleLaws.{A-off, A-none}
 use Rattle.run.specs.Idle.{someNode, supports, seeksParent, isIdle, isDormant}
-use Rattle.run.proofs.SlotLaws.{pass, only-A, only-F, idle-quiet}
+use Rattle.run.proofs.SlotLaws.{pass, only-A, only-F, only-G, idle-quiet}
 
 -- ---- the nodes, looked at one by one with a test
 
@@ -91,7 +92,7 @@ module _ (l : Ledger) (q : ℕ) (some : 1 ≤ l .total) (e : someNode l q suppor
       (λ i a b. absurd (omega arith)))
       no-skip
 
--- ---- a slot without a notar vote has no final block
+-- ---- a slot without a notar vote has no newcomer
 
 module _ (l : Ledger) (s : ℕ) (e : someNode l s (counts who.AnyNotar) ≡ false) where
   no-notars : (p : ℕ → Bool) (n : ℕ) → n ≤ l .count → lowest p (notarsTo l s n) ≡ 0
@@ -104,8 +105,8 @@ module _ (l : Ledger) (s : ℕ) (e : someNode l s (counts who.AnyNotar) ≡ fals
       ∙ lowest-skip b (notarsTo l s n) p (eqb-true b 0 (not-false (none b) (none-passes (counts who.AnyNotar) l s e n (omega arith))))
       ∙ no-notars p n (omega arith)
 
-  no-final : 1 ≤ l .total → lowest (isFinal l s) (names l s) ≡ 0
-  no-final t = lowest-notar l s (isFinal l s) (λ b. final-heavy l s b t) ∙ no-notars (isFinal l s) (l .count) (omega arith)
+  nobody-new : 1 ≤ l .total → lowest (isNewcomer l s) (names l s) ≡ 0
+  nobody-new t = lowest-notar l s (isNewcomer l s) (λ b. newcomer-heavy l s b t) ∙ no-notars (isNewcomer l s) (l .count) (omega arith)
 
 -- ---- no rule applies in a dormant slot
 
@@ -122,29 +123,27 @@ module _ (o : State) (s : ℕ) (low : 1 ≤ s) (some : 1 ≤ o .ledger .total) w
       A-none o s t (unsupported (o .ledger) (s - 1) some (h .1) s (omega (arith, eqb-false s 1 (h .0))) (omega arith)))
       (A-off o s)
 
-  abbrev told : Bool
-  told = not (none (rowAt (o .ledger) s .final))
+  abbrev untold : Bool
+  untold = none (rowAt (o .ledger) s .final)
 
   abbrev unnamed : Bool
   unnamed = not (someNode (o .ledger) s (counts who.AnyNotar))
 
-  nothing-final : (told || unnamed) ≡ true → ruleF o s ≡ o
-  nothing-final e =
-      or-cases told unnamed e (λ h. F-off o s (not-true (none (rowAt (o .ledger) s .final)) h))
-      (λ h.
-      let b : ℕ = lowest (isFinal (o .ledger) s) (names (o .ledger) s) in
-      let z : b ≡ 0 = no-final (o .ledger) s (not-true (someNode (o .ledger) s (counts who.AnyNotar)) h) some in
-      by-test (none (rowAt (o .ledger) s .final)) (λ t. F-none o s t (eq-eqb b 0 z)) (F-off o s))
+  nothing-new : unnamed ≡ true → ruleF o s ≡ o
+  nothing-new h =
+      F-off o s (eq-eqb _ 0 (nobody-new (o .ledger) s (not-true (someNode (o .ledger) s (counts who.AnyNotar)) h) some))
 
-  pub dormant-quiet : isDormant (o .ledger) s ≡ true → firstRule 6 0 o s ≡ o
+  pub dormant-quiet : isDormant (o .ledger) s ≡ true → firstRule 7 0 o s ≡ o
   unfolding isDormant
   dormant-quiet e =
-      let h = and-both (not (seeksParent (o .ledger) s)) (isIdle (o .ledger) s && (told || unnamed)) e in
-      let i = and-both (isIdle (o .ledger) s) (told || unnamed) (h .1) in
-      pass o s 1 5 0 (sym (only-A o s) ∙ parentless (not-true (seeksParent (o .ledger) s) (h .0)))
-      ∙ pass o s 4 1 1 (idle-quiet o s (i .0))
-      ∙ sym (only-F o s)
-      ∙ nothing-final (i .1)
+      let h = and-both (not (seeksParent (o .ledger) s)) (isIdle (o .ledger) s && (untold && unnamed)) e in
+      let i = and-both (isIdle (o .ledger) s) (untold && unnamed) (h .1) in
+      let f = and-both untold unnamed (i .1) in
+      pass o s 1 6 0 (sym (only-A o s) ∙ parentless (not-true (seeksParent (o .ledger) s) (h .0)))
+      ∙ pass o s 4 2 1 (idle-quiet o s (i .0))
+      ∙ pass o s 1 1 5 (sym (only-F o s) ∙ nothing-new (f .1))
+      ∙ sym (only-G o s)
+      ∙ G-none o s low (eqb-true (rowAt (o .ledger) s .final) 0 (f .0))
 
 -- ---- the look at a slot, as code goes through it
 
@@ -161,7 +160,7 @@ module _ (l : Ledger) (s : ℕ) (a : Bool) (arms : a ≡ (isFirst s && not (isAr
   unfolding seeksParent
   seeks-support e ne x h = h ∙ (λ k. (sym e ∙ arms) k && (sym (ne-eqb s 1 ne) k || someNode l (s - 1) supports))
 
--- Something for A, or not idle: not dormant. Else F's part decides.
+-- Something for A, or not idle: not dormant. Else the part of F and G decides.
 look-off : (a i f : Bool) → (a || not i) ≡ true → (not a && (i && f)) ≡ false
 look-off true i f e = refl
 look-off false true f e = true-not-false true refl (sym e)
@@ -174,7 +173,7 @@ look-on false false f e = true-not-false true refl e
 
 module _ (l : Ledger) (s : ℕ) (a i : Bool) (seeks : a ≡ seeksParent l s) (idle : i ≡ isIdle l s) where
   abbrev forF : Bool
-  forF = not (none (rowAt l s .final)) || not (someNode l s (counts who.AnyNotar))
+  forF = none (rowAt l s .final) && not (someNode l s (counts who.AnyNotar))
 
   looked : (not a && (i && forF)) ≡ isDormant l s
   unfolding isDormant
@@ -184,10 +183,10 @@ module _ (l : Ledger) (s : ℕ) (a i : Bool) (seeks : a ≡ seeksParent l s) (id
   look-awake e = sym (look-off a i forF e) ∙ looked
 
   module _ (e : (a || not i) ≡ false) (f : ℕ) (final : f ≡ rowAt l s .final) where
-    settled : (x : Bool) → none f ≡ x → (not x || not (someNode l s (counts who.AnyNotar))) ≡ isDormant l s
-    settled x t = (λ k. not ((sym t ∙ ap none final) k) || not (someNode l s (counts who.AnyNotar))) ∙ sym (look-on a i forF e) ∙ looked
+    settled : (x : Bool) → none f ≡ x → (x && not (someNode l s (counts who.AnyNotar))) ≡ isDormant l s
+    settled x t = (λ k. (sym t ∙ ap none final) k && not (someNode l s (counts who.AnyNotar))) ∙ sym (look-on a i forF e) ∙ looked
 
-    pub look-told : (f ≡ 0 → ⊥) → true ≡ isDormant l s
+    pub look-told : (f ≡ 0 → ⊥) → false ≡ isDormant l s
     look-told ne = settled false (ne-eqb f 0 ne)
 
     pub look-votes : f ≡ 0 → (x : Bool) → x ≡ someNode l s (counts who.AnyNotar) → not x ≡ isDormant l s

@@ -121,9 +121,9 @@ searching-start {ws = ws} {out = out} {at = at} v =
 -- ---- slot s is tried
 
 module _ {ws out ws' out' ws'' out'' : List ℕ} {at now now' s : ℕ} (h : Searching ws out at ws' out' now s) (b : s < 17)
-    (took : Onward ws' out' now ws'' out'' now' (firstRule 6 0 (stateIn ws' out' now) s)) where
-  slot-tried : Onward ws out at ws'' out'' now' (firstRule 6 0 (stateIn ws out at) s)
-  slot-tried = onward-then (λ (x : State). firstRule 6 0 x s) (h .held) took
+    (took : Onward ws' out' now ws'' out'' now' (firstRule 7 0 (stateIn ws' out' now) s)) where
+  slot-tried : Onward ws out at ws'' out'' now' (firstRule 7 0 (stateIn ws out at) s)
+  slot-tried = onward-then (λ (x : State). firstRule 7 0 x s) (h .held) took
 
   one-less : 17 - s ≡ (17 - (s + 1)) + 1
   one-less = omega arith
@@ -132,9 +132,9 @@ module _ {ws out ws' out' ws'' out'' : List ℕ} {at now now' s : ℕ} (h : Sear
   pub searching-more : Live ws out at → length out'' ≡ length out' → now' ≡ at → Searching ws out at ws'' out'' now' (s + 1)
   searching-more v k e =
       let o : State = stateIn ws out at in
-      let p : State = firstRule 6 0 o s in
+      let p : State = firstRule 7 0 o s in
       let same : made p ≡ made o = moved-made (slot-tried .moved) ∙ e ∙ sym (made-in out at) in
-      let back : p ≡ o = rules-come o (v .sound) s (h .low) (omega arith) 6 0 .still same in
+      let back : p ≡ o = rules-come o (v .sound) s (h .low) (omega arith) 7 0 .still same in
       record {
         low = omega (arith, h .low);
         high = omega arith;
@@ -148,7 +148,7 @@ module _ {ws out ws' out' ws'' out'' : List ℕ} {at now now' s : ℕ} (h : Sear
   pub searching-found : (now' ≡ at → ⊥) → Onward ws out at ws'' out'' now' (scan (stateIn ws out at))
   searching-found ne =
       let o : State = stateIn ws out at in
-      let p : State = firstRule 6 0 o s in
+      let p : State = firstRule 7 0 o s in
       onward-is slot-tried
       (sym (slot-stop o p s (17 - s) (17 - (s + 1)) one-less refl (λ e. ne (sym (moved-made (slot-tried .moved)) ∙ e ∙ made-in out at))) ∙ h .ends)
 

@@ -5,11 +5,11 @@ use Prim.Native.Nat.{ℕ, zero, suc, _+_}
 use native.Mathlib.Omega.{arith}
 use native.Mathlib.Numerals.{add-one}
 use Rattle.rulebook.specs.Ledger.{none, firstBlock, ownCell, noInitial}
-use Rattle.rulebook.specs.Rules.{State, ruleA, ruleB, ruleC, ruleD, ruleE, ruleF}
+use Rattle.rulebook.specs.Rules.{State, ruleA, ruleB, ruleC, ruleD, ruleE, ruleF, ruleG}
 use Rattle.rulebook.specs.Run.{made, quiet, ruleAt, firstRule}
 use Rattle.rulebook.proofs.ToolLaws.{given-off, and-both}
 use Rattle.rulebook.proofs.RuleLaws.{C-needs-vote, D-needs-vote, E-needs-vote}
-use Rattle.settling.proofs.RunLaws.{quiet-true, quiet-false, rule-step, rule-stop, rule-end, rule-A, rule-B, rule-C, rule-D, rule-E, rule-F}
+use Rattle.settling.proofs.RunLaws.{quiet-true, quiet-false, rule-step, rule-stop, rule-end, rule-A, rule-B, rule-C, rule-D, rule-E, rule-F, rule-G}
 use Rattle.run.specs.Idle.{isIdle}
 
 -- ---- k rules and then n more
@@ -83,6 +83,9 @@ module _ (o : State) (s : ℕ) where
 
   pub only-F : ruleF o s ≡ firstRule 1 5 o s
   only-F = sym (one-rule 5 o s ∙ rule-F o s)
+
+  pub only-G : ruleG o s ≡ firstRule 1 6 o s
+  only-G = sym (one-rule 6 o s ∙ rule-G o s)
 
 -- ---- an idle slot
 

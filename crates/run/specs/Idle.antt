@@ -27,6 +27,6 @@ seeksParent l s = (isFirst s && not (isArmed l s)) && (eqb s 1 || someNode l (s 
 unfoldable pub isIdle : Ledger → ℕ → Bool
 isIdle l s = noInitial (ownCell l s) && none (firstBlock l s .number)
 
--- Nothing for A, idle, and for F a final block already told of, or no notar vote.
+-- Nothing for A, idle, for F no notar vote, and for G no final block.
 unfoldable pub isDormant : Ledger → ℕ → Bool
-isDormant l s = not (seeksParent l s) && (isIdle l s && (not (none (rowAt l s .final)) || not (someNode l s (counts who.AnyNotar))))
+isDormant l s = not (seeksParent l s) && (isIdle l s && (none (rowAt l s .final) && not (someNode l s (counts who.AnyNotar))))

@@ -1,4 +1,4 @@
-// The first of the rules A to F that applies, and settling: again from slot 1 until none applies. A slot in which a look
+// The first of the rules A to G that applies, and settling: again from slot 1 until none applies. A slot in which a look
 // that weighs nothing shows that no rule applies is passed over.
 ghost use mathlib.Core.Path.{_≡_};
 ghost use Rattle.rulebook.specs.declared.Who.the-variants as who;
@@ -13,6 +13,8 @@ ghost use Rattle.fallbacks.specs.UnderWay.{UnderWay, UnderWayAt};
 ghost use Rattle.run.specs.Idle.{someNode, supports, seeksParent, isIdle, isDormant};
 use fallbacks::rule_d;
 use fallbacks::rule_e;
+use finality::rule_f;
+use finality::rule_g;
 use pool::counts;
 use record::count;
 use record::final_block;
@@ -27,7 +29,6 @@ use rules::may_arm;
 use rules::rule_a;
 use rules::rule_b;
 use rules::rule_c;
-use rules::rule_f;
 use voter::no_initial;
 
 // Whether a slot has neither a kept block nor an own initial vote: rules B to E each ask for one of them.
@@ -101,7 +102,7 @@ fn is_dormant(rec: &[u64], s: Slot) -> bool
         return false;
     }
     if final_block(rec, s) != 0 {
-        return true;
+        return false;
     }
     !has_notar(rec, s)
 }
@@ -129,10 +130,22 @@ fn first_of_b_to_e(rec: &mut [u64], outbox: &mut [u64], at: usize, s: Slot) -> u
     rule_e(rec, outbox, d, s)
 }
 
-// The first of rules A to F that applies in a slot. In a dormant one none is tried.
+// The first of rules F and G that applies in a slot.
+fn first_of_f_and_g(rec: &mut [u64], outbox: &mut [u64], at: usize, s: Slot) -> usize
+    requires { ⌜ UnderWayAt (now rec) (now outbox) at (s .0) ⌝ }
+    ensures { λ m. ⌜ Onward (now (rec .entry)) (now (outbox .entry)) at (now (rec .exit)) (now (outbox .exit)) m (firstRule 2 5 (stateIn (now (rec .entry)) (now (outbox .entry)) at) (s .0)) ⌝ }
+{
+    let f = rule_f(rec, outbox, at, s);
+    if f != at {
+        return f;
+    }
+    rule_g(rec, outbox, f, s)
+}
+
+// The first of rules A to G that applies in a slot. In a dormant one none is tried.
 fn first_in_slot(rec: &mut [u64], outbox: &mut [u64], at: usize, s: Slot) -> usize
     requires { ⌜ UnderWayAt (now rec) (now outbox) at (s .0) ⌝ }
-    ensures { λ m. ⌜ Onward (now (rec .entry)) (now (outbox .entry)) at (now (rec .exit)) (now (outbox .exit)) m (firstRule 6 0 (stateIn (now (rec .entry)) (now (outbox .entry)) at) (s .0)) ⌝ }
+    ensures { λ m. ⌜ Onward (now (rec .entry)) (now (outbox .entry)) at (now (rec .exit)) (now (outbox .exit)) m (firstRule 7 0 (stateIn (now (rec .entry)) (now (outbox .entry)) at) (s .0)) ⌝ }
 {
     if is_dormant(rec, s) {
         return at;
@@ -145,10 +158,10 @@ fn first_in_slot(rec: &mut [u64], outbox: &mut [u64], at: usize, s: Slot) -> usi
     if e != at {
         return e;
     }
-    rule_f(rec, outbox, e, s)
+    first_of_f_and_g(rec, outbox, e, s)
 }
 
-// The first rule that applies, slots ascending and rules A to F within a slot.
+// The first rule that applies, slots ascending and rules A to G within a slot.
 fn scan_slots(rec: &mut [u64], outbox: &mut [u64], at: usize) -> usize
     requires { ⌜ UnderWay (now rec) (now outbox) at ⌝ }
     ensures { λ m. ⌜ Onward (now (rec .entry)) (now (outbox .entry)) at (now (rec .exit)) (now (outbox .exit)) m (scan (stateIn (now (rec .entry)) (now (outbox .entry)) at)) ⌝ }
