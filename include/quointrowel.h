@@ -39,7 +39,7 @@ enum qr_number {
     QR_OWN_NAME = 6,      /* vote in the own node's name from outside */
     QR_ALREADY_KEPT = 7,  /* that very vote, block with parent, or timeout is kept */
     QR_OTHER_STANDS = 8,  /* another stands in its place; a fifth block of a slot, or a kept block with another parent */
-    QR_NO_ROOM = 9,       /* outbox below 384 words; buffer below its bytes (enum qr_size); too few places for a tray's answers */
+    QR_NO_ROOM = 9,       /* outbox below 480 words; buffer below its bytes (enum qr_size); too few places for a tray's answers */
     QR_NOT_ARMED = 10,    /* timeout for a window that is not armed */
     QR_BAD_PARENT = 11,   /* parent slot not below the slot, or slot 0 without genesis */
     QR_BAD_LENGTH = 12,   /* packet ends early, or bytes remain; a part of a vote ends a tray */
@@ -82,13 +82,14 @@ enum qr_record_kind {
     QR_RECORD_SKIP = 3,
     QR_RECORD_SKIP_FALLBACK = 4,
     QR_RECORD_FINAL = 5,
-    QR_RECORD_BLOCK_FINAL = 6,  /* the block is final in the slot */
-    QR_RECORD_WINDOW_ARMED = 7  /* the window that the slot begins is armed; block 0 */
+    QR_RECORD_BLOCK_FINAL = 6,  /* the block is final in the slot, by certificates or as an ancestor of such a block */
+    QR_RECORD_WINDOW_ARMED = 7, /* the window that the slot begins is armed; block 0 */
+    QR_RECORD_CONFLICT = 8      /* the block is final in the slot too, which has another final block; once for a slot */
 };
 
 /* Sizes: what lent memory has to have, and what a ring has at most. */
 enum qr_size {
-    QR_OUTBOX_WORDS = 384,     /* words of an outbox, 128 records of three, or more */
+    QR_OUTBOX_WORDS = 480,     /* words of an outbox, 160 records of three, or more */
     QR_CERTIFICATE_BYTES = 32, /* bytes of a buffer for a certificate, or more */
     QR_PROOF_BYTES = 64,       /* bytes of a buffer for a proof, or more */
     QR_LARGE_CERTIFICATE_BYTES = 768, /* the same with a large table */
@@ -99,8 +100,8 @@ enum qr_size {
     QR_LAST_SLOT = 16
 };
 
-/* Words of a record of a ring of so many nodes, 1 to QR_MOST_NODES, exactly: 606 for three nodes, 246,006 for 2,048. */
-#define QR_RECORD_WORDS(nodes) (246 + 120 * (size_t)(nodes))
+/* Words of a record of a ring of so many nodes, 1 to QR_MOST_NODES, exactly: 623 for three nodes, 246,023 for 2,048. */
+#define QR_RECORD_WORDS(nodes) (263 + 120 * (size_t)(nodes))
 
 /*
  * The same of the library that is linked, which a host compares with those of this header. qr_record_words: by the number

@@ -19,7 +19,7 @@ pub struct Cover {
     scripts: u64,
     commands: u64,
     longest: usize,
-    pub most_records_in_a_call: usize,
+    most_records_in_a_call: usize,
     pub most_records_in_a_life: usize,
     /// Records since the last accepted start.
     life: usize,

@@ -15,6 +15,7 @@ pub const MOST_BLOCKS: usize = 4;
 
 pub const RECORD_FINALIZED: u64 = 6;
 pub const RECORD_ARMED: u64 = 7;
+pub const RECORD_CONFLICT: u64 = 8;
 
 #[derive(Clone, Copy, PartialEq, Eq, Debug)]
 pub enum Vote {
@@ -248,7 +249,10 @@ pub struct Node {
     timed_out: [bool; ROWS],
     /// By the window's first slot.
     armed: [bool; ROWS],
-    finalized: [bool; ROWS],
+    /// The final block of each slot.
+    finalized: [Option<u64>; ROWS],
+    /// Slots for which record 8 was made.
+    conflict: [bool; ROWS],
     /// Records of the input under way.
     outbox: Vec<Record>,
     /// How often each branch of the rules was taken; for `cover` only.
@@ -287,7 +291,8 @@ impl Node {
             kept: vec![Vec::new(); ROWS],
             timed_out: [false; ROWS],
             armed: [false; ROWS],
-            finalized: [false; ROWS],
+            finalized: [None; ROWS],
+            conflict: [false; ROWS],
             outbox: Vec::new(),
             notes: BTreeMap::new(),
         })
@@ -481,6 +486,9 @@ impl Node {
         kept.push(block);
         let records = self.run_rules();
         self.note_causes(Came::Block(number), slot, &records);
+        if records.iter().any(|made| made.kind == RECORD_FINALIZED && made.slot < slot) {
+            self.note("G by the block's coming");
+        }
         Ok(records)
     }
 
@@ -516,7 +524,8 @@ impl Node {
 type Rule = fn(&mut Node, u64) -> bool;
 
 /// In the order of the document; each answers whether it applied.
-const RULES: [Rule; 6] = [Node::rule_a, Node::rule_b, Node::rule_c, Node::rule_d, Node::rule_e, Node::rule_f];
+const RULES: [Rule; 7] =
+    [Node::rule_a, Node::rule_b, Node::rule_c, Node::rule_d, Node::rule_e, Node::rule_f, Node::rule_g];
 
 impl Node {
     fn run_rules(&mut self) -> Vec<Record> {
@@ -696,22 +705,73 @@ impl Node {
         self.stakes.reaches(self.skip_weight(slot) + all - largest, P40)
     }
 
-    /// F: a block of the slot is final.
+    /// F: a block of the slot is final, or another than the final one.
     fn rule_f(&mut self, slot: u64) -> bool {
-        if self.finalized[slot as usize] {
-            return false;
-        }
-        let block = match self.notar_blocks(slot).into_iter().find(|&b| self.is_final(slot, b)) {
+        let already = self.finalized[slot as usize];
+        let mut candidates = self.notar_blocks(slot).into_iter();
+        let block = match candidates.find(|&b| Some(b) != already && self.is_final(slot, b)) {
             Some(block) => block,
             None => return false,
         };
+        if already.is_some() {
+            self.note("F against the final block");
+            return self.mark_conflict(slot, block);
+        }
         self.note(if self.holds(slot, Cert::FastFinal(block)) {
             "F by kind 1"
         } else {
             "F by kinds 2 and 5"
         });
-        self.finalized[slot as usize] = true;
+        self.finalize(slot, block);
+        true
+    }
+
+    /// G: the ancestors of the slot's final block are final too.
+    fn rule_g(&mut self, slot: u64) -> bool {
+        match self.finalized[slot as usize] {
+            Some(block) => self.walk_from(slot, block),
+            None => false,
+        }
+    }
+
+    /// On from a final block to its parent; answers whether anything was recorded.
+    fn walk_from(&mut self, slot: u64, number: u64) -> bool {
+        let kept = self.kept_blocks(slot).iter().find(|kept| kept.number == number);
+        let (below, parent) = match kept {
+            Some(kept) if kept.parent_slot > 0 => (kept.parent_slot, kept.parent),
+            Some(_) => return false,
+            None => {
+                self.note("G halted by a missing block");
+                return false;
+            }
+        };
+        match self.finalized[below as usize] {
+            None => {
+                self.note(if below + 1 == slot { "G to the slot before" } else { "G over slots between" });
+                self.finalize(below, parent);
+                self.walk_from(below, parent);
+                true
+            }
+            Some(block) if block == parent => self.walk_from(below, parent),
+            Some(_) => {
+                self.note("G against a final block");
+                self.mark_conflict(below, parent)
+            }
+        }
+    }
+
+    fn finalize(&mut self, slot: u64, block: u64) {
+        self.finalized[slot as usize] = Some(block);
         self.record(RECORD_FINALIZED, slot, block);
+    }
+
+    /// Once for the slot; answers whether it was recorded.
+    fn mark_conflict(&mut self, slot: u64, newcomer: u64) -> bool {
+        if self.conflict[slot as usize] {
+            return false;
+        }
+        self.conflict[slot as usize] = true;
+        self.record(RECORD_CONFLICT, slot, newcomer);
         true
     }
 

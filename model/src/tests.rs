@@ -673,6 +673,81 @@ fn finality_is_recorded_once_and_needs_no_own_vote() {
     assert_eq!(votes(&mut fast, 1, 1..=8, 3, 7), [(6, 3, 7)]);
 }
 
+// ---- ancestors ----
+
+/// Eight of ten nodes for the block, which makes it final.
+fn fast_final(node: &mut Node, slot: u64, number: u64) -> Vec<(u64, u64, u64)> {
+    let made = votes(node, 1, 1..=8, slot, number);
+    made.into_iter().filter(|&(kind, ..)| kind == 6 || kind == 8).collect()
+}
+
+#[test]
+fn a_chain_is_final_with_its_last_block() {
+    let mut n = ten_skipping();
+    block(&mut n, 1, 10, 0, 1);
+    for slot in 2..=4 {
+        block(&mut n, slot, 10 * slot, slot - 1, 10 * (slot - 1));
+    }
+    assert_eq!(fast_final(&mut n, 4, 40), [(6, 4, 40), (6, 3, 30), (6, 2, 20), (6, 1, 10)]);
+    assert_eq!(look(&mut n), []);
+}
+
+#[test]
+fn a_missing_block_halts_the_walk() {
+    let mut n = ten_skipping();
+    block(&mut n, 1, 10, 0, 1);
+    block(&mut n, 2, 20, 1, 10);
+    block(&mut n, 4, 40, 3, 30);
+    assert_eq!(fast_final(&mut n, 4, 40), [(6, 4, 40), (6, 3, 30)]);
+    // Another block of that slot is of no use.
+    assert_eq!(block(&mut n, 3, 31, 2, 20), []);
+    assert_eq!(block(&mut n, 3, 30, 2, 20), [(6, 2, 20), (6, 1, 10)]);
+}
+
+#[test]
+fn the_walk_passes_over_slots_and_windows() {
+    let mut n = ten_skipping();
+    block(&mut n, 13, 130, 6, 60);
+    block(&mut n, 6, 60, 2, 20);
+    block(&mut n, 2, 20, 0, 1);
+    assert_eq!(fast_final(&mut n, 13, 130), [(6, 13, 130), (6, 6, 60), (6, 2, 20)]);
+}
+
+#[test]
+fn the_walk_goes_on_past_what_is_final() {
+    let mut n = ten_skipping();
+    block(&mut n, 4, 40, 3, 30);
+    block(&mut n, 3, 30, 2, 20);
+    assert_eq!(fast_final(&mut n, 2, 20), [(6, 2, 20)]);
+    assert_eq!(fast_final(&mut n, 4, 40), [(6, 4, 40), (6, 3, 30)]);
+    // From the lowest final slot up, each walk only as far as it records.
+    assert_eq!(block(&mut n, 2, 20, 1, 10), [(6, 1, 10)]);
+}
+
+#[test]
+fn a_walk_against_a_final_block_ends_there() {
+    let mut n = ten_skipping();
+    block(&mut n, 1, 10, 0, 1);
+    block(&mut n, 3, 30, 2, 20);
+    block(&mut n, 2, 20, 1, 10);
+    assert_eq!(fast_final(&mut n, 2, 21), [(6, 2, 21)]);
+    assert_eq!(fast_final(&mut n, 3, 30), [(6, 3, 30), (8, 2, 20)]);
+    // Once for that slot, whichever block comes next.
+    block(&mut n, 4, 40, 2, 22);
+    assert_eq!(fast_final(&mut n, 4, 40), [(6, 4, 40)]);
+    assert_eq!(look(&mut n), []);
+}
+
+#[test]
+fn rule_f_against_a_block_that_the_walk_made_final() {
+    let mut n = ten_skipping();
+    block(&mut n, 3, 30, 2, 20);
+    assert_eq!(fast_final(&mut n, 3, 30), [(6, 3, 30), (6, 2, 20)]);
+    assert_eq!(fast_final(&mut n, 2, 21), [(8, 2, 21)]);
+    block(&mut n, 4, 40, 2, 22);
+    assert_eq!(fast_final(&mut n, 4, 40), [(6, 4, 40)]);
+}
+
 #[test]
 fn own_skips_of_a_timeout_come_before_the_rules() {
     let mut n = ten();
@@ -1205,6 +1280,12 @@ const BRANCHES: &[&str] = &[
     "E beside an own final",
     "F by kind 1",
     "F by kinds 2 and 5",
+    "F against the final block",
+    "G to the slot before",
+    "G over slots between",
+    "G halted by a missing block",
+    "G by the block's coming",
+    "G against a final block",
     "timeout that skips",
     "timeout that casts nothing",
     "cert written: kind 3 with fallback signers",
@@ -1259,7 +1340,7 @@ fn a_thousand_scripts_reach_everything() {
     for silent in ["(blank)", "(comment)"] {
         assert!(seen.answers(silent, "?") >= 10, "few {silent} lines over the buffer");
     }
-    for kind in 1..=7 {
+    for kind in 1..=8 {
         assert!(seen.records(kind) >= 50, "few records of kind {kind}");
     }
     for what in BRANCHES {
@@ -1290,6 +1371,6 @@ fn a_thousand_scripts_reach_everything() {
     for what in SELDOM {
         assert!(seen.notes(what) >= 3, "none of: {what}");
     }
-    // A life from a fresh start has room for no more than these.
-    assert!(seen.most_records_in_a_call <= 67 && seen.most_records_in_a_life <= 68);
+    // The document's bound for a life.
+    assert!(seen.most_records_in_a_life <= 132);
 }

@@ -13,6 +13,7 @@ use rulebook::Slot;
 use rulebook::Who;
 use shown::armed_in;
 use shown::cell_of;
+use shown::clash_in;
 use shown::final_of;
 use shown::genesis_of;
 use shown::is_blank;
@@ -306,13 +307,67 @@ fn certificate_lines(page: &mut [u8], at: usize, rec: &[u64], s: Slot) -> usize 
     certificate_line(page, p, rec, s, ended, b"  final certificate", Who::Final)
 }
 
+// Whether the block in one of slot t's places is its final block, a child of block b of slot s.
+fn leads_at(rec: &[u64], t: Slot, place: usize, s: Slot, b: u64) -> bool {
+    let k = kept_of(rec, t, place);
+    let p = k.parentslot;
+    let child = (k.number != 0) & (k.number == final_of(rec, t));
+    child & ((p.0 == s.0) & (k.parent == b))
+}
+
+// The first slot above s whose final block is a kept child of block b of slot s, 0 where there is none.
+fn final_child(rec: &[u64], s: Slot, b: u64) -> usize {
+    for t in 1..17 {
+        let first = leads_at(rec, Slot(t), 0, s, b) | leads_at(rec, Slot(t), 1, s, b);
+        let last = leads_at(rec, Slot(t), 2, s, b) | leads_at(rec, Slot(t), 3, s, b);
+        if first | last {
+            return t;
+        }
+    }
+    0
+}
+
+// Whether a block is final by certificates.
+fn certified(rec: &[u64], s: Slot, b: u64) -> bool {
+    let fast = held_in(rec, s, CertificateKind::FastFinal, b);
+    let notar = held_in(rec, s, CertificateKind::Notar, b);
+    let ended = held_in(rec, s, CertificateKind::Final, 0);
+    fast | (notar & ended)
+}
+
+// How a block came to be final: by certificates, or as the parent of another.
+fn put_cause(page: &mut [u8], at: usize, rec: &[u64], s: Slot, b: u64) -> usize {
+    if certified(rec, s, b) {
+        return put_text(page, at, b" by certificate");
+    }
+    let t = final_child(rec, s, b);
+    if t == 0 {
+        return at;
+    }
+    put_named(page, at, b" through slot ", t as u64)
+}
+
 // The block reported final.
 fn reported_line(page: &mut [u8], at: usize, rec: &[u64], s: Slot) -> usize {
     let f = final_of(rec, s);
     if f == 0 {
         return at;
     }
-    let next = put_named(page, at, b"  FINAL ", f);
+    let p = put_named(page, at, b"  FINAL ", f);
+    let next = put_cause(page, p, rec, s, f);
+    end_line(page, next)
+}
+
+// Whether another final block was reported.
+fn clash_line(page: &mut [u8], at: usize, rec: &[u64], s: Slot) -> usize {
+    if !clash_in(rec, s) {
+        return at;
+    }
+    let next = put_text(
+        page,
+        at,
+        b"  CONFLICT: another block of this slot is final too",
+    );
     end_line(page, next)
 }
 
@@ -329,7 +384,8 @@ fn slot_board(page: &mut [u8], at: usize, rec: &[u64], s: Slot) -> usize {
     let q = kept_lines(page, p, rec, s);
     let r = own_line(page, q, rec, s);
     let t = votes_board(page, r, rec, s);
-    reported_line(page, t, rec, s)
+    let u = reported_line(page, t, rec, s);
+    clash_line(page, u, rec, s)
 }
 
 // What the votes of a slot weigh.

@@ -1,2 +1,3 @@
--- What telling of a final block asks of a caller.
+-- What telling of a final block asks of a caller, and that what is final was told of.
 pub mod Telling
+pub mod Finals

@@ -111,7 +111,7 @@ fn kinds(page: &mut [u8], at: usize) -> usize {
     let r = tell_line(
         page,
         q,
-        b"records       1 to 5 a vote was cast, 6 a block is final, 7 a window is armed",
+        b"records       1 to 5 a vote was cast, 6 a block is final, 7 a window is armed, 8 another block of the slot is final too",
     );
     tell_line(
         page,
@@ -165,7 +165,7 @@ fn middle_refusal(page: &mut [u8], at: usize, n: u64) -> usize {
         9 => tell_line(
             page,
             at,
-            b"9: The outbox is below 128 records; or the buffer below 32 bytes for a certificate, 64 for a proof (768 and 1,536 with more than 64 nodes), 16 for a vote message; or a tray has fewer places for answers than votes.",
+            b"9: The outbox is below 160 records; or the buffer below 32 bytes for a certificate, 64 for a proof (768 and 1,536 with more than 64 nodes), 16 for a vote message; or a tray has fewer places for answers than votes.",
         ),
         10 => tell_line(
             page,

@@ -14,8 +14,8 @@ use run::settle;
 use soundness::sound;
 use verdicts::judge_input;
 
-// The least number of words of an outbox: 128 records of three words.
-const OUTBOX_WORDS: usize = 384;
+// The least number of words of an outbox: 160 records of three words.
+const OUTBOX_WORDS: usize = 480;
 
 // Takes an input that is not refused, and runs the rules until none applies.
 fn act(rec: &mut [u64], outbox: &mut [u64], i: Input) -> usize

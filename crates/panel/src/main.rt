@@ -13,13 +13,13 @@ const LINE_ROOM: usize = 65538;
 
 const LONGEST: usize = 65536;
 
-// Every answer has room in a page: at most 128 records of 63 bytes with the numbers of 8,191 votes, three bytes each, or 1,536 bytes in hex.
+// Every answer has room in a page: at most 160 records of 63 bytes with the numbers of 8,191 votes, three bytes each, or 1,536 bytes in hex.
 const PAGE_ROOM: usize = 34816;
 
 // The words of the largest record, that of 2,048 nodes.
-const RECORD_WORDS: usize = 246006;
+const RECORD_WORDS: usize = 246023;
 
-const OUTBOX_WORDS: usize = 384;
+const OUTBOX_WORDS: usize = 480;
 
 // The line's bytes without a carriage return at their end.
 fn trimmed(line: &[u8]) -> usize {

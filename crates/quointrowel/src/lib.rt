@@ -51,7 +51,7 @@ pub extern "C" fn qr_record_words(count: usize) -> usize
 pub extern "C" fn qr_outbox_words() -> usize
     ensures { λ r. ⌜ r ≡ outboxWords ⌝ }
 {
-    384
+    480
 }
 
 // Makes the record's words a fresh node.

@@ -18,7 +18,7 @@ use writers::write_certificate;
 use writers::write_proof;
 
 // The words of a record with two places.
-const RECORD_WORDS: usize = 486;
+const RECORD_WORDS: usize = 503;
 
 const MOST_NUMBERS: usize = 64;
 
@@ -102,8 +102,8 @@ fn tell_write(answer: WriteAnswer) {
 
 // A look, a certificate and a proof asked of a record; then whether it is still the other one, and all lent memory as lent.
 fn ask(rec: &mut [u64], other: &[u64]) {
-    let lent = [9u64; 384];
-    let mut outbox = [9u64; 384];
+    let lent = [9u64; 480];
+    let mut outbox = [9u64; 480];
     let mut first = [9u8; 32];
     let mut second = [9u8; 64];
     tell_step(step(rec, &mut outbox, Input::Look));
@@ -207,24 +207,24 @@ fn as_two(rec: &mut [u64], stakes: &[u64]) {
 
 // A record of a wrong length: a word more or less; a place more or less than the count says.
 fn lengths() {
-    let mut short = [0u64; 485];
-    let other = [0u64; 485];
-    say(b"485 words");
+    let mut short = [0u64; 502];
+    let other = [0u64; 502];
+    say(b"502 words");
     ask(&mut short, &other);
-    let mut long = [0u64; 487];
-    let another = [0u64; 487];
-    say(b"487 words");
+    let mut long = [0u64; 504];
+    let another = [0u64; 504];
+    say(b"504 words");
     ask(&mut long, &another);
     let one = [1u64; 1];
-    let mut single = [0u64; 366];
-    let mut same = [0u64; 366];
+    let mut single = [0u64; 383];
+    let mut same = [0u64; 383];
     as_two(&mut single, &one);
     as_two(&mut same, &one);
     say(b"two nodes on one place");
     ask(&mut single, &same);
     let three = [1u64; 3];
-    let mut triple = [0u64; 606];
-    let mut again = [0u64; 606];
+    let mut triple = [0u64; 623];
+    let mut again = [0u64; 623];
     as_two(&mut triple, &three);
     as_two(&mut again, &three);
     say(b"two nodes on three places");
@@ -233,11 +233,11 @@ fn lengths() {
 
 // Start: 17 for a length that the number of stakes does not ask for, then 1.
 fn starts() {
-    let mut none = [0u64; 246];
-    let mut two = [0u64; 486];
-    let mut small = [0u64; 7926];
-    let mut large = [0u64; 8046];
-    let mut most = [0u64; 246006];
+    let mut none = [0u64; 263];
+    let mut two = [0u64; 503];
+    let mut small = [0u64; 7943];
+    let mut large = [0u64; 8063];
+    let mut most = [0u64; 246023];
     let stakes = [1u64; 2049];
     say(b"no stakes on no place");
     tell_start(start(&mut none, &stakes[..0], Node(0), 1));

@@ -11,6 +11,7 @@ ghost use Rattle.shown.specs.Shown.{ledgerIn, armedShown, hasVotes, touc
 use kinds::slot_ok;
 use record::LAST_SLOT;
 use record::MOST_BLOCKS;
+use record::clash_word;
 use record::count;
 use record::final_block;
 use record::genesis;
@@ -166,6 +167,19 @@ pub fn timed_out_in(rec: &[u64], s: Slot) -> bool
         return false;
     }
     timed_out(rec, s)
+}
+
+// Whether another final block was reported in a slot.
+pub fn clash_in(rec: &[u64], s: Slot) -> bool
+    ensures { λ r. ⌜ r ≡ not (none (rowAt (ledgerIn (now (rec .entry))) (s .0) .clash)) ⌝ }
+{
+    if !is_long(rec) {
+        return false;
+    }
+    if s.0 > LAST_SLOT {
+        return false;
+    }
+    clash_word(rec, s) != 0
 }
 
 // ---- whether there is something to show

@@ -5,7 +5,7 @@ use mathlib.Core.List.{List, _++_}
 use Prim.Native.Nat.{ℕ, zero, suc, _+_}
 use native.Mathlib.Omega.{arith}
 use lib.ListN.{length-append}
-use lib.Dec.{eqb}
+use lib.Dec.{eqb, ltb}
 use borrow.Author.Tests.{eq-eqb, eqb-true}
 use Rattle.rulebook.specs.declared.Cell.{Cell}
 use Rattle.rulebook.specs.declared.Block.{Block}
@@ -13,9 +13,9 @@ use Rattle.rulebook.specs.declared.VoteKind.the-variants as vote
 use Rattle.rulebook.specs.declared.CertificateKind.the-variants as certificate
 use Rattle.rulebook.specs.Tools.{given, lowest}
 use Rattle.rulebook.specs.Weights.{isFirst, firstOf, lastSlot}
-use Rattle.rulebook.specs.Ledger.{none, noInitial, rowAt, ownCell, firstBlock, isArmed}
+use Rattle.rulebook.specs.Ledger.{none, noInitial, rowAt, ownCell, blocksAt, firstBlock, isArmed}
 use Rattle.rulebook.specs.Pool.{held, names, someReady}
-use Rattle.rulebook.specs.Rules.{Record, State, stateOf, cast, castSkip, castSkips, ruleA, ruleB, ruleC, ruleD, ruleE, ruleF, parentFits, mayFinal, mayFallback, fallbackBlock, castFallback, windowOpen, maySkipFallback, skipWeights, castSkipFallback, isFinal}
+use Rattle.rulebook.specs.Rules.{Record, State, stateOf, cast, castSkip, castSkips, ruleA, ruleB, ruleC, ruleD, ruleE, isNewcomer, tellClash, tellFinal, ruleF, findBlock, walkTo, walkStep, walkFor, ruleG, parentFits, mayFinal, mayFallback, fallbackBlock, castFallback, windowOpen, maySkipFallback, skipWeights, castSkipFallback}
 use Rattle.rulebook.specs.Run.{ruleAt, made, quiet, firstRule, firstSlot, scan, runFor, run}
 use Rattle.rulebook.proofs.ToolLaws.{same-test}
 
@@ -96,22 +96,49 @@ module _ (rs : List Record) where
         given-behind (not (none (c .notar)) && (windowOpen (o .ledger) s || maySkipFallback c)) o (behind o) _ _ refl
         (given-behind (skipWeights (o .ledger) s) o (behind o) _ _ refl (skipFallback-after (castSkips o s) (castSkips (behind o) s) (skips-behind o)))
 
+    clash-behind : (o : State) (b : ℕ) → tellClash (behind o) s b ≡ behind (tellClash o s b)
+    unfolding tellClash
+    clash-behind o b = given-behind (none (rowAt (o .ledger) s .clash)) o (behind o) _ _ refl refl
+
+    tell-behind : (o : State) (b : ℕ) → tellFinal (behind o) s b ≡ behind (tellFinal o s b)
+    unfolding tellFinal
+    tell-behind o b =
+        let f : ℕ = rowAt (o .ledger) s .final in
+        given-behind (none f) _ _ _ _ (given-behind (eqb f b) (tellClash o s b) (tellClash (behind o) s b) _ _ (clash-behind o b) refl) refl
+
     F-behind : (o : State) → ruleF (behind o) s ≡ behind (ruleF o s)
     unfolding ruleF
     F-behind o =
-        let b : ℕ = lowest (isFinal (o .ledger) s) (names (o .ledger) s) in
-        given-behind (none (rowAt (o .ledger) s .final)) o (behind o) _ _ refl
-        (given-behind (not (none b)) o (behind o) _ _ refl refl)
+        let b : ℕ = lowest (isNewcomer (o .ledger) s) (names (o .ledger) s) in
+        given-behind (not (none b)) o (behind o) _ _ refl (tell-behind o b)
+
+  -- The walk, from what was told of the parent.
+  walk-behind : (n : ℕ) (s : ℕ) (o : State) → walkFor n (behind o) s ≡ behind (walkFor n o s)
+  unfolding walkFor walkStep walkTo
+  walk-behind zero s o = refl
+  walk-behind (suc n) s o =
+      let k : Block = findBlock (rowAt (o .ledger) s .final) (blocksAt (o .ledger) s) in
+      let p : ℕ = k .parentslot .0 in
+      let q : State = tellFinal o p (k .parent) in
+      given-behind (not (none p) && ltb p s) o (behind o) _ _ refl
+      (ap (λ (x : State). given (eqb (rowAt (x .ledger) p .final) (k .parent)) x (λ _. walkFor n x p)) (tell-behind p o (k .parent))
+      ∙ given-behind (eqb (rowAt (q .ledger) p .final) (k .parent)) q (behind q) _ _ refl (walk-behind n p q))
+
+  module _ (s : ℕ) where
+    G-behind : (o : State) → ruleG (behind o) s ≡ behind (ruleG o s)
+    unfolding ruleG
+    G-behind o = walk-behind s s o
 
     rule-behind : (r : ℕ) (o : State) → ruleAt r (behind o) s ≡ behind (ruleAt r o s)
     unfolding ruleAt
-    rule-behind zero o = A-behind o
-    rule-behind (suc zero) o = B-behind o
-    rule-behind (suc (suc zero)) o = C-behind o
-    rule-behind (suc (suc (suc zero))) o = D-behind o
-    rule-behind (suc (suc (suc (suc zero)))) o = E-behind o
-    rule-behind (suc (suc (suc (suc (suc zero))))) o = F-behind o
-    rule-behind (suc (suc (suc (suc (suc (suc r)))))) o = refl
+    rule-behind zero o = A-behind s o
+    rule-behind (suc zero) o = B-behind s o
+    rule-behind (suc (suc zero)) o = C-behind s o
+    rule-behind (suc (suc (suc zero))) o = D-behind s o
+    rule-behind (suc (suc (suc (suc zero)))) o = E-behind s o
+    rule-behind (suc (suc (suc (suc (suc zero))))) o = F-behind s o
+    rule-behind (suc (suc (suc (suc (suc (suc zero)))))) o = G-behind o
+    rule-behind (suc (suc (suc (suc (suc (suc (suc r))))))) o = refl
 
   -- As many records more as without those behind.
   quiet-behind : (o p : State) → quiet (behind o) (behind p) ≡ quiet o p
@@ -141,7 +168,7 @@ module _ (rs : List Record) where
   unfolding firstSlot
   slots-behind zero s o = refl
   slots-behind (suc n) s o =
-      quiet-on o (firstRule 6 0 o s) (firstRule 6 0 (behind o) s) (firstSlot n (s + 1)) (rules-behind 6 0 o s) (slots-behind n (s + 1) (firstRule 6 0 o s))
+      quiet-on o (firstRule 7 0 o s) (firstRule 7 0 (behind o) s) (firstSlot n (s + 1)) (rules-behind 7 0 o s) (slots-behind n (s + 1) (firstRule 7 0 o s))
 
   scan-behind : (o : State) → scan (behind o) ≡ behind (scan o)
   unfolding scan
@@ -162,4 +189,4 @@ module _ (rs : List Record) where
 
   pub run-behind : (o : State) → run (behind o) ≡ behind (run o)
   unfolding run
-  run-behind o = runFor-behind 117 o
+  run-behind o = runFor-behind 133 o

@@ -1,4 +1,4 @@
--- What a tray promises, from its definition alone: one result; the votes as if they came singly; an empty run; at most 116 records; a sound
+-- What a tray promises, from its definition alone: one result; the votes as if they came singly; an empty run; at most 132 records; a sound
 -- record again.
 use mathlib.Core.Path.{_≡_, refl, sym, ap, _∙_}
 use mathlib.Core.Bool.{true, _&&_}
@@ -62,7 +62,7 @@ serve-life l (v ∷ vs) =
     let q = serve-life (f .ledger) vs in
     (q .0, ap (λ (rs : List Record). f .records ++ rs) (q .1))
 
--- The life's total holds of a tray: 116 records at most, so that an outbox of 128 has room for all its votes together.
+-- The life's total holds of a tray: 132 records at most, so that an outbox of 160 has room for all its votes together.
 pub tray-within : (l : Ledger) (vs : List Vote) → Sound l → length (serve l vs .records) ≤ mostRecords
 tray-within l vs h =
     let is : List Input = map input.Vote vs in

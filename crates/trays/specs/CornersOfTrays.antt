@@ -32,24 +32,24 @@ mixed =
 -- The first vote arms the window, the last makes block 7 final; the refused votes between them end nothing.
 abbrev middle : Bool
 middle =
-    equals (shown (tray three 384 7 mixed))
+    equals (shown (tray three 480 7 mixed))
     ((0 ∷ 2 ∷ []) ∷ (0 ∷ 6 ∷ 0 ∷ 7 ∷ 0 ∷ 8 ∷ 0 ∷ []) ∷ (7 ∷ 1 ∷ 0 ∷ 6 ∷ 1 ∷ 7 ∷ []) ∷ [])
 
 -- An empty run needs no place for answers and runs no rule: the look after it arms the window.
 abbrev empty : Bool
 empty =
-    let t = tray three 384 0 [] in
+    let t = tray three 480 0 [] in
     equals (shown t) ((0 ∷ 0 ∷ []) ∷ [] ∷ [] ∷ []) && equal (told (t .served .ledger)) (7 ∷ 1 ∷ 0 ∷ [])
 
 -- 17, then 9 for either buffer, then 12; each tray is wrong in every later way too. A part alone asks for no place.
 abbrev order : Bool
 order =
     let part : List ℕ = 1 ∷ 1 ∷ 1 ∷ 7 ∷ 1 ∷ [] in
-    all (equals (shown (tray (fresh (4 ∷ 3 ∷ 3 ∷ []) 3 1) 383 0 part)) (refusedWith 17)
-    ∷ equals (shown (tray three 383 1 part)) (refusedWith 9)
-    ∷ equals (shown (tray three 384 0 part)) (refusedWith 9)
-    ∷ equals (shown (tray three 384 1 part)) (refusedWith 12)
-    ∷ equals (shown (tray three 384 0 (1 ∷ 1 ∷ 1 ∷ []))) (refusedWith 12) ∷ [])
+    all (equals (shown (tray (fresh (4 ∷ 3 ∷ 3 ∷ []) 3 1) 479 0 part)) (refusedWith 17)
+    ∷ equals (shown (tray three 479 1 part)) (refusedWith 9)
+    ∷ equals (shown (tray three 480 0 part)) (refusedWith 9)
+    ∷ equals (shown (tray three 480 1 part)) (refusedWith 12)
+    ∷ equals (shown (tray three 480 0 (1 ∷ 1 ∷ 1 ∷ []))) (refusedWith 12) ∷ [])
 
 cornersOfTrays : T (all (middle ∷ empty ∷ order ∷ []))
 unfolding rules votesIn serve trayRefused trayServed tray

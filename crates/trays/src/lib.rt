@@ -21,8 +21,8 @@ use run::settle;
 use soundness::sound;
 use verdicts::vote_verdict;
 
-// The least number of words of an outbox: 128 records of three words.
-const OUTBOX_WORDS: usize = 384;
+// The least number of words of an outbox: 160 records of three words.
+const OUTBOX_WORDS: usize = 480;
 
 // What one vote of a tray leaves: how many records stand in the outbox then, and the vote's number.
 pub struct Taken {

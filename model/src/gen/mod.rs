@@ -27,7 +27,7 @@ pub struct Script {
 pub fn script(seed: u64) -> Script {
     // The seed is stirred once, so that seeds in a row share nothing.
     let mut random = Random::new(Random::new(seed).next());
-    match random.below(50) {
+    match random.below(53) {
         0 => tiny(random),
         1 => before_start(random),
         2 => restarts(random),
@@ -45,6 +45,7 @@ pub fn script(seed: u64) -> Script {
         29 | 30 => messages(random),
         31 | 32 => trays(random),
         33..=38 => waits(random),
+        39..=41 => ancestry(random),
         _ => history(random),
     }
 }
@@ -150,6 +151,13 @@ fn waits(mut random: Random) -> Script {
     }
     let mut w = begin(random, ring, 100, 200);
     scenes::waits(&mut w);
+    finish_with_audit(w, 5)
+}
+
+fn ancestry(mut random: Random) -> Script {
+    let ring = Ring::small(&mut random);
+    let mut w = begin(random, ring, 60, 200);
+    scenes::ancestry(&mut w);
     finish_with_audit(w, 5)
 }
 

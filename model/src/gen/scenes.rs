@@ -447,3 +447,58 @@ fn some_steps(random: &mut Random) -> Vec<Step> {
     random.shuffle(&mut steps);
     steps
 }
+
+/// Chains of blocks of which some become final, with links that are missing
+/// or come late, and rivals that become final in the chain's slots.
+pub fn ancestry(w: &mut Writer) {
+    let numbers = Numbers::any(&mut w.random, w.ring.genesis);
+    while !w.full() {
+        let chain = some_chain(w, &numbers);
+        let top = chain[0];
+        let mut steps: Vec<Link> = Vec::new();
+        for _ in 0..w.random.range(1, 3) {
+            let (slot, number, ..) = if w.random.percent(60) { top } else { w.random.pick(&chain) };
+            let rival = w.random.pick(&numbers.of_slot(slot));
+            let number = if w.random.percent(75) { number } else { rival };
+            steps.push((slot, number, slot, 0));
+        }
+        let (mut late, early): (Vec<Link>, Vec<Link>) = chain.into_iter().partition(|_| w.random.percent(20));
+        steps.extend(early);
+        w.random.shuffle(&mut steps);
+        w.random.shuffle(&mut late);
+        for (slot, number, parent_slot, parent) in steps.into_iter().chain(late) {
+            if parent_slot < slot {
+                w.say(format!("block {slot} {number} {parent_slot} {parent}"));
+            } else {
+                make_final(w, slot, number);
+            }
+        }
+    }
+}
+
+/// Slot and number of a block, and of its parent.
+type Link = (u64, u64, u64, u64);
+
+/// From some slot down to genesis.
+fn some_chain(w: &mut Writer, numbers: &Numbers) -> Vec<Link> {
+    let mut slot = w.random.range(2, LAST_SLOT);
+    let mut number = w.random.pick(&numbers.of_slot(slot));
+    let gaps = w.random.pick(&[0, 20, 50]);
+    let mut chain = Vec::new();
+    while slot > 0 {
+        let below = if w.random.percent(gaps) { w.random.below(slot) } else { slot - 1 };
+        let parent = if below == 0 { w.ring.genesis } else { w.random.pick(&numbers.of_slot(below)) };
+        chain.push((slot, number, below, parent));
+        (slot, number) = (below, parent);
+    }
+    chain
+}
+
+fn make_final(w: &mut Writer, slot: u64, number: u64) {
+    if w.random.percent(50) {
+        push(w, Cert::FastFinal(number), slot);
+    } else {
+        push(w, Cert::Notar(number), slot);
+        push(w, Cert::Final, slot);
+    }
+}
