@@ -1,0 +1,5 @@
+-- Laws of the lines of two ledgers, and what is promised of them.
+pub mod LineLaws
+pub mod TableLaws
+pub mod ListLaws
+pub mod Ascending
