@@ -3,3 +3,6 @@ pub mod LineLaws
 pub mod TableLaws
 pub mod ListLaws
 pub mod Ascending
+pub mod Exactly
+pub mod Ordered
+pub mod Theorems

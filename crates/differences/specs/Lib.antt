@@ -2,3 +2,4 @@
 pub mod Lines
 pub mod Lent
 pub mod Promises
+pub mod CornersOfLines

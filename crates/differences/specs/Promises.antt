@@ -3,7 +3,6 @@ use mathlib.Core.Path.{_≡_}
 use mathlib.Core.Bool.{Bool, true, false, not, _&&_, _||_}
 use mathlib.Core.List.{List, [], _∷_}
 use Prim.Native.Nat.{ℕ}
-use lib.ListN.{take}
 use lib.Dec.{eqb, ltb}
 use Rattle.rulebook.specs.declared.Vote.{Vote}
 use Rattle.rulebook.specs.PaperNumbers.{voteNumber}
@@ -72,10 +71,6 @@ pub record NoneExactly : Type 0 where
   pub no-line : (l m : Ledger) → sameTables l m ≡ true → ((v : Vote) → stores l v ≡ stores m v) → differences l m ≡ []
 
 -- ---- other tables
-
--- The stakes of a ledger's nodes, one a node.
-abbrev pub tableOf : Ledger → List ℕ
-tableOf l = take (l .count) (l .stakes)
 
 -- "Different stake tables, own numbers aside, give one line saying so and nothing else": exactly they do.
 pub record TablesExactly : Type 0 where
