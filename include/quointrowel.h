@@ -13,8 +13,8 @@
  * is never refused so.
  *
  * Answers. Every operation answers a number: 0 where it is done, else why not (enum qr_number). A refusal changes none
- * of the record, the outbox and the buffers, and puts zeros into the places for the values beside it. A number that is
- * out of range, a slot of 99 or a kind of 7, is not a fault of the host: it has its own refusal.
+ * of the record, the outbox and the buffers, and puts zeros into the places for the values beside it (qr_differ says what
+ * stands there beside its two). A number that is out of range, a slot of 99 or a kind of 7, is not a fault of the host: it has its own refusal.
  *
  * The archive is libquointrowel.a, made by `rt staticlib quointrowel`, for x86-64. Of the host it wants memcpy and memset, as
  * the C library has them, and nothing else.
@@ -39,7 +39,8 @@ enum qr_number {
     QR_OWN_NAME = 6,      /* vote in the own node's name from outside */
     QR_ALREADY_KEPT = 7,  /* that very vote, block with parent, or timeout is kept */
     QR_OTHER_STANDS = 8,  /* another stands in its place; a fifth block of a slot, or a kept block with another parent */
-    QR_NO_ROOM = 9,       /* outbox below 480 words; buffer below its bytes (enum qr_size); too few places for a tray's answers */
+    QR_NO_ROOM = 9,       /* outbox below 480 words; buffer below its bytes (enum qr_size); too few places for a tray's answers;
+                             a list too short for all lines of a comparison */
     QR_NOT_ARMED = 10,    /* timeout for a window that is not armed */
     QR_BAD_PARENT = 11,   /* parent slot not below the slot, or slot 0 without genesis */
     QR_BAD_LENGTH = 12,   /* packet ends early, or bytes remain; a part of a vote ends a tray */
@@ -95,6 +96,7 @@ enum qr_size {
     QR_LARGE_CERTIFICATE_BYTES = 768, /* the same with a large table */
     QR_LARGE_PROOF_BYTES = 1536,
     QR_VOTE_BYTES = 16,        /* bytes of a buffer for a vote message, or more, with any table */
+    QR_LINE_WORDS = 5,         /* words of a line in a list of differences */
     QR_MOST_SMALL = 64,        /* a table of more nodes is large: its certificates have kinds 11 to 15 */
     QR_MOST_NODES = 2048,
     QR_LAST_SLOT = 16
@@ -192,6 +194,23 @@ uint64_t qr_read_vote(size_t node_count, const uint8_t *message, size_t message_
  */
 uint64_t qr_write_vote(uint8_t *buffer, size_t buffer_bytes, size_t *written, size_t node_count, uint64_t kind, size_t node,
                        size_t slot, uint64_t block);
+
+/*
+ * Which stored votes of two records differ, from the votes alone: every vote that one record has and the other has not, as
+ * lines from the list's front, QR_LINE_WORDS each: slot, node, kind, block and the side that has it, 1 or 2; ascending by
+ * slot, node, kind and block. *beside gets the number of lines; 0 of them mean equal stored votes, and only then. Words of
+ * the list past the lines stay. The own numbers play no part; where the stake tables differ there is one line of five zeros
+ * and nothing else. Refusals: 17, and *beside gets the side whose record is bad, the first if both are; 9, and *beside gets
+ * the number of lines needed.
+ */
+enum qr_side {
+    QR_TABLES_DIFFER = 0,
+    QR_FIRST_SIDE = 1,
+    QR_SECOND_SIDE = 2
+};
+
+uint64_t qr_differ(const uint64_t *first, size_t first_words, const uint64_t *second, size_t second_words, uint64_t *list,
+                   size_t list_words, size_t *beside);
 
 #ifdef __cplusplus
 }

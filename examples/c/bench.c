@@ -146,6 +146,35 @@ static void show_large(uint64_t *outbox)
     show_check("ring of 100: kind 2 checked", number, values, missing);
 }
 
+/* Two members of a ring of three whose votes differ; a list that is too short, other stakes, and words that are no record. */
+static void show_differences(uint64_t *record, uint64_t *outbox)
+{
+    const uint64_t stakes[3] = {4, 3, 3}, other_stakes[3] = {4, 3, 2};
+    static uint64_t other[QR_RECORD_WORDS(3)];
+    uint64_t list[3 * QR_LINE_WORDS] = {0};
+    size_t words = QR_RECORD_WORDS(3), made, lines;
+
+    qr_start(record, words, stakes, 3, 0, 1);
+    qr_start(other, words, stakes, 3, 1, 1);
+    qr_vote(record, words, outbox, QR_OUTBOX_WORDS, &made, QR_VOTE_NOTAR, 2, 1, 9);
+    qr_vote(record, words, outbox, QR_OUTBOX_WORDS, &made, QR_VOTE_FINAL, 2, 1, 0);
+    qr_vote(other, words, outbox, QR_OUTBOX_WORDS, &made, QR_VOTE_NOTAR, 2, 1, 8);
+    uint64_t number = qr_differ(record, words, other, words, list, 2 * QR_LINE_WORDS, &lines);
+    printf("a list of two lines: %" PRIu64 ", %zu needed\n", number, lines);
+    number = qr_differ(record, words, other, words, list, 3 * QR_LINE_WORDS, &lines);
+    printf("a list of three: %" PRIu64 ", %zu lines:", number, lines);
+    for (size_t i = 0; i < lines; i++) {
+        const uint64_t *line = list + i * QR_LINE_WORDS;
+        printf(" %" PRIu64 ",%" PRIu64 ",%" PRIu64 ",%" PRIu64 ",%" PRIu64, line[0], line[1], line[2], line[3], line[4]);
+    }
+    printf("\n");
+    qr_start(other, words, other_stakes, 3, 1, 1);
+    number = qr_differ(record, words, other, words, list, 3 * QR_LINE_WORDS, &lines);
+    printf("other stakes: %" PRIu64 ", %zu line of side %" PRIu64, number, lines, list[4]);
+    number = qr_differ(record, words, other, words - 1, list, 3 * QR_LINE_WORDS, &lines);
+    printf("; no record: %" PRIu64 ", side %zu\n", number, lines);
+}
+
 int main(void)
 {
     const uint64_t stakes[1] = {5};
@@ -184,5 +213,6 @@ int main(void)
     show_tray(record, outbox);
     show_blocks(record, outbox);
     show_large(outbox);
+    show_differences(record, outbox);
     return 0;
 }

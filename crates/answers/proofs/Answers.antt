@@ -14,7 +14,9 @@ use Rattle.rulebook.specs.Writers.{Writes}
 use Rattle.node.specs.Stepping.{StepOf, stepLeaves}
 use Rattle.soundness.specs.Starting.{StartOf}
 use Rattle.trays.specs.Lent.{TrayOf}
-use Rattle.answers.specs.Face.{Beside, Started, Stepped, Trayed, Wrote, MessageRead, Checked}
+use Rattle.differences.specs.declared.DifferAnswer.{DifferAnswer}
+use Rattle.differences.specs.Lent.{DifferOf, differPanel}
+use Rattle.answers.specs.Face.{Beside, Started, Stepped, Trayed, Wrote, MessageRead, Checked, Compared}
 
 pub started : (ws stakes : List ℕ) (own genesis : ℕ) (a : StartAnswer) (n : ℕ) (left : List ℕ) → StartOf ws stakes own genesis a left
     → n ≡ startPanel a .number → Started ws stakes own genesis n left
@@ -69,4 +71,13 @@ checked count b a n vs m s e d f =
       numbered = e ∙ ap checkNumber s;
       valued = d ∙ ap (checkValues count) s;
       lacked = f ∙ ap checkMissing s;
+    }
+
+pub compared : (one two list : List ℕ) (a : DifferAnswer) (n k : ℕ) (left : List ℕ) → DifferOf one two list a left
+    → n ≡ differPanel a .number → Beside k (differPanel a .values) → Compared one two list n k left
+compared one two list a n k left s e d =
+    record {
+      numbered = e ∙ ap (λ (x : DifferAnswer). differPanel x .number) (s .answered);
+      counted = d ∙ ap (λ (x : DifferAnswer). differPanel x .values) (s .answered);
+      lines = s .listed;
     }

@@ -7,7 +7,7 @@ use Rattle.rulebook.specs.declared.Input.{Input}
 use Rattle.rulebook.specs.declared.ReadAnswer.{ReadAnswer}
 use Rattle.rulebook.specs.declared.CheckAnswer.{CheckAnswer}
 use Rattle.rulebook.specs.Writers as writer
-use Rattle.answers.specs.Face.{Beside, Started, Stepped, Trayed, Wrote, MessageRead, Checked}
+use Rattle.answers.specs.Face.{Beside, Started, Stepped, Trayed, Wrote, MessageRead, Checked, Compared}
 
 -- One value beside one number.
 beside-one : {v v' : ℕ} {values : List ℕ} → Beside v values → Beside v' values → v ≡ v'
@@ -44,3 +44,8 @@ message-read-one a b = (a .numbered ∙ sym (b .numbered), a .valued ∙ sym (b 
 pub checked-one : {count : ℕ} {answer : CheckAnswer} {n n' missing missing' : ℕ} {values values' : List ℕ} → Checked count answer n values missing → Checked count answer n' values' missing'
     → (n ≡ n') × (values ≡ values') × (missing ≡ missing')
 checked-one a b = (a .numbered ∙ sym (b .numbered), a .valued ∙ sym (b .valued), a .lacked ∙ sym (b .lacked))
+
+-- qr_differ.
+pub compared-one : {one two list left left' : List ℕ} {n n' beside beside' : ℕ} → Compared one two list n beside left → Compared one two list n' beside' left'
+    → (n ≡ n') × (beside ≡ beside') × (left ≡ left')
+compared-one a b = (a .numbered ∙ sym (b .numbered), beside-one (a .counted) (b .counted), a .lines ∙ sym (b .lines))

@@ -2,6 +2,7 @@
 use mathlib.Core.Path.{_≡_}
 use mathlib.Core.List.{List, [], _∷_}
 use Prim.Native.Nat.{ℕ}
+use lib.ListN.{length}
 use Rattle.rulebook.specs.declared.Accepted.{Accepted}
 use Rattle.rulebook.specs.declared.CheckAnswer.{CheckAnswer}
 use Rattle.rulebook.specs.declared.Input.{Input}
@@ -13,6 +14,8 @@ use Rattle.rulebook.specs.Writers as written
 pub use Rattle.inputs.specs.Inputs.{voteInput, blockInput, timeoutInput}
 use Rattle.node.specs.Stepping.{stepLeaves}
 use Rattle.trays.specs.Lent.{trayLeaves}
+use Rattle.differences.specs.Lines.{spellLines}
+use Rattle.differences.specs.Lent.{differ, differPanel}
 use Rattle.soundness.specs.Starting.{startJudged, startAnswer, startLeft}
 
 -- The one value beside a number.
@@ -63,3 +66,9 @@ pub record Checked (count : ℕ) (answer : CheckAnswer) (number : ℕ) (values :
   pub numbered : number ≡ checkNumber answer
   pub valued : values ≡ checkValues count answer
   pub lacked : missing ≡ checkMissing answer
+
+-- Two records compared: its number, how many lines, beside 17 the side and beside 9 the lines needed, and all words of the list.
+pub record Compared (one two list : List ℕ) (number beside : ℕ) (left : List ℕ) : Type 0 where
+  pub numbered : number ≡ differPanel (differ one two (length list) .answer) .number
+  pub counted : Beside beside (differPanel (differ one two (length list) .answer) .values)
+  pub lines : left ≡ over (spellLines (differ one two (length list) .lines)) list

@@ -1,7 +1,10 @@
 // What the operations answer, as numbers and values on the panel: the definitions of the paper's numbers say which.
 ghost use mathlib.Core.Path.{_≡_};
 ghost use Rattle.rulebook.specs.PaperNumbers.{startPanel, stepPanel, writePanel, readPanel, checkNumber, checkValues, checkMissing};
+ghost use Rattle.differences.specs.Lent.{differPanel};
 ghost use Rattle.answers.specs.Face.{Beside, voteValues, acceptedValues};
+use differences::DifferAnswer;
+use differences::side_number;
 use kinds::number_in;
 use kinds::refusal_missing;
 use kinds::refusal_number;
@@ -9,6 +12,7 @@ use kinds::vote_number;
 use rulebook::Accepted;
 use rulebook::CheckAnswer;
 use rulebook::ReadAnswer;
+use rulebook::Refusal;
 use rulebook::StartAnswer;
 use rulebook::StepAnswer;
 use rulebook::Vote;
@@ -133,4 +137,26 @@ fn accepted_values(count: usize, x: Accepted) -> [u64; 5]
     let s = x.slot;
     let w = x.weight;
     [number_in(count, k), s.0 as u64, x.block, x.signers, w.0]
+}
+
+// What the comparison of two records answers, as a number.
+pub fn differ_number(a: DifferAnswer) -> u64
+    ensures { λ r. ⌜ r ≡ differPanel a .number ⌝ }
+{
+    match a {
+        DifferAnswer::Listed(_) => 0,
+        DifferAnswer::BadRecord(_) => refusal_number(Refusal::BadRecord),
+        DifferAnswer::NoRoom(_) => refusal_number(Refusal::NoRoom),
+    }
+}
+
+// How many lines there are, beside 17 the side, beside 9 how many lines are needed.
+pub fn differ_value(a: DifferAnswer) -> usize
+    ensures { λ r. ⌜ Beside r (differPanel a .values) ⌝ }
+{
+    match a {
+        DifferAnswer::Listed(n) => n,
+        DifferAnswer::BadRecord(s) => side_number(s) as usize,
+        DifferAnswer::NoRoom(n) => n,
+    }
 }

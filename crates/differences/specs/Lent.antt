@@ -9,7 +9,8 @@ use lib.Dec.{leb}
 use Rattle.rulebook.specs.declared.Cell.{Cell}
 use Rattle.rulebook.specs.Tools.{given}
 use Rattle.rulebook.specs.Weights.{lastSlot}
-use Rattle.rulebook.specs.PaperNumbers.{Panel}
+use Rattle.rulebook.specs.declared.Refusal.the-variants as refusal
+use Rattle.rulebook.specs.PaperNumbers.{Panel, refusalNumber}
 use Rattle.rulebook.specs.Writers.{over}
 use Rattle.record.specs.Layout.{ledgerOf}
 use Rattle.soundness.specs.Sound.{soundWords}
@@ -48,8 +49,8 @@ pub record DifferOf (one two list : List ℕ) (r : DifferAnswer) (left : List �
 -- The number on the panel and the value beside it: how many lines, 17 with the side, 9 with how many lines are needed.
 unfoldable pub differPanel : DifferAnswer → Panel
 differPanel (answer.Listed n) = record { number = 0; values = n ∷ [] }
-differPanel (answer.BadRecord s) = record { number = 17; values = sideNumber s ∷ [] }
-differPanel (answer.NoRoom n) = record { number = 9; values = n ∷ [] }
+differPanel (answer.BadRecord s) = record { number = refusalNumber refusal.BadRecord; values = sideNumber s ∷ [] }
+differPanel (answer.NoRoom n) = record { number = refusalNumber refusal.NoRoom; values = n ∷ [] }
 
 -- ---- the parts
 

@@ -8,3 +8,4 @@ pub mod Held
 pub mod Figured
 pub mod Printed
 pub mod Families
+pub mod Differs

@@ -6,3 +6,4 @@ pub mod Spelling
 pub mod Figures
 pub mod Printed
 pub mod Families
+pub mod Differs

@@ -9,11 +9,13 @@ ghost use Rattle.rulebook.specs.WellFormed.{outboxWords};
 ghost use Rattle.record.specs.Layout.{recordWords};
 ghost use Rattle.writers.specs.Writing.{certificateOn, proofOn};
 ghost use Rattle.rulebook.specs.declared.Input.the-variants as input;
-ghost use Rattle.answers.specs.Face.{voteInput, blockInput, timeoutInput, Started, Stepped, Trayed, Wrote, MessageRead, Checked};
+ghost use Rattle.answers.specs.Face.{voteInput, blockInput, timeoutInput, Started, Stepped, Trayed, Wrote, MessageRead, Checked, Compared};
 use answers::bytes_written;
 use answers::check_missing;
 use answers::check_number;
 use answers::check_values;
+use answers::differ_number;
+use answers::differ_value;
 use answers::read_number;
 use answers::read_values;
 use answers::records_made;
@@ -22,6 +24,7 @@ use answers::step_number;
 use answers::write_number;
 use checker::check_certificate;
 use checker::check_proof;
+use differences::differ;
 use inputs::block_input;
 use inputs::timeout_input;
 use inputs::vote_input;
@@ -233,4 +236,19 @@ pub extern "C" fn qr_write_vote(
     let a = write_vote(count, v, buffer);
     *written = bytes_written(a);
     write_number(a)
+}
+
+// Lists the stored votes in which two records differ from the list's front, five words a line.
+#[no_mangle]
+pub extern "C" fn qr_differ(
+    first: &[u64],
+    second: &[u64],
+    list: &mut [u64],
+    beside: &mut usize,
+) -> u64
+    ensures { λ r. ⌜ Compared (now (first .entry)) (now (second .entry)) (now (list .entry)) r (now (beside .exit)) (now (list .exit)) ⌝ }
+{
+    let a = differ(first, second, list);
+    *beside = differ_value(a);
+    differ_number(a)
 }
