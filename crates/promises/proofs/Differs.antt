@@ -4,7 +4,7 @@ use mathlib.Core.Bool.{Bool, true, false}
 use mathlib.Core.List.{List, [], _∷_}
 use Prim.Native.Nat.{ℕ, _+_, _*_, _≤_, _<_}
 use native.Mathlib.Omega.{arith}
-use lib.ListN.{length}
+use lib.ListN.{length, getD}
 use lib.Dec.{leb}
 use borrow.Author.Tests.{leb-true, leb-false}
 use Rattle.rulebook.specs.declared.Vote.{Vote}
@@ -68,7 +68,10 @@ face-differ-refused one two list number beside left d n =
     (λ a b h. absurd (n (ap (λ (x : Panel). x .number) (t .whole a b h .0))))
 
 value-of : {a b c d : ℕ} → shownAs a b ≡ shownAs c d → b ≡ d
-value-of e = cc
+value-of e = ap (λ (x : Panel). getD (x .values) 0 0) e
+
+number-of : {a b c d : ℕ} → shownAs a b ≡ shownAs c d → a ≡ c
+number-of e = ap (λ (x : Panel). x .number) e
 
 none-of : (xs : List Line) → 0 ≡ length xs → xs ≡ []
 none-of [] e = refl
@@ -79,8 +82,7 @@ face-equal =
     record {
       means = λ one two list left d v.
           let t = face-differ one two list 0 0 left d in
-          let off : {k m : ℕ} → shownAs 0 0 ≡ shownAs k m → 0 ≡ k = λ e. ap (λ (x : Panel). x .number) e in
-          ways one two list (λ a. absurd (omega (arith, off (t .first a .0)))) (λ a b. absurd (omega (arith, off (t .second a b .0)))) (λ a b h. absurd (omega (arith, off (t .cramped a b h .0))))
+              ways one two list (λ a. absurd (omega (arith, number-of (t .first a .0)))) (λ a b. absurd (omega (arith, number-of (t .second a b .0)))) (λ a b h. absurd (omega (arith, number-of (t .cramped a b h .0))))
           (λ a b h. none-exactly .equal-votes (ledgerOf one) (ledgerOf two) (none-of (linesOf one two) (value-of (t .whole a b h .0))) v);
       only = λ one two list number beside left a b s f d.
           let t = face-differ one two list number beside left d in
