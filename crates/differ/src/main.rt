@@ -11,7 +11,9 @@ use lines::put_text;
 // No record has more words: a file that holds more is none.
 const RECORD_ROOM: usize = 270336;
 
-// Room for 40,000 lines.
+// So many lines are listed at most.
+const MOST_LINES: usize = 40000;
+
 const LIST_WORDS: usize = 200000;
 
 const LINE_WORDS: usize = 5;
@@ -72,13 +74,22 @@ fn keep(words: &mut [u64], used: usize, w: u64) -> usize {
     used
 }
 
+// Keeps word number i of a piece of a file, where the piece has it.
+fn take_word(words: &mut [u64], used: usize, bytes: &[u8], i: usize) -> usize {
+    if i >= PIECE_WORDS {
+        return used;
+    }
+    if bytes.len() < 8 * i + 8 {
+        return used;
+    }
+    keep(words, used, word_from(bytes, 8 * i))
+}
+
 // Keeps the words of a piece of a file.
 fn take_piece(words: &mut [u64], used: usize, bytes: &[u8]) -> usize {
     let mut next = used;
     for i in 0..PIECE_WORDS {
-        if 8 * i + 8 <= bytes.len() {
-            next = keep(words, next, word_from(bytes, 8 * i));
-        }
+        next = take_word(words, next, bytes, i);
     }
     next
 }
@@ -86,10 +97,10 @@ fn take_piece(words: &mut [u64], used: usize, bytes: &[u8]) -> usize {
 // Reads a whole file; words that have no room, and bytes that are no whole word, show.
 fn load(fd: i32, words: &mut [u64]) -> Loaded {
     let mut used = 0;
-    for _piece in 0..PIECES {
+    for i in 0..PIECES {
         let mut buffer = io::large_buffer();
         let n = io::read_full(fd, &mut buffer);
-        used = take_piece(words, used, &buffer[..n]);
+        used = take_piece(words, used, &buffer[0..n]);
         if n < 65536 {
             return Loaded {
                 words: used,
@@ -119,13 +130,19 @@ fn load_arg(i: usize, words: &mut [u64]) -> Loaded {
     loaded
 }
 
+// A space, where one is wanted.
+fn space(page: &mut [u8], at: usize, wanted: bool) -> usize {
+    if wanted {
+        return put_byte(page, at, b' ');
+    }
+    at
+}
+
 // Spaces up to a column.
 fn fill(page: &mut [u8], at: usize, column: usize) -> usize {
     let mut next = at;
     for i in 0..SIDE_COLUMN {
-        if (at <= i) & (i < column) {
-            next = put_byte(page, next, b' ');
-        }
+        next = space(page, next, (at <= i) & (i < column));
     }
     next
 }
@@ -147,6 +164,14 @@ fn put_kind(page: &mut [u8], at: usize, kind: u64) -> usize {
     put_text(page, at, b"final")
 }
 
+// A block's number, a dash where the kind carries none.
+fn put_block(page: &mut [u8], at: usize, block: u64) -> usize {
+    if block == 0 {
+        return put_byte(page, at, b'-');
+    }
+    put_decimal(page, at, block)
+}
+
 // The end of a name, as much of it as a line has room for.
 fn put_name(page: &mut [u8], at: usize, name: &[u8]) -> usize {
     if name.len() <= NAME_ROOM {
@@ -163,25 +188,38 @@ fn put_file(page: &mut [u8], at: usize, i: usize) -> usize {
     put_name(page, at, &path[..length])
 }
 
-// One line of the list, in columns.
-fn vote_line(page: &mut [u8], at: usize, list: &[u64], i: usize) -> usize {
-    if list.len() < LINE_WORDS {
-        return at;
-    }
-    if list.len() - LINE_WORDS < i {
-        return at;
-    }
-    let p = fill(page, put_decimal(page, at, list[i]), NODE_COLUMN);
-    let q = fill(page, put_decimal(page, p, list[i + 1]), KIND_COLUMN);
-    let r = fill(page, put_kind(page, q, list[i + 2]), BLOCK_COLUMN);
-    let s = if list[i + 3] == 0 {
-        put_byte(page, r, b'-')
-    } else {
-        put_decimal(page, r, list[i + 3])
-    };
-    let t = put_decimal(page, fill(page, s, SIDE_COLUMN), list[i + 4]);
-    let u = put_byte(page, t, b' ');
-    end_line(page, put_file(page, u, list[i + 4] as usize))
+// Slot, node and kind of a vote, in columns.
+fn put_front(page: &mut [u8], at: usize, slot: u64, node: u64, kind: u64) -> usize {
+    let a = put_decimal(page, at, slot);
+    let b = fill(page, a, NODE_COLUMN);
+    let c = put_decimal(page, b, node);
+    let d = fill(page, c, KIND_COLUMN);
+    let e = put_kind(page, d, kind);
+    fill(page, e, BLOCK_COLUMN)
+}
+
+// Its block, and the file that has it.
+fn put_rest(page: &mut [u8], at: usize, block: u64, side: u64) -> usize {
+    let a = put_block(page, at, block);
+    let b = fill(page, a, SIDE_COLUMN);
+    let c = put_decimal(page, b, side);
+    let d = put_byte(page, c, b' ');
+    put_file(page, d, side as usize)
+}
+
+// One vote, in columns.
+fn vote_line(
+    page: &mut [u8],
+    at: usize,
+    slot: u64,
+    node: u64,
+    kind: u64,
+    block: u64,
+    side: u64,
+) -> usize {
+    let next = put_front(page, at, slot, node, kind);
+    let end = put_rest(page, next, block, side);
+    end_line(page, end)
 }
 
 // The last line: how many votes differ.
@@ -195,21 +233,63 @@ fn count_line(page: &mut [u8], at: usize, lines: usize) -> usize {
     if lines == 1 {
         return end_line(page, text);
     }
-    end_line(page, put_byte(page, text, b's'))
+    let end = put_byte(page, text, b's');
+    end_line(page, end)
+}
+
+// The columns' names, where there is a line under them.
+fn heading(page: &mut [u8], lines: usize) -> usize {
+    if lines == 0 {
+        return 0;
+    }
+    tell_line(
+        page,
+        0,
+        b"slot  node  kind            block                 only in",
+    )
+}
+
+// The vote whose five words begin at a place of the list, where they are there.
+fn listed_line(page: &mut [u8], at: usize, list: &[u64], i: usize) -> usize {
+    if list.len() < LINE_WORDS {
+        return at;
+    }
+    if list.len() - LINE_WORDS < i {
+        return at;
+    }
+    let slot = list[i];
+    let node = list[i + 1];
+    let kind = list[i + 2];
+    let block = list[i + 3];
+    let side = list[i + 4];
+    vote_line(page, at, slot, node, kind, block, side)
+}
+
+// Line number i of so many.
+fn next_line(page: &mut [u8], at: usize, list: &[u64], lines: usize, i: usize) -> usize {
+    if lines <= i {
+        return at;
+    }
+    if MOST_LINES <= i {
+        return at;
+    }
+    listed_line(page, at, list, LINE_WORDS * i)
 }
 
 // All lines of the list, and their number.
 fn tell(page: &mut [u8], list: &[u64], lines: usize) -> usize {
-    let mut at = 0;
-    if lines != 0 {
-        at = tell_line(page, at, b"slot  node  kind            block                 only in");
-    }
-    for i in 0..40000 {
-        if i < lines {
-            at = vote_line(page, at, list, LINE_WORDS * i);
-        }
+    let mut at = heading(page, lines);
+    for i in 0..MOST_LINES {
+        at = next_line(page, at, list, lines, i);
     }
     count_line(page, at, lines)
+}
+
+// Writes the text at a page's front to standard error.
+fn say(page: &[u8], used: usize) {
+    if used < page.len() {
+        io::write_all(ERR, &page[0..used]);
+    }
 }
 
 // What stands on standard error where nothing is compared: the file, and why.
@@ -220,9 +300,7 @@ fn blame(page: &mut [u8], i: usize, why: &[u8]) {
     let q = put_text(page, p, &path[..length]);
     let r = put_text(page, q, why);
     let s = put_byte(page, r, b'\n');
-    if s < page.len() {
-        io::write_all(ERR, &page[..s]);
-    }
+    say(page, s);
 }
 
 // A number that is not 0: the side's record is bad, or there are more lines than there is room for.
@@ -233,10 +311,12 @@ fn refuse(page: &mut [u8], number: u64, beside: usize) {
     }
     let p = put_text(page, 0, b"differ: ");
     let q = put_decimal(page, p, beside as u64);
-    let r = put_text(page, q, b" stored votes differ, and 40000 lines are the most that are listed\n");
-    if r < page.len() {
-        io::write_all(ERR, &page[..r]);
-    }
+    let r = put_text(
+        page,
+        q,
+        b" stored votes differ, and 40000 lines are the most that are listed\n",
+    );
+    say(page, r);
 }
 
 // Compares two records.
@@ -250,7 +330,11 @@ fn compare(page: &mut [u8], first: &[u64], second: &[u64]) {
         return;
     }
     if (lines == 1) & (list[4] == 0) {
-        tell_line(page, 0, b"differ: the stake tables, and so no vote was compared");
+        tell_line(
+            page,
+            0,
+            b"differ: the stake tables, and so no vote was compared",
+        );
         return;
     }
     let end = tell(page, &list, lines);
@@ -259,16 +343,38 @@ fn compare(page: &mut [u8], first: &[u64], second: &[u64]) {
     }
 }
 
+// The words of the second file, as many as it has.
+fn compare_front(page: &mut [u8], first: &[u64], words: &[u64], many: usize) {
+    if many < words.len() {
+        compare(page, first, &words[0..many]);
+    } else {
+        compare(page, first, words);
+    }
+}
+
 // Reads the second file and compares.
 fn with_second(page: &mut [u8], first: &[u64]) {
     let mut words = [0u64; RECORD_ROOM];
     let second = load_arg(2, &mut words);
     let many = second.words;
-    if !second.whole | (words.len() < many) {
-        blame(page, 2, b": this cannot be read, or its size is no record's");
-        return;
+    if second.whole {
+        compare_front(page, first, &words, many);
+    } else {
+        blame(
+            page,
+            2,
+            b": this cannot be read, or its size is no record's",
+        );
     }
-    compare(page, first, &words[..many]);
+}
+
+// The words of the first file, as many as it has.
+fn first_front(page: &mut [u8], words: &[u64], many: usize) {
+    if many < words.len() {
+        with_second(page, &words[0..many]);
+    } else {
+        with_second(page, words);
+    }
 }
 
 // Reads the first file, then the second.
@@ -276,19 +382,35 @@ fn with_first(page: &mut [u8]) {
     let mut words = [0u64; RECORD_ROOM];
     let first = load_arg(1, &mut words);
     let many = first.words;
-    if !first.whole | (words.len() < many) {
-        blame(page, 1, b": this cannot be read, or its size is no record's");
-        return;
+    if first.whole {
+        first_front(page, &words, many);
+    } else {
+        blame(
+            page,
+            1,
+            b": this cannot be read, or its size is no record's",
+        );
     }
-    with_second(page, &words[..many]);
 }
 
 // What the program says of itself.
 fn help(page: &mut [u8]) {
     let a = tell_line(page, 0, b"usage: differ FILE FILE");
-    let b = tell_line(page, a, b"Lists the stored votes in which two saved records differ: slot, node, kind,");
-    let c = tell_line(page, b, b"block (- where the kind carries none), and which of the two has the vote.");
-    let d = tell_line(page, c, b"The last line begins with `equal` or `differ`. A file is a record's words,");
+    let b = tell_line(
+        page,
+        a,
+        b"Lists the stored votes in which two saved records differ: slot, node, kind,",
+    );
+    let c = tell_line(
+        page,
+        b,
+        b"block (- where the kind carries none), and which of the two has the vote.",
+    );
+    let d = tell_line(
+        page,
+        c,
+        b"The last line begins with `equal` or `differ`. A file is a record's words,",
+    );
     tell_line(page, d, b"8 bytes each, lowest byte first.");
 }
 

@@ -82,7 +82,7 @@ face-equal =
     record {
       means = λ one two list left d v.
           let t = face-differ one two list 0 0 left d in
-              ways one two list (λ a. absurd (omega (arith, number-of (t .first a .0)))) (λ a b. absurd (omega (arith, number-of (t .second a b .0)))) (λ a b h. absurd (omega (arith, number-of (t .cramped a b h .0))))
+          ways one two list (λ a. absurd (omega (arith, number-of (t .first a .0)))) (λ a b. absurd (omega (arith, number-of (t .second a b .0)))) (λ a b h. absurd (omega (arith, number-of (t .cramped a b h .0))))
           (λ a b h. none-exactly .equal-votes (ledgerOf one) (ledgerOf two) (none-of (linesOf one two) (value-of (t .whole a b h .0))) v);
       only = λ one two list number beside left a b s f d.
           let t = face-differ one two list number beside left d in
