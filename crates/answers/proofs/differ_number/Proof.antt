@@ -1,15 +1,8 @@
-use mathlib.Core.Path.{_≡_, refl, _∙_, ap, sym}
-use mathlib.Core.Bool.{Bool, true, false}
-use mathlib.Core.Logic.{⊎-elim}
-use Prim.Native.Nat.{ℕ, _+_, _-_, _*_, _^_, _≤_, _<_}
-use native.Mathlib.Omega.{arith}
+-- The number of each answer.
 use Rattle.differences.specs.Lent.{differPanel}
 use borrow.Author.Needs.{needs}
 use Rattle.answers.proofs.differ_number.Statement.{statement}
 use Rattle.answers.proofs.differ_number.Tie as tie
-use Rattle.answers.proofs.differ_number.Reads as reads
-use Rattle.answers.proofs.differ_number.Lts as lts
-use Rattle.kinds.proofs.refusal_number.Reads as refusal-number-reads
 
 enum-told : tie.Need-enum-told
 enum-told c = search needs

@@ -1,16 +1,11 @@
-use mathlib.Core.Path.{_≡_, refl, _∙_, ap, sym}
-use mathlib.Core.Bool.{Bool, true, false}
-use mathlib.Core.Logic.{⊎-elim}
-use Prim.Native.Nat.{ℕ, _+_, _-_, _*_, _^_, _≤_, _<_}
-use native.Mathlib.Omega.{arith}
-use mathlib.Core.List.{List, [], _∷_}
+-- The value beside each answer.
+use mathlib.Core.Path.{ap}
+use Prim.Native.Nat.{ℕ}
+use mathlib.Core.List.{[], _∷_}
 use Rattle.differences.specs.Lent.{differPanel}
 use borrow.Author.Needs.{needs}
 use Rattle.answers.proofs.differ_value.Statement.{statement}
 use Rattle.answers.proofs.differ_value.Tie as tie
-use Rattle.answers.proofs.differ_value.Reads as reads
-use Rattle.answers.proofs.differ_value.Lts as lts
-use Rattle.differences.proofs.side_number.Reads as side-number-reads
 
 enum-known-a : tie.Need-enum-known-a
 enum-known-a c = search needs

@@ -1,3 +1,4 @@
+-- Not above it, the best is lower, and the block.
 use mathlib.Core.Path.{_∙_, ap, sym}
 use mathlib.Core.Bool.{Bool}
 use native.Mathlib.Omega.{arith}

@@ -1,3 +1,4 @@
+-- Each kind by the blocks that its votes name.
 use mathlib.Core.Path.{_∙_, ap}
 use Prim.Native.Nat.{ℕ}
 use lib.Dec.{ltb}

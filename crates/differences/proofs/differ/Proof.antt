@@ -1,3 +1,4 @@
+-- Each way out: 17 of either side, other tables, the votes.
 use mathlib.Core.Path.{_∙_, sym}
 use borrow.Author.Tests.{not-true, not-false}
 use Rattle.differences.proofs.ListLaws.{first-bad, second-bad, tables-differ, votes-differ}

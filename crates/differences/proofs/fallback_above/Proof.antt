@@ -1,3 +1,4 @@
+-- The three places, last first.
 use mathlib.Core.Path.{_∙_, ap}
 use lib.Dec.{ltb}
 use Rattle.rulebook.specs.Tools.{lower}

@@ -1,3 +1,4 @@
+-- What the vote finds at its place.
 use mathlib.Core.Path.{_∙_, ap, sym}
 use Rattle.differences.specs.Lines.{isSame, keeps}
 use borrow.Author.Needs.{needs}

@@ -1,3 +1,4 @@
+-- Room for one line, or 9 with 1.
 use mathlib.Core.Path.{refl}
 use Rattle.differences.specs.Lines.{tablesLine}
 use mathlib.Core.List.{[], _∷_}

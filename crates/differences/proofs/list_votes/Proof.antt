@@ -1,3 +1,4 @@
+-- Too short, none, or all of them; the empty part came back as it was.
 use native.Mathlib.Omega.{arith}
 use Rattle.record.specs.Layout.{ledgerOf}
 use Rattle.differences.proofs.LineLaws.{votes-most}

@@ -1,3 +1,4 @@
+-- The loop over the blocks: what is put, and what is left above the last, are all lines.
 use Prim.Native.Nat.{_+_, _-_, _≤_}
 use native.Mathlib.Omega.{arith}
 use Rattle.differences.specs.Lines.{voteAt, keeps, voteLine, blocksOf, blockLines, mostNamed}

@@ -1,3 +1,4 @@
+-- The five kinds one after the other.
 use native.Mathlib.Omega.{arith}
 use Rattle.rulebook.specs.declared.VoteKind.the-variants as vote
 use Rattle.differences.specs.Lines.{voteAt, keeps, cellLines}

@@ -1,3 +1,4 @@
+-- The five words one after the other.
 use mathlib.Core.Path.{refl}
 use Rattle.differences.proofs.LineLaws.{line-put}
 use borrow.Author.Needs.{needs}

@@ -1,3 +1,4 @@
+-- Equal cells have no line.
 use Rattle.differences.proofs.LineLaws.{same-put}
 use borrow.Author.Needs.{needs}
 use Rattle.differences.proofs.put_node.Statement.{statement}

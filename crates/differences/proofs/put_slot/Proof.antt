@@ -1,3 +1,4 @@
+-- The loop over the nodes: the lines of those behind it are put.
 use Prim.Native.Nat.{_-_, _≤_}
 use native.Mathlib.Omega.{arith}
 use Rattle.record.specs.Layout.{ledgerOf}

@@ -1,3 +1,4 @@
+-- The first has it alone, the second, or neither.
 use Rattle.differences.proofs.LineLaws.{told-first, told-second, told-none}
 use borrow.Author.Needs.{needs}
 use Rattle.differences.proofs.put_vote.Statement.{statement}

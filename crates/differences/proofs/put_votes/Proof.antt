@@ -1,3 +1,4 @@
+-- The loop over the slots: the lines of those behind it are put.
 use mathlib.Core.Path.{_≡_, ap}
 use Prim.Native.Nat.{_+_, _-_, _≤_}
 use native.Mathlib.Omega.{arith}

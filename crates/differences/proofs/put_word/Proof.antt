@@ -1,3 +1,4 @@
+-- Past the list nothing changes.
 use mathlib.Core.Path.{sym}
 use native.Mathlib.Omega.{arith}
 use lib.Seq.{set-out}

@@ -1,3 +1,4 @@
+-- Seven equal words make equal cells.
 use Rattle.differences.proofs.LineLaws.{same-words}
 use Rattle.differences.proofs.same_cell.Statement.{statement}
 use Rattle.differences.proofs.same_cell.Tie as tie

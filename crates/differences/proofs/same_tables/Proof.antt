@@ -1,3 +1,4 @@
+-- The loop has joined the tests of the stakes behind it.
 use mathlib.Core.Path.{_≡_, sym}
 use Prim.Native.Nat.{_-_, _≤_}
 use native.Mathlib.Omega.{arith}

@@ -1,3 +1,4 @@
+-- The number of each side.
 use Rattle.differences.specs.Lines.{sideNumber}
 use borrow.Author.Needs.{needs}
 use Rattle.differences.proofs.side_number.Statement.{statement}
