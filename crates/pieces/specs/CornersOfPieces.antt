@@ -1,0 +1,1 @@
+-- Computed cases of proofs in pieces.

@@ -1,0 +1,5 @@
+-- Proofs that arrive in pieces: what the calls answer, the lent state, and what is promised of any history of calls.
+pub mod Pieces
+pub mod State
+pub mod Promises
+pub mod CornersOfPieces
