@@ -3,3 +3,6 @@ pub mod Runs
 pub mod Tests
 pub mod Ways
 pub mod Laid
+pub mod Front
+pub mod Held
+pub mod Promises

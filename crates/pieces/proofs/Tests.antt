@@ -11,7 +11,7 @@ use borrow.Author.Tests.{eq-eqb, ne-eqb, eqb-true, le-leb, lt-leb, leb-true}
 use Rattle.rulebook.specs.Tools.{choose}
 use Rattle.rulebook.specs.Weights.{stakesFit}
 use Rattle.rulebook.specs.Ledger.{none}
-use Rattle.rulebook.proofs.ToolLaws.{choose-on, choose-off, and-both}
+use Rattle.rulebook.proofs.ToolLaws.{choose-on, choose-off, and-both, both-and}
 use Rattle.pieces.specs.State.{stateWords, frontBytes, mark, kept, nodes, table, blank, isSized, isReady, holdsTable, isWhole, Taking}
 
 -- ---- parts as the code lends them
@@ -38,6 +38,10 @@ module _ (ws bs : List ℕ) where
   sized-says e =
       let x = and-both (eqb (length ws) stateWords) (eqb (length bs) frontBytes) e in
       (eqb-true (length ws) stateWords (x .0), eqb-true (length bs) frontBytes (x .1))
+
+  pub sized-so : length ws ≡ stateWords → length bs ≡ frontBytes → isSized ws bs ≡ true
+  unfolding isSized
+  sized-so h k = both-and (eqb (length ws) stateWords) (eqb (length bs) frontBytes) (eq-eqb (length ws) stateWords h) (eq-eqb (length bs) frontBytes k)
 
   pub ready-unsized : isSized ws bs ≡ false → false ≡ isReady ws bs
   unfolding isReady

@@ -16,7 +16,7 @@ use Rattle.rulebook.proofs.ToolLaws.{given-on, given-off}
 use Rattle.pieces.proofs.Tests.{firstStakes, first-stakes}
 use Rattle.pieces.specs.declared.PieceAnswer.{PieceAnswer}
 use Rattle.pieces.specs.declared.PieceAnswer.the-variants as answer
-use Rattle.pieces.specs.State.{mark, kept, isReady, isWhole, withTable, keptWords, keptFront, PieceLeft, pieceRefused, pieceTaken, firstLeaves, pieceLeaves, PieceOf, EndLeft, endRefused, endChecked, endLeaves, EndOf, Keeps}
+use Rattle.pieces.specs.State.{mark, kept, table, front, isReady, isWhole, withTable, keptWords, keptFront, PieceLeft, pieceRefused, pieceTaken, firstLeaves, pieceLeaves, PieceOf, EndLeft, endRefused, endChecked, endLeaves, EndOf, Keeps}
 
 module _ (ws bs stakes bytes : List ℕ) where
   -- Whatever equals the definition is allowed.
@@ -80,9 +80,14 @@ module _ (ws bs : List ℕ) where
       end-of (endRefused refusal.BadLength ws bs) (sym (given-on (isWhole ws bs) _ _ e ∙ given-on (none (mark ws)) (endChecked ws bs) _ (eq-eqb (mark ws) 0 n))) refl refl refl
 
   -- The whole check.
-  pub end-checked : {ws' bs' : List ℕ} {r : CheckAnswer} → isWhole ws bs ≡ true → (mark ws ≡ 0 → ⊥) → r ≡ checkProof (firstStakes ws) (take (kept ws - 0) (drop 0 bs))
+  pub end-whole : {ws' bs' : List ℕ} {r : CheckAnswer} → isWhole ws bs ≡ true → (mark ws ≡ 0 → ⊥) → r ≡ checkProof (table ws) (front ws bs)
       → ws' ≡ replicate (length ws) 0 → bs' ≡ replicate (length bs) 0 → EndOf ws bs r ws' bs'
   unfolding endLeaves
+  end-whole e n a b c =
+      end-of (endChecked ws bs) (sym (given-on (isWhole ws bs) _ _ e ∙ given-off (none (mark ws)) _ _ (ne-eqb (mark ws) 0 n))) a b c
+
+  -- On the parts as the code lends them.
+  pub end-checked : {ws' bs' : List ℕ} {r : CheckAnswer} → isWhole ws bs ≡ true → (mark ws ≡ 0 → ⊥) → r ≡ checkProof (firstStakes ws) (take (kept ws - 0) (drop 0 bs))
+      → ws' ≡ replicate (length ws) 0 → bs' ≡ replicate (length bs) 0 → EndOf ws bs r ws' bs'
   end-checked e n a b c =
-      end-of (endChecked ws bs) (sym (given-on (isWhole ws bs) _ _ e ∙ given-off (none (mark ws)) _ _ (ne-eqb (mark ws) 0 n)))
-      (a ∙ ap₂ checkProof (first-stakes ws) (ap (λ (k : ℕ). take k bs) (sub-zero (kept ws)))) b c
+      end-whole e n (a ∙ ap₂ checkProof (first-stakes ws) (ap (λ (k : ℕ). take k bs) (sub-zero (kept ws)))) b c

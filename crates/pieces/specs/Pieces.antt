@@ -69,8 +69,24 @@ unfoldable pub afterCalls : Taken → List Asked → Taken
 afterCalls t [] = t
 afterCalls t (a ∷ later) = afterCalls (afterCall t a) later
 
--- The bytes of pieces, in the order of their coming.
-unfoldable pub joinedBytes : List Asked → List ℕ
-joinedBytes [] = []
-joinedBytes (piece stakes bytes ∷ later) = bytes ++ joinedBytes later
-joinedBytes (end ∷ later) = joinedBytes later
+-- ---- pieces one after the other
+
+-- A piece: the table that comes with it, and its bytes.
+pub record Piece : Type 0 where
+  pub stakes : List ℕ
+  pub bytes : List ℕ
+
+-- The calls that take them.
+unfoldable pub calls : List Piece → List Asked
+calls [] = []
+calls (p ∷ ps) = piece (p .stakes) (p .bytes) ∷ calls ps
+
+-- The whole packet: their bytes in the order of their coming.
+unfoldable pub packet : List Piece → List ℕ
+packet [] = []
+packet (p ∷ ps) = p .bytes ++ packet ps
+
+-- As many times "more".
+unfoldable pub mores : List Piece → List Said
+mores [] = []
+mores (p ∷ ps) = ofPiece answer.More ∷ mores ps
