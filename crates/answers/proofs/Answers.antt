@@ -16,7 +16,10 @@ use Rattle.soundness.specs.Starting.{StartOf}
 use Rattle.trays.specs.Lent.{TrayOf}
 use Rattle.differences.specs.declared.DifferAnswer.{DifferAnswer}
 use Rattle.differences.specs.Lent.{DifferOf, differPanel}
-use Rattle.answers.specs.Face.{Beside, Started, Stepped, Trayed, Wrote, MessageRead, Checked, Compared}
+use Rattle.pieces.specs.declared.PieceAnswer.{PieceAnswer}
+use Rattle.pieces.specs.Pieces.{piecePanel}
+use Rattle.pieces.specs.State.{nodes, PieceOf, EndOf, endLeaves}
+use Rattle.answers.specs.Face.{Beside, Started, Stepped, Trayed, Wrote, MessageRead, Checked, Compared, Pieced, Ended}
 
 pub started : (ws stakes : List ℕ) (own genesis : ℕ) (a : StartAnswer) (n : ℕ) (left : List ℕ) → StartOf ws stakes own genesis a left
     → n ≡ startPanel a .number → Started ws stakes own genesis n left
@@ -80,4 +83,18 @@ compared one two list a n k left s e d =
       numbered = e ∙ ap (λ (x : DifferAnswer). differPanel x .number) (s .answered);
       counted = d ∙ ap (λ (x : DifferAnswer). differPanel x .values) (s .answered);
       lines = s .listed;
+    }
+
+pub pieced : (ws bs stakes bytes : List ℕ) (a : PieceAnswer) (n : ℕ) (ws' bs' : List ℕ) → PieceOf ws bs stakes bytes a ws' bs' → n ≡ piecePanel a .number
+    → Pieced ws bs stakes bytes n ws' bs'
+pieced ws bs stakes bytes a n ws' bs' s e =
+    record { numbered = e ∙ ap (λ (x : PieceAnswer). piecePanel x .number) (s .answered); words = s .words; front = s .front }
+
+pub ended : (ws bs : List ℕ) (count : ℕ) (a : CheckAnswer) (n : ℕ) (vs : List ℕ) (m : ℕ) (ws' bs' : List ℕ) → count ≡ nodes ws → EndOf ws bs a ws' bs'
+    → n ≡ checkNumber a → vs ≡ checkValues count a → m ≡ checkMissing a → Ended ws bs n vs m ws' bs'
+ended ws bs count a n vs m ws' bs' g s e d f =
+    record {
+      checked = checked (nodes ws) (endLeaves ws bs .answer) a n vs m (s .answered) e (d ∙ ap (λ (k : ℕ). checkValues k a) g) f;
+      words = s .words;
+      front = s .front;
     }

@@ -7,7 +7,7 @@ use Rattle.rulebook.specs.declared.Input.{Input}
 use Rattle.rulebook.specs.declared.ReadAnswer.{ReadAnswer}
 use Rattle.rulebook.specs.declared.CheckAnswer.{CheckAnswer}
 use Rattle.rulebook.specs.Writers as writer
-use Rattle.answers.specs.Face.{Beside, Started, Stepped, Trayed, Wrote, MessageRead, Checked, Compared}
+use Rattle.answers.specs.Face.{Beside, Started, Stepped, Trayed, Wrote, MessageRead, Checked, Compared, Pieced, Ended}
 
 -- One value beside one number.
 beside-one : {v v' : ℕ} {values : List ℕ} → Beside v values → Beside v' values → v ≡ v'
@@ -49,3 +49,15 @@ checked-one a b = (a .numbered ∙ sym (b .numbered), a .valued ∙ sym (b .valu
 pub compared-one : {one two list left left' : List ℕ} {n n' beside beside' : ℕ} → Compared one two list n beside left → Compared one two list n' beside' left'
     → (n ≡ n') × (beside ≡ beside') × (left ≡ left')
 compared-one a b = (a .numbered ∙ sym (b .numbered), beside-one (a .counted) (b .counted), a .lines ∙ sym (b .lines))
+
+-- qr_piece.
+pub pieced-one : {ws bs stakes bytes left left' front front' : List ℕ} {n n' : ℕ} → Pieced ws bs stakes bytes n left front → Pieced ws bs stakes bytes n' left' front'
+    → (n ≡ n') × (left ≡ left') × (front ≡ front')
+pieced-one a b = (a .numbered ∙ sym (b .numbered), a .words ∙ sym (b .words), a .front ∙ sym (b .front))
+
+-- qr_end.
+pub ended-one : {ws bs values values' left left' front front' : List ℕ} {n n' missing missing' : ℕ} → Ended ws bs n values missing left front
+    → Ended ws bs n' values' missing' left' front' → (n ≡ n') × (values ≡ values') × (missing ≡ missing') × (left ≡ left') × (front ≡ front')
+ended-one a b =
+    let c = checked-one (a .checked) (b .checked) in
+    (c .0, c .1, c .2, a .words ∙ sym (b .words), a .front ∙ sym (b .front))

@@ -17,6 +17,8 @@ use Rattle.trays.specs.Lent.{trayLeaves}
 use Rattle.differences.specs.Lines.{spellLines}
 use Rattle.differences.specs.Lent.{differ, differPanel}
 use Rattle.soundness.specs.Starting.{startJudged, startAnswer, startLeft}
+use Rattle.pieces.specs.Pieces.{piecePanel}
+use Rattle.pieces.specs.State.{nodes, pieceLeaves, endLeaves}
 
 -- The one value beside a number.
 abbrev pub Beside : ℕ → List ℕ → Type 0
@@ -72,3 +74,15 @@ pub record Compared (one two list : List ℕ) (number beside : ℕ) (left : List
   pub numbered : number ≡ differPanel (differ one two (length list) .answer) .number
   pub counted : Beside beside (differPanel (differ one two (length list) .answer) .values)
   pub lines : left ≡ over (spellLines (differ one two (length list) .lines)) list
+
+-- A piece of a proof: its number, and all words and bytes of the state.
+pub record Pieced (ws bs stakes bytes : List ℕ) (number : ℕ) (ws' bs' : List ℕ) : Type 0 where
+  pub numbered : number ≡ piecePanel (pieceLeaves ws bs stakes bytes .answer) .number
+  pub words : ws' ≡ pieceLeaves ws bs stakes bytes .words
+  pub front : bs' ≡ pieceLeaves ws bs stakes bytes .bytes
+
+-- The end of a proof in pieces: a check under the state's table, and all words and bytes of the state.
+pub record Ended (ws bs : List ℕ) (number : ℕ) (values : List ℕ) (missing : ℕ) (ws' bs' : List ℕ) : Type 0 where
+  pub checked : Checked (nodes ws) (endLeaves ws bs .answer) number values missing
+  pub words : ws' ≡ endLeaves ws bs .words
+  pub front : bs' ≡ endLeaves ws bs .bytes

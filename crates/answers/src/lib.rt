@@ -2,6 +2,7 @@
 ghost use mathlib.Core.Path.{_≡_};
 ghost use Rattle.rulebook.specs.PaperNumbers.{startPanel, stepPanel, writePanel, readPanel, checkNumber, checkValues, checkMissing};
 ghost use Rattle.differences.specs.Lent.{differPanel};
+ghost use Rattle.pieces.specs.Pieces.{piecePanel};
 ghost use Rattle.answers.specs.Face.{Beside, voteValues, acceptedValues};
 use differences::DifferAnswer;
 use differences::side_number;
@@ -9,6 +10,7 @@ use kinds::number_in;
 use kinds::refusal_missing;
 use kinds::refusal_number;
 use kinds::vote_number;
+use pieces::PieceAnswer;
 use rulebook::Accepted;
 use rulebook::CheckAnswer;
 use rulebook::ReadAnswer;
@@ -116,6 +118,16 @@ pub fn check_values(count: usize, a: CheckAnswer) -> [u64; 5]
     match a {
         CheckAnswer::Accepted(x) => accepted_values(count, x),
         CheckAnswer::Refused(_) => [0, 0, 0, 0, 0],
+    }
+}
+
+// What a piece of a proof is answered, as a number: 0 is "more".
+pub fn piece_number(a: PieceAnswer) -> u64
+    ensures { λ r. ⌜ r ≡ piecePanel a .number ⌝ }
+{
+    match a {
+        PieceAnswer::More => 0,
+        PieceAnswer::Refused(r) => refusal_number(r),
     }
 }
 

@@ -1,17 +1,17 @@
 -- The state that stands for what has been taken, and what each call makes of it. Assumes nothing.
 use mathlib.Core.Path.{_≡_, refl, sym, ap, ap₂, _∙_}
-use mathlib.Core.Bool.{Bool, true, false, _&&_, _||_}
-use mathlib.Core.List.{List, [], _∷_, _++_, append-assoc, append-nil}
-use Prim.Native.Nat.{ℕ, zero, suc, _+_, _-_, _≤_, _<_, min}
+use mathlib.Core.Bool.{Bool, true, false}
+use mathlib.Core.List.{List, [], _∷_, _++_, append-nil}
+use Prim.Native.Nat.{ℕ, zero, suc, _+_, _-_, _≤_, min}
 use native.Mathlib.Omega.{arith}
-use lib.ListN.{length, getD, take, drop, set, replicate, length-append, length-take, length-drop, length-replicate, getD-replicate, replicate-append-replicate, take-append-drop}
-use lib.Seq.{paste, take-all, take-nil, drop-nil, take-at, drop-at, take-append-le, take-append-add, drop-append-add, take-append-seam, drop-append-seam, length-take-le}
-use lib.Dec.{eqb, leb}
-use borrow.Author.Tests.{eq-eqb, ne-eqb, le-leb, leb-true, leb-false}
+use lib.ListN.{length, take, drop, replicate, length-append, length-take, length-replicate, getD-replicate, replicate-append-replicate}
+use lib.Seq.{paste, take-all, take-nil, drop-nil, drop-at, take-append-le, take-append-add, drop-append-add, take-append-seam, drop-append-seam, length-take-le}
+use lib.Dec.{leb}
+use borrow.Author.Tests.{le-leb, leb-true, leb-false}
 use Rattle.rulebook.specs.Weights.{stakesFit}
 use Rattle.rulebook.proofs.ToolLaws.{both-and}
-use Rattle.pieces.specs.Pieces.{Taken, nothing, since}
-use Rattle.pieces.specs.State.{stateWords, frontBytes, mark, kept, nodes, table, front, blank, isSized, isReady, holdsTable, isWhole, withTable, fitting, keptWords, keptFront, wordsOf, bytesOf}
+use Rattle.pieces.specs.Pieces.{nothing, since}
+use Rattle.pieces.specs.State.{stateWords, frontBytes, mark, kept, nodes, table, front, blank, isReady, isWhole, withTable, fitting, keptWords, keptFront, wordsOf, bytesOf}
 use Rattle.pieces.proofs.Runs.{zeros-blank}
 use Rattle.pieces.proofs.Tests.{sized-so, ready-begun, ready-fresh, table-few, whole-fresh, whole-decided, after-is, first-stakes}
 use Rattle.pieces.proofs.Laid.{fits-few, table-words}

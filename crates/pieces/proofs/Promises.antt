@@ -1,17 +1,16 @@
 -- The promises of proofs in pieces.
 use mathlib.Core.Path.{_≡_, refl, sym, ap, ap₂, _∙_}
-use mathlib.Core.Bool.{Bool, true, false}
+use mathlib.Core.Bool.{true}
 use mathlib.Core.List.{List, [], _∷_, _++_, append-assoc, append-nil}
 use Prim.Native.Nat.{ℕ, suc, _+_, _-_, _≤_}
 use native.Mathlib.Omega.{arith}
-use lib.ListN.{length, getD, take, drop, length-drop, take-append-drop}
+use lib.ListN.{length, take, drop, length-drop, take-append-drop}
 use lib.Seq.{take-all, length-take-le}
 use lib.Dec.{eqb}
 use borrow.Author.Tests.{eqb-true, eqb-false}
 use Rattle.rulebook.specs.declared.CheckAnswer.{CheckAnswer}
 use Rattle.rulebook.specs.declared.CheckAnswer.the-variants as check
 use Rattle.rulebook.specs.declared.Refusal.the-variants as refusal
-use Rattle.rulebook.specs.Tools.{given}
 use Rattle.rulebook.specs.Weights.{stakesFit}
 use Rattle.rulebook.specs.Ledger.{none}
 use Rattle.rulebook.specs.Checker.{checkProof}
@@ -19,11 +18,11 @@ use Rattle.rulebook.proofs.ToolLaws.{given-on, given-off, by-test}
 use Rattle.pieces.specs.declared.PieceAnswer.{PieceAnswer}
 use Rattle.pieces.specs.declared.PieceAnswer.the-variants as answer
 use Rattle.pieces.specs.Pieces.{Taken, nothing, since, afterPiece, pieceAnswer, endAnswer, Asked, piece, end, Said, ofPiece, ofEnd, said, afterCall, saidBy, afterCalls, Piece, calls, packet, mores}
-use Rattle.pieces.specs.State.{stateWords, frontBytes, mark, kept, nodes, table, front, blank, isReady, isWhole, withTable, keptWords, keptFront, Keeps, PieceOf, EndOf, wordsOf, bytesOf}
-use Rattle.pieces.specs.Promises.{FrontDecides, Call, Meets, asPiece, asEnd, Calls, noMore, called, askedIn, answeredIn, lastWords, lastBytes, zeroWords, zeroBytes, CallsAnswer, CutsAnywhere, EndWithoutPiece, TableRefused, LeftByCalls, WholeIsLeft, PieceOne, EndOne}
+use Rattle.pieces.specs.State.{stateWords, frontBytes, mark, kept, nodes, table, front, blank, isWhole, keptFront, PieceOf, EndOf, wordsOf, bytesOf}
+use Rattle.pieces.specs.Promises.{FrontDecides, Call, Meets, asPiece, asEnd, Calls, noMore, called, askedIn, answeredIn, lastWords, lastBytes, zeroWords, zeroBytes, CallsAnswer, CutsAnywhere, EndWithoutPiece, TableRefused, LeftByCalls, WholeIsLeft, EndAnew, PieceOne, EndOne}
 use Rattle.pieces.proofs.Runs.{blank-zeros}
 use Rattle.pieces.proofs.Tests.{ready-words, ready-bytes, ready-within, ready-blank, whole-ready, whole-held, table-held}
-use Rattle.pieces.proofs.Ways.{piece-more, piece-unfit, piece-first, end-nothing, end-checked, end-whole}
+use Rattle.pieces.proofs.Ways.{end-broken, piece-more, piece-unfit, piece-first, end-nothing, end-whole}
 use Rattle.pieces.proofs.Front as decided
 use Rattle.pieces.proofs.Held.{zeros, since-ready, since-whole, since-begun, since-table, since-front, words-more, bytes-more, words-first, bytes-first, nothing-mark, nothing-ready, nothing-whole}
 
@@ -42,11 +41,11 @@ end-one ws bs r r' left left' front front' a b =
 -- ---- one call on the state that stands for what has been taken
 
 -- A table that was taken fits.
-Fits : Taken → Type 0
+unfoldable pub Fits : Taken → Type 0
 Fits nothing = Unit
 Fits (since stakes bytes) = stakesFit stakes (length stakes) ≡ true
 
-fits-piece : (t : Taken) (stakes bytes : List ℕ) → Fits t → Fits (afterPiece t stakes bytes)
+pub fits-piece : (t : Taken) (stakes bytes : List ℕ) → Fits t → Fits (afterPiece t stakes bytes)
 unfolding Fits afterPiece
 fits-piece nothing stakes bytes f =
     by-test (stakesFit stakes (length stakes))
@@ -80,11 +79,11 @@ piece-is (since table taken) stakes bytes f =
     (record { words = sym (words-more table taken bytes); front = sym (bytes-more table taken bytes) })
 
 -- Nothing taken is all 0.
-none-words : wordsOf nothing ≡ zeroWords
+pub none-words : wordsOf nothing ≡ zeroWords
 unfolding wordsOf
 none-words = refl
 
-none-bytes : bytesOf nothing ≡ zeroBytes
+pub none-bytes : bytesOf nothing ≡ zeroBytes
 unfolding bytesOf
 none-bytes = refl
 
@@ -99,6 +98,19 @@ end-is (since table taken) f =
     (none-words ∙ ap zeros (sym (ready-words (wordsOf (since table taken)) (bytesOf (since table taken)) ready)))
     (none-bytes ∙ ap zeros (sym (ready-bytes (wordsOf (since table taken)) (bytesOf (since table taken)) ready)))
 
+-- A piece that meets its contract, on a state that stands for what has been taken.
+pub piece-says : (t : Taken) (ws bs stakes bytes : List ℕ) (r : PieceAnswer) (ws' bs' : List ℕ) → Fits t → ws ≡ wordsOf t → bs ≡ bytesOf t
+    → PieceOf ws bs stakes bytes r ws' bs' → (r ≡ pieceAnswer t stakes) × (ws' ≡ wordsOf (afterPiece t stakes bytes)) × (bs' ≡ bytesOf (afterPiece t stakes bytes))
+unfolding PieceIs
+piece-says t ws bs stakes bytes r ws' bs' f e g h =
+    piece-one ws bs stakes bytes r (pieceAnswer t stakes) ws' (wordsOf (afterPiece t stakes bytes)) bs' (bytesOf (afterPiece t stakes bytes)) h
+    (rw (e, g) (piece-is t stakes bytes f))
+
+-- Likewise the end.
+pub end-says : (t : Taken) (ws bs : List ℕ) (r : CheckAnswer) (ws' bs' : List ℕ) → Fits t → ws ≡ wordsOf t → bs ≡ bytesOf t → EndOf ws bs r ws' bs'
+    → (r ≡ endAnswer t) × (ws' ≡ wordsOf nothing) × (bs' ≡ bytesOf nothing)
+end-says t ws bs r ws' bs' f e g h = end-one ws bs r (endAnswer t) ws' (wordsOf nothing) bs' (bytesOf nothing) h (rw (e, g) (end-is t f))
+
 -- ---- a history
 
 -- What a call that meets its contract says and leaves.
@@ -109,16 +121,15 @@ record Says (t : Taken) (a : Asked) (r : Said) (ws' bs' : List ℕ) : Type 0 whe
 
 meets-says : (t : Taken) (ws bs : List ℕ) (a : Asked) (r : Said) (ws' bs' : List ℕ) → Fits t → ws ≡ wordsOf t → bs ≡ bytesOf t → Meets ws bs a r ws' bs'
     → Says t a r ws' bs'
-unfolding said afterCall PieceIs
+unfolding said afterCall
 meets-says t ws bs a r ws' bs' f e g (asPiece {stakes} {bytes} {r = x} h) =
-    let i = piece-one ws bs stakes bytes x (pieceAnswer t stakes) ws' (wordsOf (afterPiece t stakes bytes)) bs' (bytesOf (afterPiece t stakes bytes)) h
-    (rw (e, g) (piece-is t stakes bytes f)) in
+    let i = piece-says t ws bs stakes bytes x ws' bs' f e g h in
     record { answer-is = ap ofPiece (i .0); words-are = i .1; bytes-are = i .2 }
 meets-says t ws bs a r ws' bs' f e g (asEnd {r = x} h) =
-    let i = end-one ws bs x (endAnswer t) ws' (wordsOf nothing) bs' (bytesOf nothing) h (rw (e, g) (end-is t f)) in
+    let i = end-says t ws bs x ws' bs' f e g h in
     record { answer-is = ap ofEnd (i .0); words-are = i .1; bytes-are = i .2 }
 
-fits-none : Fits nothing
+pub fits-none : Fits nothing
 unfolding Fits
 fits-none = tt
 
@@ -267,3 +278,17 @@ whole-left ws bs e =
 
 pub whole-is-left : WholeIsLeft
 whole-is-left ws bs = (whole-left ws bs, λ l. rw (l .words, l .bytes) (fits-whole (afterCalls nothing (l .before)) (fits-calls nothing (l .before) fits-none)))
+
+-- ---- after the end
+
+-- A state that is not refused stands for what has been taken.
+whole-taken : (ws bs : List ℕ) (r : CheckAnswer) (ws' bs' : List ℕ) → EndOf ws bs r ws' bs' → isWhole ws bs ≡ true → (ws' ≡ zeroWords) × (bs' ≡ zeroBytes)
+whole-taken ws bs r ws' bs' h e =
+    let l = whole-left ws bs e in
+    let t = afterCalls nothing (l .before) in
+    let i = end-says t ws bs r ws' bs' (fits-calls nothing (l .before) fits-none) (l .words) (l .bytes) h in
+    (i .1 ∙ none-words, i .2 ∙ none-bytes)
+
+pub end-anew : EndAnew
+end-anew ws bs r ws' bs' h =
+    (whole-taken ws bs r ws' bs' h, λ e. end-one ws bs r (check.Refused refusal.BadRecord) ws' ws bs' bs h (end-broken ws bs e))

@@ -1,13 +1,12 @@
 -- Computed cases of proofs in pieces.
-use mathlib.Core.Bool.{Bool, true, _&&_}
-use mathlib.Core.List.{List, [], _∷_, _++_, map}
+use mathlib.Core.Bool.{Bool}
+use mathlib.Core.List.{List, [], _∷_, _++_}
 use Prim.Native.Nat.{ℕ, _+_, _*_}
-use lib.ListN.{replicate}
 use lib.Dec.{T, eqb}
 use Rattle.rulebook.specs.PaperNumbers.{checkNumber, checkMissing}
 use Rattle.rulebook.specs.Scripts.{equal, all}
 use Rattle.rulebook.specs.Computes.{rules}
-use Rattle.pieces.specs.Pieces.{Taken, nothing, since, afterPiece, pieceAnswer, endAnswer, piecePanel, Asked, piece, end, Said, ofPiece, ofEnd, said, afterCall, saidBy}
+use Rattle.pieces.specs.Pieces.{nothing, afterPiece, pieceAnswer, endAnswer, piecePanel, Asked, piece, end, Said, ofPiece, ofEnd, said, afterCall, saidBy}
 use Rattle.pieces.specs.State.{frontBytes}
 
 -- Each answer as a number: a piece's, or the end's with what is missing beside it.

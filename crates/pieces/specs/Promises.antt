@@ -11,7 +11,7 @@ use Rattle.rulebook.specs.Weights.{stakesFit}
 use Rattle.rulebook.specs.Checker.{checkProof}
 use Rattle.pieces.specs.declared.PieceAnswer.{PieceAnswer}
 use Rattle.pieces.specs.declared.PieceAnswer.the-variants as answer
-use Rattle.pieces.specs.Pieces.{Taken, nothing, Asked, piece, end, Said, ofPiece, ofEnd, saidBy, afterCalls, Piece, calls, packet, mores}
+use Rattle.pieces.specs.Pieces.{nothing, Asked, piece, end, Said, ofPiece, ofEnd, saidBy, afterCalls, Piece, calls, packet, mores}
 use Rattle.pieces.specs.State.{stateWords, frontBytes, PieceOf, EndOf, isWhole, wordsOf, bytesOf}
 
 -- ---- the front
@@ -104,6 +104,13 @@ pub record LeftByCalls (ws bs : List ℕ) : Type 0 where
 
 abbrev pub WholeIsLeft : Type 0
 WholeIsLeft = (ws bs : List ℕ) → (isWhole ws bs ≡ true → LeftByCalls ws bs) × (LeftByCalls ws bs → isWhole ws bs ≡ true)
+
+-- A state that calls left is all 0 after the end, whatever was answered; any other is as found.
+abbrev pub EndAnew : Type 0
+EndAnew =
+    (ws bs : List ℕ) (r : CheckAnswer) (ws' bs' : List ℕ) → EndOf ws bs r ws' bs'
+    → (isWhole ws bs ≡ true → (ws' ≡ zeroWords) × (bs' ≡ zeroBytes))
+    × (isWhole ws bs ≡ false → (r ≡ check.Refused refusal.BadRecord) × (ws' ≡ ws) × (bs' ≡ bs))
 
 -- ---- the contracts leave nothing open
 

@@ -1,7 +1,7 @@
 -- The state that the host lends between the calls: words and bytes. Of the packet it keeps the front that a proof's answer can depend on.
 use mathlib.Core.Path.{_≡_}
-use mathlib.Core.Bool.{Bool, true, _&&_, _||_}
-use mathlib.Core.List.{List, [], _∷_, _++_}
+use mathlib.Core.Bool.{Bool, _&&_, _||_}
+use mathlib.Core.List.{List, _∷_, _++_}
 use Prim.Native.Nat.{ℕ, _+_, _-_, _≤_, min}
 use lib.ListN.{length, getD, set, take, drop, replicate}
 use lib.Seq.{paste}

@@ -3,7 +3,7 @@ ghost use mathlib.Core.Path.{_≡_};
 ghost use Prim.Native.Nat.{_+_, _≤_, min};
 ghost use lib.ListN.{length, getD, set, replicate};
 ghost use lib.Seq.{paste};
-ghost use Rattle.pieces.specs.State.{stateWords, frontBytes, blank, isSized, isReady, holdsTable, isWhole, Pasted, Sized, Taking, Keeps, withTable, PieceOf, EndOf};
+ghost use Rattle.pieces.specs.State.{stateWords, frontBytes, nodes, blank, isSized, isReady, holdsTable, isWhole, Pasted, Sized, Taking, Keeps, withTable, PieceOf, EndOf};
 use checker::check_proof;
 use rulebook::CheckAnswer;
 use rulebook::Refusal;
@@ -34,6 +34,16 @@ pub fn front_bytes() -> usize
     ensures { λ r. ⌜ r ≡ frontBytes ⌝ }
 {
     FRONT_BYTES
+}
+
+// How many nodes the table of a state has.
+pub fn node_count(words: &[u64]) -> usize
+    ensures { λ r. ⌜ r ≡ nodes (now (words .entry)) ⌝ }
+{
+    if words.len() < 2 {
+        return 0;
+    }
+    words[1] as usize
 }
 
 // Whether words are all 0.

@@ -9,13 +9,15 @@ ghost use Rattle.rulebook.specs.WellFormed.{outboxWords};
 ghost use Rattle.record.specs.Layout.{recordWords};
 ghost use Rattle.writers.specs.Writing.{certificateOn, proofOn};
 ghost use Rattle.rulebook.specs.declared.Input.the-variants as input;
-ghost use Rattle.answers.specs.Face.{voteInput, blockInput, timeoutInput, Started, Stepped, Trayed, Wrote, MessageRead, Checked, Compared};
+ghost use Rattle.pieces.specs.State.{stateWords, frontBytes};
+ghost use Rattle.answers.specs.Face.{voteInput, blockInput, timeoutInput, Started, Stepped, Trayed, Wrote, MessageRead, Checked, Compared, Pieced, Ended};
 use answers::bytes_written;
 use answers::check_missing;
 use answers::check_number;
 use answers::check_values;
 use answers::differ_number;
 use answers::differ_value;
+use answers::piece_number;
 use answers::read_number;
 use answers::read_values;
 use answers::records_made;
@@ -32,6 +34,11 @@ use inputs::vote_of;
 use messages::read_vote;
 use messages::write_vote;
 use node::step;
+use pieces::end;
+use pieces::front_bytes;
+use pieces::node_count;
+use pieces::piece;
+use pieces::state_words;
 use record::record_words;
 use rulebook::Input;
 use rulebook::Node;
@@ -204,6 +211,48 @@ pub extern "C" fn qr_check_proof(
 {
     let a = check_proof(stakes, packet);
     *values = check_values(stakes.len(), a);
+    let short = check_missing(a);
+    *missing = short.0;
+    check_number(a)
+}
+
+// How many words the state of a proof in pieces has.
+#[no_mangle]
+pub extern "C" fn qr_pieces_words() -> usize
+    ensures { λ r. ⌜ r ≡ stateWords ⌝ }
+{
+    state_words()
+}
+
+// How many bytes it has beside them.
+#[no_mangle]
+pub extern "C" fn qr_pieces_bytes() -> usize
+    ensures { λ r. ⌜ r ≡ frontBytes ⌝ }
+{
+    front_bytes()
+}
+
+// Takes a piece of a finality proof; the table is that of the first piece.
+#[no_mangle]
+pub extern "C" fn qr_piece(words: &mut [u64], front: &mut [u8], stakes: &[u64], bytes: &[u8]) -> u64
+    ensures { λ r. ⌜ Pieced (now (words .entry)) (now (front .entry)) (now (stakes .entry)) (now (bytes .entry)) r (now (words .exit)) (now (front .exit)) ⌝ }
+{
+    piece_number(piece(words, front, stakes, bytes))
+}
+
+// Ends a finality proof that came in pieces: what the whole packet is answered.
+#[no_mangle]
+pub extern "C" fn qr_end(
+    words: &mut [u64],
+    front: &mut [u8],
+    values: &mut [u64; 5],
+    missing: &mut u64,
+) -> u64
+    ensures { λ r. ⌜ Ended (now (words .entry)) (now (front .entry)) r (now (values .exit)) (now (missing .exit)) (now (words .exit)) (now (front .exit)) ⌝ }
+{
+    let count = node_count(words);
+    let a = end(words, front);
+    *values = check_values(count, a);
     let short = check_missing(a);
     *missing = short.0;
     check_number(a)

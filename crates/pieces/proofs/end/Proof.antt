@@ -1,20 +1,12 @@
+-- The tests in their order, then the whole check and a state of zeros.
 use Rattle.pieces.proofs.Ways.{end-broken, end-nothing, end-checked}
 use Rattle.pieces.proofs.Tests.{ready-words, ready-bytes, ready-within, whole-ready, whole-held, table-held}
 use borrow.Author.Tests.{not-true, not-false}
-use mathlib.Core.Path.{_≡_, refl, _∙_, ap, sym}
-use mathlib.Core.Bool.{Bool, true, false}
-use mathlib.Core.Logic.{⊎-elim}
-use Prim.Native.Nat.{ℕ, _+_, _-_, _*_, _^_, _≤_, _<_}
+use mathlib.Core.Path.{_∙_, sym}
 use native.Mathlib.Omega.{arith}
 use borrow.Author.Needs.{needs}
 use Rattle.pieces.proofs.end.Statement.{statement}
 use Rattle.pieces.proofs.end.Tie as tie
-use Rattle.pieces.proofs.end.Reads as reads
-use Rattle.pieces.proofs.end.Lts as lts
-use Rattle.checker.proofs.check_proof.Reads as check-proof-reads
-use Rattle.pieces.proofs.clear_bytes.Reads as clear-bytes-reads
-use Rattle.pieces.proofs.clear_words.Reads as clear-words-reads
-use Rattle.pieces.proofs.is_whole.Reads as is-whole-reads
 
 is-whole-requires : tie.Need-is-whole-requires
 is-whole-requires c κs = search needs

@@ -1,18 +1,11 @@
+-- The count, the stakes as a table, and what stands past them.
 use Rattle.pieces.proofs.Tests.{table-many, table-few}
 use Rattle.stakes.proofs.Laws.{made-fits}
-use mathlib.Core.Path.{_≡_, refl, _∙_, ap, ap₂, sym}
-use mathlib.Core.Bool.{Bool, true, false, _&&_}
-use mathlib.Core.Logic.{⊎-elim}
-use Prim.Native.Nat.{ℕ, _+_, _-_, _*_, _^_, _≤_, _<_}
-use native.Mathlib.Omega.{arith}
+use mathlib.Core.Path.{_∙_, ap}
 use Rattle.stakes.specs.declared.Made.{Made}
 use borrow.Author.Needs.{needs}
 use Rattle.pieces.proofs.holds_table.Statement.{statement}
 use Rattle.pieces.proofs.holds_table.Tie as tie
-use Rattle.pieces.proofs.holds_table.Reads as reads
-use Rattle.pieces.proofs.holds_table.Lts as lts
-use Rattle.pieces.proofs.blank_words.Reads as blank-words-reads
-use Rattle.stakes.proofs.make_table.Reads as make-table-reads
 
 shared-slice-read-if1 : tie.Need-shared-slice-read-if1
 shared-slice-read-if1 c = search needs

@@ -1,18 +1,12 @@
+-- The size, then the mark; where it is 0, the whole state.
 use Rattle.pieces.proofs.Tests.{sized-says, ready-unsized, ready-begun, ready-fresh}
 use borrow.Author.Tests.{not-true, not-false}
-use mathlib.Core.Path.{_≡_, refl, _∙_, ap, ap₂, sym}
-use mathlib.Core.Bool.{Bool, true, false, _&&_}
-use mathlib.Core.Logic.{⊎-elim}
-use Prim.Native.Nat.{ℕ, _+_, _-_, _*_, _^_, _≤_, _<_}
+use mathlib.Core.Bool.{_&&_}
+use mathlib.Core.Path.{_∙_, ap₂, sym}
 use native.Mathlib.Omega.{arith}
 use borrow.Author.Needs.{needs}
 use Rattle.pieces.proofs.is_ready.Statement.{statement}
 use Rattle.pieces.proofs.is_ready.Tie as tie
-use Rattle.pieces.proofs.is_ready.Reads as reads
-use Rattle.pieces.proofs.is_ready.Lts as lts
-use Rattle.pieces.proofs.blank_bytes.Reads as blank-bytes-reads
-use Rattle.pieces.proofs.blank_words.Reads as blank-words-reads
-use Rattle.pieces.proofs.is_sized.Reads as is-sized-reads
 
 is-sized-requires : tie.Need-is-sized-requires
 is-sized-requires c κs = search needs

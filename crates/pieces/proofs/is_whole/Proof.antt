@@ -1,18 +1,11 @@
+-- What a piece looks at, then the table and the bytes past the kept ones.
 use Rattle.pieces.proofs.Tests.{ready-words, ready-bytes, ready-within, whole-unready, whole-fresh, whole-decided}
 use borrow.Author.Tests.{not-true, not-false}
-use mathlib.Core.Path.{_≡_, refl, _∙_, ap, ap₂, sym}
-use mathlib.Core.Bool.{Bool, true, false, _&&_}
-use mathlib.Core.Logic.{⊎-elim}
-use Prim.Native.Nat.{ℕ, _+_, _-_, _*_, _^_, _≤_, _<_}
+use mathlib.Core.Path.{_∙_, sym}
 use native.Mathlib.Omega.{arith}
 use borrow.Author.Needs.{needs}
 use Rattle.pieces.proofs.is_whole.Statement.{statement}
 use Rattle.pieces.proofs.is_whole.Tie as tie
-use Rattle.pieces.proofs.is_whole.Reads as reads
-use Rattle.pieces.proofs.is_whole.Lts as lts
-use Rattle.pieces.proofs.blank_bytes.Reads as blank-bytes-reads
-use Rattle.pieces.proofs.holds_table.Reads as holds-table-reads
-use Rattle.pieces.proofs.is_ready.Reads as is-ready-reads
 
 is-ready-requires : tie.Need-is-ready-requires
 is-ready-requires c κs = search needs

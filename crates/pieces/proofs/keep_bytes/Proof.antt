@@ -1,19 +1,13 @@
+-- The bytes that fit are copied behind the kept ones, and the mark counts them.
 use Rattle.pieces.specs.State.{kept}
 use lib.Seq.{paste}
 use lib.ListN.{set}
 use Rattle.pieces.specs.State.{keptWords, keptFront}
-use mathlib.Core.Path.{_≡_, refl, _∙_, ap, sym}
-use mathlib.Core.Bool.{Bool, true, false}
-use mathlib.Core.Logic.{⊎-elim}
-use Prim.Native.Nat.{ℕ, _+_, _-_, _*_, _^_, _≤_, _<_}
-use native.Mathlib.Omega.{arith}
+use mathlib.Core.Path.{_∙_, ap}
+use Prim.Native.Nat.{ℕ, _+_}
 use borrow.Author.Needs.{needs}
 use Rattle.pieces.proofs.keep_bytes.Statement.{statement}
 use Rattle.pieces.proofs.keep_bytes.Tie as tie
-use Rattle.pieces.proofs.keep_bytes.Reads as reads
-use Rattle.pieces.proofs.keep_bytes.Lts as lts
-use Rattle.pieces.proofs.copy_bytes.Reads as copy-bytes-reads
-use Rattle.pieces.proofs.least.Reads as least-reads
 
 slice-read-kept : tie.Need-slice-read-kept
 slice-read-kept c = search needs

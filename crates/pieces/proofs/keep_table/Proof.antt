@@ -1,16 +1,11 @@
+-- The mark, the count, and the stakes copied behind them.
 use Rattle.pieces.specs.State.{withTable}
-use lib.ListN.{length, length-set}
-use mathlib.Core.Path.{_≡_, refl, _∙_, ap, sym}
-use mathlib.Core.Bool.{Bool, true, false}
-use mathlib.Core.Logic.{⊎-elim}
-use Prim.Native.Nat.{ℕ, _+_, _-_, _*_, _^_, _≤_, _<_}
+use lib.ListN.{length-set}
+use mathlib.Core.Path.{_∙_}
 use native.Mathlib.Omega.{arith}
 use borrow.Author.Needs.{needs}
 use Rattle.pieces.proofs.keep_table.Statement.{statement}
 use Rattle.pieces.proofs.keep_table.Tie as tie
-use Rattle.pieces.proofs.keep_table.Reads as reads
-use Rattle.pieces.proofs.keep_table.Lts as lts
-use Rattle.pieces.proofs.copy_words.Reads as copy-words-reads
 
 slice-write-words : tie.Need-slice-write-words
 slice-write-words c = search needs

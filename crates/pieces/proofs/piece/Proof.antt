@@ -1,23 +1,15 @@
+-- The tests in their order, then what is kept.
 use Rattle.pieces.proofs.Ways.{piece-unready, piece-more, piece-unfit, piece-first}
 use Rattle.pieces.proofs.Laid.{fits-few, table-taking}
 use Rattle.pieces.proofs.Tests.{ready-words, ready-bytes, ready-taking}
 use Rattle.stakes.specs.declared.Made.{Made}
 use Rattle.stakes.proofs.Laws.{made-fits}
 use borrow.Author.Tests.{not-true, not-false}
-use mathlib.Core.Path.{_≡_, refl, _∙_, ap, sym}
-use mathlib.Core.Bool.{Bool, true, false}
-use mathlib.Core.Logic.{⊎-elim}
-use Prim.Native.Nat.{ℕ, _+_, _-_, _*_, _^_, _≤_, _<_}
+use mathlib.Core.Path.{_∙_, ap, sym}
 use native.Mathlib.Omega.{arith}
 use borrow.Author.Needs.{needs}
 use Rattle.pieces.proofs.piece.Statement.{statement}
 use Rattle.pieces.proofs.piece.Tie as tie
-use Rattle.pieces.proofs.piece.Reads as reads
-use Rattle.pieces.proofs.piece.Lts as lts
-use Rattle.pieces.proofs.is_ready.Reads as is-ready-reads
-use Rattle.pieces.proofs.keep_bytes.Reads as keep-bytes-reads
-use Rattle.pieces.proofs.keep_table.Reads as keep-table-reads
-use Rattle.stakes.proofs.make_table.Reads as make-table-reads
 
 is-ready-requires : tie.Need-is-ready-requires
 is-ready-requires c κs = search needs
