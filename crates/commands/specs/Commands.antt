@@ -52,6 +52,12 @@ packText = 112 ∷ 97 ∷ 99 ∷ 107 ∷ []
 abbrev pub unpackText : List ℕ
 unpackText = 117 ∷ 110 ∷ 112 ∷ 97 ∷ 99 ∷ 107 ∷ []
 
+abbrev pub pieceText : List ℕ
+pieceText = 112 ∷ 105 ∷ 101 ∷ 99 ∷ 101 ∷ []
+
+abbrev pub endText : List ℕ
+endText = 101 ∷ 110 ∷ 100 ∷ []
+
 abbrev pub boardText : List ℕ
 boardText = 98 ∷ 111 ∷ 97 ∷ 114 ∷ 100 ∷ []
 
@@ -67,14 +73,18 @@ helpText = 104 ∷ 101 ∷ 108 ∷ 112 ∷ []
 abbrev pub quitText : List ℕ
 quitText = 113 ∷ 117 ∷ 105 ∷ 116 ∷ []
 
--- The command that a word is, asked for in four lists: "board", "votes", "why", "help" and "quit" are for people,
+-- The command that a word is, asked for in five lists: "board", "votes", "why", "help" and "quit" are for people,
 unfoldable pub viewOf : List ℕ → Command
 viewOf w =
     choose (sameText w boardText) command.Board (choose (sameText w votesText) command.Votes (choose (sameText w whyText) command.Why (choose (sameText w helpText) command.Help (choose (sameText w quitText) command.Quit (command.Other)))))
 
+-- "piece" and "end" are for proofs in pieces,
+unfoldable pub piecesOf : List ℕ → Command
+piecesOf w = choose (sameText w pieceText) command.Piece (choose (sameText w endText) command.End (viewOf w))
+
 -- "pack" and "unpack" are for vote messages,
 unfoldable pub messageOf : List ℕ → Command
-messageOf w = choose (sameText w packText) command.Pack (choose (sameText w unpackText) command.Unpack (viewOf w))
+messageOf w = choose (sameText w packText) command.Pack (choose (sameText w unpackText) command.Unpack (piecesOf w))
 
 -- "cert", "proof", "check" and "checkproof" ask something,
 unfoldable pub questionOf : List ℕ → Command
@@ -122,6 +132,8 @@ argumentsFit command.Check line at = packetAndStakes line at
 argumentsFit command.CheckProof line at = packetAndStakes line at
 argumentsFit command.Pack line at = exactly line at 5
 argumentsFit command.Unpack line at = countAndMessage line at
+argumentsFit command.Piece line at = packetAndStakes line at
+argumentsFit command.End line at = exactly line at 0
 argumentsFit command.Board line at = exactly line at 0 || (exactly line at 1 || exactly line at 2)
 argumentsFit command.Votes line at = exactly line at 0 || exactly line at 2
 argumentsFit command.Why line at = exactly line at 1
@@ -147,6 +159,8 @@ tells command.Check = false
 tells command.CheckProof = false
 tells command.Pack = false
 tells command.Unpack = false
+tells command.Piece = false
+tells command.End = false
 tells command.Board = false
 tells command.Votes = false
 tells command.Why = false

@@ -1,6 +1,6 @@
 // Which command a line of a script is: by its first word, and by what follows it.
 ghost use mathlib.Core.Path.{_≡_};
-ghost use Rattle.commands.specs.Commands.{sameText, inputOf, questionOf, messageOf, viewOf, exactly, atLeast, packetAndStakes, countAndMessage, argumentsFit, commandOf};
+ghost use Rattle.commands.specs.Commands.{sameText, inputOf, questionOf, messageOf, piecesOf, viewOf, exactly, atLeast, packetAndStakes, countAndMessage, argumentsFit, commandOf};
 use hex::read_hex;
 use script::read_numbers;
 use script::word_at;
@@ -19,6 +19,8 @@ pub enum Command {
     CheckProof,
     Pack,
     Unpack,
+    Piece,
+    End,
     Board,
     Votes,
     Why,
@@ -95,6 +97,19 @@ fn message_of(word: &[u8]) -> Command
     }
     if same(word, b"unpack") {
         return Command::Unpack;
+    }
+    pieces_of(word)
+}
+
+// The commands of proofs in pieces.
+fn pieces_of(word: &[u8]) -> Command
+    ensures { λ r. ⌜ r ≡ piecesOf (now (word .entry)) ⌝ }
+{
+    if same(word, b"piece") {
+        return Command::Piece;
+    }
+    if same(word, b"end") {
+        return Command::End;
     }
     view_of(word)
 }
@@ -187,6 +202,8 @@ fn arguments_fit(c: Command, line: &[u8], at: usize) -> bool
         Command::CheckProof => packet_and_stakes(line, at),
         Command::Pack => exactly(line, at, 5),
         Command::Unpack => count_and_message(line, at),
+        Command::Piece => packet_and_stakes(line, at),
+        Command::End => exactly(line, at, 0),
         Command::Board => exactly(line, at, 0) | (exactly(line, at, 1) | exactly(line, at, 2)),
         Command::Votes => exactly(line, at, 0) | exactly(line, at, 2),
         Command::Why => exactly(line, at, 1),

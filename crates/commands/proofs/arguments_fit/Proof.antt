@@ -80,8 +80,17 @@ count-and-message-requires c κs = search needs
 enum-told-13 : tie.Need-enum-told-13
 enum-told-13 c = search needs
 
+packet-and-stakes-requires-3 : tie.Need-packet-and-stakes-requires-3
+packet-and-stakes-requires-3 c κs = search needs
+
+enum-told-14 : tie.Need-enum-told-14
+enum-told-14 c = search needs
+
 exactly-requires-8 : tie.Need-exactly-requires-8
 exactly-requires-8 c κs = search needs
+
+enum-told-15 : tie.Need-enum-told-15
+enum-told-15 c = search needs
 
 exactly-requires-9 : tie.Need-exactly-requires-9
 exactly-requires-9 c κs = search needs
@@ -89,35 +98,38 @@ exactly-requires-9 c κs = search needs
 exactly-requires-10 : tie.Need-exactly-requires-10
 exactly-requires-10 c κs = search needs
 
-enum-told-14 : tie.Need-enum-told-14
-enum-told-14 c = search needs
-
 exactly-requires-11 : tie.Need-exactly-requires-11
 exactly-requires-11 c κs = search needs
-
-exactly-requires-12 : tie.Need-exactly-requires-12
-exactly-requires-12 c κs = search needs
-
-enum-told-15 : tie.Need-enum-told-15
-enum-told-15 c = search needs
-
-exactly-requires-13 : tie.Need-exactly-requires-13
-exactly-requires-13 c κs = search needs
 
 enum-told-16 : tie.Need-enum-told-16
 enum-told-16 c = search needs
 
-exactly-requires-14 : tie.Need-exactly-requires-14
-exactly-requires-14 c κs = search needs
+exactly-requires-12 : tie.Need-exactly-requires-12
+exactly-requires-12 c κs = search needs
+
+exactly-requires-13 : tie.Need-exactly-requires-13
+exactly-requires-13 c κs = search needs
 
 enum-told-17 : tie.Need-enum-told-17
 enum-told-17 c = search needs
 
-exactly-requires-15 : tie.Need-exactly-requires-15
-exactly-requires-15 c κs = search needs
+exactly-requires-14 : tie.Need-exactly-requires-14
+exactly-requires-14 c κs = search needs
 
 enum-told-18 : tie.Need-enum-told-18
 enum-told-18 c = search needs
+
+exactly-requires-15 : tie.Need-exactly-requires-15
+exactly-requires-15 c κs = search needs
+
+enum-told-19 : tie.Need-enum-told-19
+enum-told-19 c = search needs
+
+exactly-requires-16 : tie.Need-exactly-requires-16
+exactly-requires-16 c κs = search needs
+
+enum-told-20 : tie.Need-enum-told-20
+enum-told-20 c = search needs
 
 returns : tie.Need-returns
 unfolding argumentsFit
@@ -182,32 +194,42 @@ returns-12 c =
 returns-13 : tie.Need-returns-13
 unfolding argumentsFit
 returns-13 c =
-    simp (c .before .before .before .enum-told13 .given .1, c .before .before .exactly8 .ensures, c .before .exactly9 .ensures, c .exactly10 .ensures)
+    simp (c .before .enum-told13 .given .1, c .packet-and-stakes3 .ensures)
 
 returns-14 : tie.Need-returns-14
 unfolding argumentsFit
 returns-14 c =
-    simp (c .before .before .enum-told14 .given .1, c .before .exactly11 .ensures, c .exactly12 .ensures)
+    simp (c .before .enum-told14 .given .1, c .exactly8 .ensures)
 
 returns-15 : tie.Need-returns-15
 unfolding argumentsFit
 returns-15 c =
-    simp (c .before .enum-told15 .given .1, c .exactly13 .ensures)
+    simp (c .before .before .before .enum-told15 .given .1, c .before .before .exactly9 .ensures, c .before .exactly10 .ensures, c .exactly11 .ensures)
 
 returns-16 : tie.Need-returns-16
 unfolding argumentsFit
 returns-16 c =
-    simp (c .before .enum-told16 .given .1, c .exactly14 .ensures)
+    simp (c .before .before .enum-told16 .given .1, c .before .exactly12 .ensures, c .exactly13 .ensures)
 
 returns-17 : tie.Need-returns-17
 unfolding argumentsFit
 returns-17 c =
-    simp (c .before .enum-told17 .given .1, c .exactly15 .ensures)
+    simp (c .before .enum-told17 .given .1, c .exactly14 .ensures)
 
 returns-18 : tie.Need-returns-18
 unfolding argumentsFit
 returns-18 c =
-    simp (c .enum-told18 .given .1)
+    simp (c .before .enum-told18 .given .1, c .exactly15 .ensures)
+
+returns-19 : tie.Need-returns-19
+unfolding argumentsFit
+returns-19 c =
+    simp (c .before .enum-told19 .given .1, c .exactly16 .ensures)
+
+returns-20 : tie.Need-returns-20
+unfolding argumentsFit
+returns-20 c =
+    simp (c .enum-told20 .given .1)
 
 pub arguments-fit-spec : {M : Type 1} → statement M
 arguments-fit-spec =
@@ -238,19 +260,23 @@ arguments-fit-spec =
     enum-told-12
     count-and-message-requires
     enum-told-13
+    packet-and-stakes-requires-3
+    enum-told-14
     exactly-requires-8
+    enum-told-15
     exactly-requires-9
     exactly-requires-10
-    enum-told-14
     exactly-requires-11
-    exactly-requires-12
-    enum-told-15
-    exactly-requires-13
     enum-told-16
-    exactly-requires-14
+    exactly-requires-12
+    exactly-requires-13
     enum-told-17
-    exactly-requires-15
+    exactly-requires-14
     enum-told-18
+    exactly-requires-15
+    enum-told-19
+    exactly-requires-16
+    enum-told-20
     returns
     returns-2
     returns-3
@@ -268,4 +294,6 @@ arguments-fit-spec =
     returns-15
     returns-16
     returns-17
-    returns-18)
+    returns-18
+    returns-19
+    returns-20)

@@ -29,13 +29,13 @@ unfolding messageOf
 returns-2 c =
     sym (choose-off _ _ _ (sym (c .before .before .before .before .same .ensures) ∙ c .before .before .before .if1 .left) ∙ choose-on _ _ _ (sym (c .before .same2 .ensures) ∙ c .if2 .taken))
 
-view-of-requires : tie.Need-view-of-requires
-view-of-requires c κs = search needs
+pieces-of-requires : tie.Need-pieces-of-requires
+pieces-of-requires c κs = search needs
 
 returns-3 : tie.Need-returns-3
 unfolding messageOf
 returns-3 c =
-    c .view-of .ensures ∙ sym (choose-off _ _ _ (sym (c .before .before .before .before .before .same .ensures) ∙ c .before .before .before .before .if1 .left) ∙ choose-off _ _ _ (sym (c .before .before .same2 .ensures) ∙ c .before .if2 .left))
+    c .pieces-of .ensures ∙ sym (choose-off _ _ _ (sym (c .before .before .before .before .before .same .ensures) ∙ c .before .before .before .before .if1 .left) ∙ choose-off _ _ _ (sym (c .before .before .same2 .ensures) ∙ c .before .if2 .left))
 
 pub message-of-spec : {M : Type 1} → statement M
 message-of-spec =
@@ -47,5 +47,5 @@ message-of-spec =
     slice-aggregate-same-2
     same-requires-2
     returns-2
-    view-of-requires
+    pieces-of-requires
     returns-3)
