@@ -23,6 +23,8 @@ pub struct Cover {
     pub most_records_in_a_life: usize,
     /// Records since the last accepted start.
     life: usize,
+    /// Since the last end.
+    pieces: usize,
 }
 
 const COMMANDS: &[&str] = &[
@@ -43,6 +45,8 @@ const COMMANDS: &[&str] = &[
     "quit",
     "pack",
     "unpack",
+    "piece",
+    "end",
 ];
 
 pub fn cover(seed: u64, count: u64) -> Cover {
@@ -72,6 +76,7 @@ impl Cover {
     fn take_script(&mut self, text: &str) {
         let mut panel = Panel::default();
         let script = lines(text.as_bytes());
+        self.pieces = 0;
         self.scripts += 1;
         self.longest = self.longest.max(script.len());
         for (i, line) in script.iter().enumerate() {
@@ -130,11 +135,13 @@ impl Cover {
             "vote" | "block" | "timeout" | "look" => self.take_records(&answered),
             "tray" if number == "0" => self.take_tray(&answered),
             "cert" | "proof" if number == "0" => self.take_written(command, answered[2]),
+            "piece" if number == "more" => self.pieces += 1,
+            "end" if number != "?" => self.take_end(number),
             "unpack" if number == "0" => self.note(format!("unpack 0, {} bytes", words[2].len() / 2)),
             "check" | "checkproof" if number != "?" => self.take_checked(&words, number),
             _ => {}
         }
-        if number == "15" {
+        if number == "15" && command.starts_with("check") {
             self.take_missing(&words, answered[1]);
         }
     }
@@ -159,6 +166,17 @@ impl Cover {
             let kind = record.split(',').next().unwrap_or("");
             *self.records.entry(kind.to_string()).or_insert(0) += 1;
         }
+    }
+
+    fn take_end(&mut self, number: &str) {
+        let pieces = match std::mem::take(&mut self.pieces) {
+            0 => "no piece",
+            1 => "one piece",
+            2 => "two pieces",
+            3..=20 => "3 to 20 pieces",
+            _ => "more pieces",
+        };
+        self.note(format!("end {number} after {pieces}"));
     }
 
     /// What the votes of a tray were answered, and how many there were.

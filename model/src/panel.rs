@@ -4,7 +4,7 @@ use crate::message::{self, Message};
 use crate::node::{is_slot, Node, Record, Vote};
 use crate::packet;
 use crate::refusal::Refusal;
-use crate::stakes::Family;
+use crate::stakes::{Family, Stakes};
 use std::collections::BTreeSet;
 
 /// Counted without the line's end.
@@ -18,8 +18,16 @@ const NOT_A_COMMAND: &str = "?";
 #[derive(Default)]
 pub struct Panel {
     pub node: Option<Node>,
+    /// A proof that arrives in pieces.
+    pieces: Option<Pieces>,
     /// Set by `quit`: nothing after it is read.
     pub ended: bool,
+}
+
+/// What was taken since the first piece, with the table that came with it.
+struct Pieces {
+    stakes: Vec<u64>,
+    bytes: Vec<u8>,
 }
 
 #[derive(Clone, PartialEq, Eq, Debug)]
@@ -60,6 +68,8 @@ enum Command {
     CheckProof { packet: Vec<u8>, stakes: Vec<u64> },
     Pack { count: u64, message: Message },
     Unpack { count: u64, bytes: Vec<u8> },
+    Piece { bytes: Vec<u8>, stakes: Vec<u64> },
+    End,
     Votes,
     VotesOfSlot { slot: u64, from: u64 },
     Board,
@@ -117,6 +127,11 @@ impl Panel {
             Command::CheckProof { packet, stakes } => show_checked(packet::check_proof(&packet, &stakes)?),
             Command::Pack { count, message } => show_packet(&message::write(count, message)?),
             Command::Unpack { count, bytes } => show_message(message::read(count, &bytes)?),
+            Command::Piece { bytes, stakes } => self.piece(bytes, stakes)?.to_string(),
+            Command::End => {
+                let pieces = self.pieces.take().ok_or(Refusal::PacketLength)?;
+                show_checked(packet::check_proof(&pieces.bytes, &pieces.stakes)?)
+            }
             Command::Votes => return self.node().map(|node| answer_votes(node)),
             Command::VotesOfSlot { slot, from } => {
                 return Ok(Answer::Lines(page_of_votes(self.node()?, slot, from)?))
@@ -125,6 +140,18 @@ impl Panel {
             Command::Help | Command::Why => return Ok(Answer::FreeText),
         };
         Ok(Answer::line(answer))
+    }
+
+    /// The table is looked at with the first piece alone.
+    fn piece(&mut self, bytes: Vec<u8>, stakes: Vec<u64>) -> Result<&'static str, Refusal> {
+        match &mut self.pieces {
+            Some(taken) => taken.bytes.extend(bytes),
+            None => {
+                Stakes::new(&stakes)?;
+                self.pieces = Some(Pieces { stakes, bytes });
+            }
+        }
+        Ok("more")
     }
 
     fn node(&mut self) -> Result<&mut Node, Refusal> {
@@ -197,6 +224,8 @@ fn parse(words: &[&[u8]]) -> Result<Command, Malformed> {
             let [count, kind, node, slot, block] = numbers(rest)?;
             Ok(Command::Pack { count, message: Message { kind, node, slot, block } })
         }
+        b"piece" => packet_and_stakes(rest).map(|(bytes, stakes)| Command::Piece { bytes, stakes }),
+        b"end" => numbers::<0>(rest).map(|_| Command::End),
         b"unpack" => match rest {
             [count, bytes] => Ok(Command::Unpack { count: number(count)?, bytes: hex(bytes)? }),
             _ => Err(Malformed),

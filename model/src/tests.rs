@@ -5,7 +5,7 @@ use crate::gen;
 use crate::message::{self, Message};
 use crate::node::{Cert, Node, Record};
 use crate::packet::{check, check_proof, put_number, take_number, write_cert, write_proof, Checked};
-use crate::panel::{lines, Answer, Panel, LONGEST_LINE};
+use crate::panel::{lines, show_hex, Answer, Panel, LONGEST_LINE};
 use crate::refusal::Refusal;
 use crate::stakes::{Signers, Stakes, MOST_NODES, P20, P40, P60, P80};
 
@@ -889,6 +889,59 @@ fn the_writer_prefers_kind_1() {
     assert_eq!(refused(write_proof(&n, 2, 8)), 18);
 }
 
+// ---- proofs in pieces ----
+
+/// Both forms, damaged ones, and one for a large table.
+fn some_proofs() -> Vec<(String, String)> {
+    let small = [
+        "0101070100",
+        "02010701000501000100",
+        "0201070100050100010000",
+        "0201070100050200",
+        "02010701000501000000",
+        "0301070100",
+        "80",
+        "8000",
+    ];
+    let mut proofs: Vec<(String, String)> =
+        small.iter().map(|hex| (hex.to_string(), "5".to_string())).collect();
+    let large = wide_cert(11, 1, 7, &[(0, !0), (1, 1)], &[]);
+    proofs.push((show_hex(&large), vec!["1"; 65].join(" ")));
+    proofs
+}
+
+#[test]
+fn wherever_the_cuts_fall_the_end_is_the_whole_packets_answer() {
+    for (hex, stakes) in some_proofs() {
+        let whole = run(&format!("checkproof {hex} {stakes}"));
+        for cut in (0..=hex.len()).step_by(2) {
+            let part = |part: &str| if part.is_empty() { "-".to_string() } else { part.to_string() };
+            let (head, tail) = (part(&hex[..cut]), part(&hex[cut..]));
+            let answers = run(&format!("piece {head} {stakes}\npiece -\npiece {tail} 0 0\nend\nend"));
+            assert_eq!(answers, ["more", "more", "more", whole[0].as_str(), "12"], "{hex} at {cut}");
+        }
+    }
+}
+
+#[test]
+fn pieces_and_their_table() {
+    // A refused table takes nothing; later ones are not looked at.
+    assert_eq!(run("piece 01 0\nend\npiece 01\nend"), ["1", "12", "1", "12"]);
+    assert_eq!(run("piece 0101 5\npiece 070100\nend"), ["more", "more", "0 1 1 7 1 5"]);
+    assert_eq!(
+        run("piece 0101 5\npiece 070100 x\npiece 070100 0\nend"),
+        ["more", "?", "more", "0 1 1 7 1 5"]
+    );
+    // A piece without bytes is a piece.
+    assert_eq!(run("piece - 5\nend\nend"), ["more", "12", "12"]);
+    assert_eq!(run("piece - 5\npiece 0101070100 0\nend"), ["more", "more", "0 1 1 7 1 5"]);
+    // A start does not touch what was taken, nor do other checks.
+    let script = "piece 0101 5\nstart 0 1 1 1\ncheckproof 01 5\npiece 070100\nend";
+    assert_eq!(run(script), ["more", "0", "12", "more", "0 1 1 7 1 5"]);
+    assert_eq!(run("piece 0201070000 5\nend"), ["more", "15 3"]);
+    assert_eq!(run("end 1\npiece"), ["?", "?"]);
+}
+
 // ---- large tables ----
 
 /// A mask of the large family, by its words that are not 0.
@@ -1224,6 +1277,8 @@ const POSSIBLE: &[(&str, &[u64])] = &[
     ("proof", &[0, 3, 5, 17, 18]),
     ("check", &[0, 1, 3, 4, 5, 12, 13, 14, 15]),
     ("checkproof", &[0, 1, 3, 4, 5, 12, 13, 14, 15, 16]),
+    ("piece", &[1]),
+    ("end", &[0, 4, 12, 13, 14, 15, 16]),
     ("votes", &[0, 17]),
     ("pack", &[0, 1, 2, 3, 4, 5]),
     ("unpack", &[0, 1, 2, 3, 4, 5, 12, 13]),
@@ -1301,6 +1356,11 @@ const BRANCHES: &[&str] = &[
     "checkproof 16, large table",
     "start with 66 to 128 nodes",
     "start with 129 to 2047 nodes",
+    "end 12 after no piece",
+    "end 0 after one piece",
+    "end 0 after two pieces",
+    "end 0 after 3 to 20 pieces",
+    "end 12 after 3 to 20 pieces",
     "tray of votes: none",
     "tray of votes: 1",
     "tray of votes: 2 to 99",
@@ -1312,6 +1372,7 @@ const BRANCHES: &[&str] = &[
 const SELDOM: &[&str] = &[
     "quit as the last line",
     "quit before the last line",
+    "end 12 after one piece",
     "cert written: kind 11",
     "proof written: kind 11",
     "proof written: kind 12 then 15",

@@ -26,8 +26,8 @@ fn inputs(page: &mut [u8], at: usize) -> usize {
     )
 }
 
-// The commands that ask something.
-fn questions(page: &mut [u8], at: usize) -> usize {
+// The commands of packets.
+fn packets(page: &mut [u8], at: usize) -> usize {
     let p = tell_line(
         page,
         at,
@@ -43,6 +43,17 @@ fn questions(page: &mut [u8], at: usize) -> usize {
         page,
         r,
         b"checkproof HEX STAKE..               0 KIND SLOT BLOCK SIGNERS WEIGHT, 15 MISSING",
+    )
+}
+
+// Those, and the commands of proofs in pieces: what the commands ask.
+fn questions(page: &mut [u8], at: usize) -> usize {
+    let p = packets(page, at);
+    let q = tell_line(page, p, b"piece HEX STAKE..                    more");
+    tell_line(
+        page,
+        q,
+        b"end                                  0 KIND SLOT BLOCK SIGNERS WEIGHT, 15 MISSING",
     )
 }
 
@@ -180,7 +191,7 @@ fn middle_refusal(page: &mut [u8], at: usize, n: u64) -> usize {
         12 => tell_line(
             page,
             at,
-            b"12: The packet ends early, or bytes remain; or a part of a vote ends a tray.",
+            b"12: The packet ends early, or bytes remain; or a part of a vote ends a tray; or no piece was taken before the end.",
         ),
         _ => early_refusal(page, at, n),
     }

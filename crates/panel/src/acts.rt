@@ -2,6 +2,8 @@
 ghost use Rattle.commands.specs.Commands.{Heard};
 use commands::Command;
 use commands::command_of;
+use piecing::end;
+use piecing::piece;
 use replies::Turn;
 use replies::answered;
 use script::word_at;
@@ -21,7 +23,14 @@ fn ask(page: &mut [u8], c: Command, line: &[u8], at: usize, rec: &[u64]) -> Turn
 
 // Answers a line, and tells what follows; nothing is answered where it has no word. A line that is none of the commands leaves record
 // and outbox as they were, and so does every command that only asks.
-pub fn obey(page: &mut [u8], line: &[u8], rec: &mut [u64], outbox: &mut [u64]) -> Turn
+pub fn obey(
+    page: &mut [u8],
+    line: &[u8],
+    rec: &mut [u64],
+    outbox: &mut [u64],
+    pieces: &mut [u64],
+    front: &mut [u8],
+) -> Turn
     ensures { λ _. ⌜ Heard (now (line .entry)) (now (rec .entry)) (now (outbox .entry)) (now (rec .exit)) (now (outbox .exit)) ⌝ }
 {
     let w = word_at(line, 0);
@@ -37,6 +46,8 @@ pub fn obey(page: &mut [u8], line: &[u8], rec: &mut [u64], outbox: &mut [u64]) -
         Command::Timeout => answered(timeout(page, line, at, rec, outbox)),
         Command::Look => answered(look(page, rec, outbox)),
         Command::Tray => answered(tray(page, line, at, rec, outbox)),
+        Command::Piece => answered(piece(page, line, at, pieces, front)),
+        Command::End => answered(end(page, pieces, front)),
         _ => ask(page, c, line, at, rec),
     }
 }

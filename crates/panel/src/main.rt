@@ -21,6 +21,11 @@ const RECORD_WORDS: usize = 246023;
 
 const OUTBOX_WORDS: usize = 480;
 
+// The words and bytes of a proof that arrives in pieces.
+const PIECES_WORDS: usize = 2050;
+
+const PIECES_BYTES: usize = 1341;
+
 // The line's bytes without a carriage return at their end.
 fn trimmed(line: &[u8]) -> usize {
     if line.len() == 0 {
@@ -43,14 +48,21 @@ fn is_comment(line: &[u8]) -> bool {
 }
 
 // Answers a line, its carriage return gone. A line that is too long gets ? whatever it holds, spaces alone or a comment too.
-fn answer(page: &mut [u8], line: &[u8], rec: &mut [u64], outbox: &mut [u64]) -> Turn {
+fn answer(
+    page: &mut [u8],
+    line: &[u8],
+    rec: &mut [u64],
+    outbox: &mut [u64],
+    pieces: &mut [u64],
+    front: &mut [u8],
+) -> Turn {
     if line.len() > LONGEST {
         return answered(malformed(page));
     }
     if is_comment(line) {
         return Turn::On;
     }
-    obey(page, line, rec, outbox)
+    obey(page, line, rec, outbox, pieces, front)
 }
 
 // Answers the line that stands in the front of the buffer.
@@ -60,6 +72,8 @@ fn finish_line(
     used: usize,
     rec: &mut [u64],
     outbox: &mut [u64],
+    pieces: &mut [u64],
+    front: &mut [u8],
 ) -> Turn {
     if used > buffer.len() {
         return Turn::On;
@@ -69,7 +83,7 @@ fn finish_line(
     if end > line.len() {
         return Turn::On;
     }
-    answer(page, &line[0..end], rec, outbox)
+    answer(page, &line[0..end], rec, outbox, pieces, front)
 }
 
 // Keeps a byte of a line, where there is room, and answers how many are kept.
@@ -89,6 +103,8 @@ fn take_byte(
     used: &mut usize,
     rec: &mut [u64],
     outbox: &mut [u64],
+    pieces: &mut [u64],
+    front: &mut [u8],
 ) -> Turn {
     if b != b'\n' {
         *used = keep(line, *used, b);
@@ -96,7 +112,7 @@ fn take_byte(
     }
     let kept = *used;
     *used = 0;
-    finish_line(page, line, kept, rec, outbox)
+    finish_line(page, line, kept, rec, outbox, pieces, front)
 }
 
 // Takes bytes of the script, up to the first answer after which nothing more is answered.
@@ -107,9 +123,11 @@ fn take(
     used: &mut usize,
     rec: &mut [u64],
     outbox: &mut [u64],
+    pieces: &mut [u64],
+    front: &mut [u8],
 ) -> Turn {
     for i in 0..bytes.len() {
-        let turn = take_byte(bytes[i], page, line, used, rec, outbox);
+        let turn = take_byte(bytes[i], page, line, used, rec, outbox, pieces, front);
         if !goes_on(turn) {
             return turn;
         }
@@ -125,6 +143,8 @@ fn take_piece(
     used: &mut usize,
     rec: &mut [u64],
     outbox: &mut [u64],
+    pieces: &mut [u64],
+    front: &mut [u8],
 ) -> Turn {
     let mut buffer = io::large_buffer();
     let got = libc::read(fd, &mut buffer);
@@ -135,7 +155,7 @@ fn take_piece(
         return Turn::End;
     }
     let n = io::count(got, &buffer);
-    take(&buffer[..n], page, line, used, rec, outbox)
+    take(&buffer[..n], page, line, used, rec, outbox, pieces, front)
 }
 
 // The turns that are left after one: one fewer, or none where nothing more is answered.
@@ -148,16 +168,24 @@ fn turns_left(more: bool, turns: u64) -> u64
 
 // Answers the whole script, and how it ended. A proved loop has to end and nothing says that a script does, so the turns are
 // counted down from a number that no run uses up.
-fn run(fd: i32, page: &mut [u8], line: &mut [u8], rec: &mut [u64], outbox: &mut [u64]) -> Turn {
+fn run(
+    fd: i32,
+    page: &mut [u8],
+    line: &mut [u8],
+    rec: &mut [u64],
+    outbox: &mut [u64],
+    pieces: &mut [u64],
+    front: &mut [u8],
+) -> Turn {
     let mut used: usize = 0;
     let mut last = Turn::On;
     let mut turns = u64::MAX;
     while turns > 0 {
-        last = take_piece(fd, page, line, &mut used, rec, outbox);
+        last = take_piece(fd, page, line, &mut used, rec, outbox, pieces, front);
         turns = turns_left(goes_on(last), turns);
     }
     match last {
-        Turn::End => finish_line(page, line, used, rec, outbox),
+        Turn::End => finish_line(page, line, used, rec, outbox, pieces, front),
         _ => last,
     }
 }
@@ -168,7 +196,17 @@ fn play(fd: i32) {
     let mut line = [0u8; LINE_ROOM];
     let mut rec = [0u64; RECORD_WORDS];
     let mut outbox = [0u64; OUTBOX_WORDS];
-    match run(fd, &mut page, &mut line, &mut rec, &mut outbox) {
+    let mut pieces = [0u64; PIECES_WORDS];
+    let mut front = [0u8; PIECES_BYTES];
+    match run(
+        fd,
+        &mut page,
+        &mut line,
+        &mut rec,
+        &mut outbox,
+        &mut pieces,
+        &mut front,
+    ) {
         Turn::Unwritten => os::fail(b"panel: an answer was not written whole, and none follows"),
         Turn::Unread => os::fail(b"panel: the script was not read to its end"),
         _ => {}

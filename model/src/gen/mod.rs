@@ -27,7 +27,7 @@ pub struct Script {
 pub fn script(seed: u64) -> Script {
     // The seed is stirred once, so that seeds in a row share nothing.
     let mut random = Random::new(Random::new(seed).next());
-    match random.below(53) {
+    match random.below(56) {
         0 => tiny(random),
         1 => before_start(random),
         2 => restarts(random),
@@ -46,6 +46,7 @@ pub fn script(seed: u64) -> Script {
         31 | 32 => trays(random),
         33..=38 => waits(random),
         39..=41 => ancestry(random),
+        42..=44 => in_pieces(random),
         _ => history(random),
     }
 }
@@ -327,6 +328,14 @@ fn messages(mut random: Random) -> Script {
     let mut w = Writer::new(random, ring, budget);
     messages::messages(&mut w);
     w.start();
+    end(w)
+}
+
+/// With a node or without: proofs in pieces ask for none.
+fn in_pieces(mut random: Random) -> Script {
+    let ring = if random.percent(80) { Ring::any(&mut random) } else { Ring::crowd(&mut random) };
+    let mut w = begin(random, ring, 20, 200);
+    packets::in_pieces(&mut w);
     end(w)
 }
 

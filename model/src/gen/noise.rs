@@ -8,7 +8,7 @@ use crate::random::Random;
 use crate::stakes::{MOST_NODES, MOST_TOTAL};
 
 pub fn some(w: &mut Writer, numbers: &Numbers) {
-    match w.random.below(16) {
+    match w.random.below(17) {
         0 | 1 => w.repeat_some_line(),
         2 => contradict(w, numbers),
         3 => contradict_block(w),
@@ -28,6 +28,10 @@ pub fn some(w: &mut Writer, numbers: &Numbers) {
         12 => malformed::line(w),
         13 => wrong_block(w, numbers),
         14 => for_people(w),
+        15 => {
+            let line = w.random.pick(&["end", "piece 01 5", "piece -", "piece 01070100", "piece - 1 1"]);
+            w.say(line);
+        }
         _ => {
             let line = bad_start(w);
             w.say(line);

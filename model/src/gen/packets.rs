@@ -417,3 +417,86 @@ fn around_threshold(random: &mut Random, ring: &Ring, meaning: u64, slot: u64) -
     let a = signers.into_iter().collect();
     encode(random, &Fields { kind: ring.kind(meaning), slot, block, a, b: Signers::new() }, false)
 }
+
+// ---- proofs in pieces ----
+
+/// Proofs of every sort, each cut anew; ends without a piece, refused tables
+/// and other lines between.
+pub fn in_pieces(w: &mut Writer) {
+    let fault = w.random.pick(&[0, 10, 40]);
+    while !w.full() {
+        let ring = w.ring.clone();
+        let mut packet = proof(&mut w.random, &ring, fault);
+        if w.random.percent(fault) {
+            packet = damage(&mut w.random, &packet);
+        }
+        match w.random.below(12) {
+            0 => every_cut(w, &packet),
+            1 => far_too_long(w, packet),
+            2 => {
+                let mut stakes = ring.stakes;
+                spoil_table(&mut w.random, &mut stakes);
+                piece(w, &packet, &stakes);
+                if w.random.percent(50) {
+                    w.say("end");
+                }
+            }
+            3 => {
+                w.say("end");
+            }
+            4 => w.start(),
+            5 => check(w, &packet, &ring.stakes),
+            _ => {
+                let cuts = w.random.pick(&[0, 1, 2, 5, packet.len().min(30)]);
+                let cuts = (0..cuts).map(|_| w.random.index(packet.len() + 1)).collect();
+                cut_up(w, &packet, cuts);
+            }
+        }
+    }
+}
+
+/// One piece after another up to the end; a cut twice is a piece without bytes.
+fn cut_up(w: &mut Writer, packet: &[u8], mut cuts: Vec<usize>) {
+    cuts.sort_unstable();
+    cuts.push(packet.len());
+    let mut begun = 0;
+    for cut in cuts {
+        // Later tables are not looked at.
+        let right = w.ring.stakes.clone();
+        let stakes = match w.random.below(10) {
+            _ if begun == 0 => right,
+            0 => right,
+            1 => other_stakes(&mut w.random, &right),
+            2 => vec![0],
+            _ => vec![],
+        };
+        piece(w, &packet[begun..cut], &stakes);
+        begun = cut;
+    }
+    w.say("end");
+}
+
+/// In two pieces, at every place or at some of them.
+fn every_cut(w: &mut Writer, packet: &[u8]) {
+    let mut places: Vec<usize> = (0..=packet.len()).collect();
+    if packet.len() > 30 {
+        w.random.shuffle(&mut places);
+        places.truncate(20);
+    }
+    for cut in places {
+        cut_up(w, packet, vec![cut]);
+    }
+}
+
+/// More bytes than any proof has, behind a good one or a bad one.
+fn far_too_long(w: &mut Writer, mut packet: Vec<u8>) {
+    let length = w.random.pick(&[100, 1400, 1600, 5000]);
+    let byte = w.random.pick(&[0, 1, 0x80, 0xFF]);
+    packet.resize(packet.len() + length, byte);
+    let cuts = (0..w.random.below(12)).map(|_| w.random.index(packet.len() + 1)).collect();
+    cut_up(w, &packet, cuts);
+}
+
+fn piece(w: &mut Writer, bytes: &[u8], stakes: &[u64]) {
+    w.say(format!("piece {} {}", show_hex(bytes), words(stakes)).trim_end().to_string());
+}
