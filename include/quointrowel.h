@@ -43,12 +43,12 @@ enum qr_number {
                              a list too short for all lines of a comparison */
     QR_NOT_ARMED = 10,    /* timeout for a window that is not armed */
     QR_BAD_PARENT = 11,   /* parent slot not below the slot, or slot 0 without genesis */
-    QR_BAD_LENGTH = 12,   /* packet ends early, or bytes remain; a part of a vote ends a tray */
+    QR_BAD_LENGTH = 12,   /* packet ends early, or bytes remain; a part of a vote ends a tray; an end with no piece before it */
     QR_BAD_NUMBER = 13,   /* number not shortest, or above 64 bits */
     QR_BAD_SIGNERS = 14,  /* signer beyond the table, in both masks, or B where 0 is due */
     QR_TOO_LIGHT = 15,    /* weight below the threshold; a check says how much is missing */
     QR_NOT_A_PROOF = 16,  /* not one of the two proof forms */
-    QR_BAD_RECORD = 17,   /* the words are no node's record */
+    QR_BAD_RECORD = 17,   /* the words are no node's record; the state is not one of a proof in pieces */
     QR_NOT_HELD = 18      /* certificate or proof asked for is not held */
 };
 
@@ -97,6 +97,8 @@ enum qr_size {
     QR_LARGE_PROOF_BYTES = 1536,
     QR_VOTE_BYTES = 16,        /* bytes of a buffer for a vote message, or more, with any table */
     QR_LINE_WORDS = 5,         /* words of a line in a list of differences */
+    QR_PIECES_WORDS = 2050,    /* words of the state of a proof in pieces, exactly */
+    QR_PIECES_BYTES = 1341,    /* and bytes of it, exactly */
     QR_MOST_SMALL = 64,        /* a table of more nodes is large: its certificates have kinds 11 to 15 */
     QR_MOST_NODES = 2048,
     QR_LAST_SLOT = 16
@@ -112,6 +114,10 @@ enum qr_size {
 size_t qr_record_words(size_t stake_count);
 
 size_t qr_outbox_words(void);
+
+size_t qr_pieces_words(void);
+
+size_t qr_pieces_bytes(void);
 
 /*
  * Makes the record's words a fresh node: stakes of nodes 0, 1 .. (1 to 2,048 of them, each at least 1, together at most
@@ -179,6 +185,25 @@ uint64_t qr_check_certificate(const uint64_t *stakes, size_t stake_count, const 
 
 uint64_t qr_check_proof(const uint64_t *stakes, size_t stake_count, const uint8_t *packet, size_t packet_bytes,
                         uint64_t values[5], uint64_t *missing);
+
+/*
+ * A finality proof that arrives in pieces. The host lends a state, QR_PIECES_WORDS words and QR_PIECES_BYTES bytes, and makes it
+ * all 0 before the first piece: then nothing has been taken. It is lent again, as the call before left it, to each later call.
+ * Of the packet it keeps as many bytes as a proof's answer can depend on, whatever its length.
+ *
+ * qr_piece takes the next bytes of the packet, none too. The stakes that come with the first piece are kept until the end, those
+ * that come later are not looked at. Answers 0, which stands for "more"; with the first piece 1 where the stakes are no table,
+ * and then nothing is taken; 17 where the state has another length, a mark out of range, or is not all 0 where its mark is 0.
+ *
+ * qr_end answers what qr_check_proof answers of all bytes since the first piece, wherever they were cut; afterwards the state is
+ * all 0, for the next proof. 12 where no piece has been taken, and 17, which leaves the state as found, where it is none that
+ * these calls leave: beside what a piece looks at, a kept table that is none, or something behind the stakes or the kept bytes.
+ */
+uint64_t qr_piece(uint64_t *words, size_t word_count, uint8_t *front, size_t front_bytes, const uint64_t *stakes,
+                  size_t stake_count, const uint8_t *bytes, size_t byte_count);
+
+uint64_t qr_end(uint64_t *words, size_t word_count, uint8_t *front, size_t front_bytes, uint64_t values[5],
+                uint64_t *missing);
 
 /*
  * A vote as a message between members: kind, node, slot and block in the packets' numbers, at most 16 bytes, in small and

@@ -1,6 +1,6 @@
 /* Bench cases B1 and B9 of the scope document, through the C face: one node of stake 5, one block, its finality proof; and a
    proof that is too light, with what is missing. Then a vote as a message, a tray of votes, and a ring of 100 nodes, whose
-   certificates have the kinds 11 to 15. */
+   certificates have the kinds 11 to 15. Last a proof that comes byte by byte. */
 #include <inttypes.h>
 #include <stdio.h>
 
@@ -52,6 +52,31 @@ static void show_tray(uint64_t *record, uint64_t *outbox)
         printf(" %" PRIu64, answers[i]);
     number = qr_tray(record, QR_RECORD_WORDS(3), outbox, QR_OUTBOX_WORDS, &made, votes, 15, answers, 3);
     printf("; a part at the end: %" PRIu64 "\n", number);
+}
+
+/* A proof that comes byte by byte, one that is cut short, and an end with no piece before it. */
+static void show_pieces(const uint64_t *stakes, size_t stake_count, const uint8_t *proof, size_t proof_bytes)
+{
+    static uint64_t words[QR_PIECES_WORDS];
+    static uint8_t front[QR_PIECES_BYTES];
+    uint64_t values[5], missing;
+    printf("pieces:");
+    for (size_t i = 0; i < proof_bytes; i++)
+        printf(" %" PRIu64, qr_piece(words, QR_PIECES_WORDS, front, QR_PIECES_BYTES, stakes, i == 0 ? stake_count : 0, proof + i, 1));
+    printf("\n");
+    uint64_t number = qr_end(words, QR_PIECES_WORDS, front, QR_PIECES_BYTES, values, &missing);
+    show_check("their end", number, values, missing);
+    number = qr_piece(words, QR_PIECES_WORDS, front, QR_PIECES_BYTES, stakes, stake_count, proof, proof_bytes - 1);
+    printf("cut short: %" PRIu64, number);
+    number = qr_end(words, QR_PIECES_WORDS, front, QR_PIECES_BYTES, values, &missing);
+    printf(", end: %" PRIu64, number);
+    number = qr_end(words, QR_PIECES_WORDS, front, QR_PIECES_BYTES, values, &missing);
+    printf("; no piece: %" PRIu64, number);
+    number = qr_piece(words, QR_PIECES_WORDS, front, QR_PIECES_BYTES, stakes, 0, proof, 1);
+    printf("; no stakes: %" PRIu64, number);
+    words[0] = 1;
+    number = qr_end(words, QR_PIECES_WORDS, front, QR_PIECES_BYTES, values, &missing);
+    printf("; a state that no call left: %" PRIu64 "\n", number);
 }
 
 /* Up to four blocks of a slot are kept, each number with one parent. */
@@ -185,7 +210,8 @@ int main(void)
     uint8_t packet[QR_PROOF_BYTES];
     size_t made, written;
 
-    if (qr_record_words(3) != QR_RECORD_WORDS(3) || qr_outbox_words() != QR_OUTBOX_WORDS) {
+    if (qr_record_words(3) != QR_RECORD_WORDS(3) || qr_outbox_words() != QR_OUTBOX_WORDS
+        || qr_pieces_words() != QR_PIECES_WORDS || qr_pieces_bytes() != QR_PIECES_BYTES) {
         fprintf(stderr, "the library is not of this header\n");
         return 1;
     }
@@ -214,5 +240,6 @@ int main(void)
     show_blocks(record, outbox);
     show_large(outbox);
     show_differences(record, outbox);
+    show_pieces(stakes, 1, long_proof, sizeof long_proof);
     return 0;
 }

@@ -1357,7 +1357,6 @@ const BRANCHES: &[&str] = &[
     "start with 66 to 128 nodes",
     "start with 129 to 2047 nodes",
     "end 12 after no piece",
-    "end 0 after one piece",
     "end 0 after two pieces",
     "end 0 after 3 to 20 pieces",
     "end 12 after 3 to 20 pieces",
@@ -1370,6 +1369,7 @@ const BRANCHES: &[&str] = &[
 
 /// These end a run, take long or ask for much at once, so they are seldom.
 const SELDOM: &[&str] = &[
+    "end 0 after one piece",
     "quit as the last line",
     "quit before the last line",
     "end 12 after one piece",

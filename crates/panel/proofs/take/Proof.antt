@@ -7,11 +7,12 @@ use Rattle.panel.proofs.take.Statement.{statement}
 use Rattle.panel.proofs.take.Tie as tie
 
 abbrev Inv-loop : tie.InvT-loop
-Inv-loop bytes page₀ line₀ used₀ rec₀ outbox₀ i₀ i-end page line used rec outbox i =
+Inv-loop bytes page₀ line₀ used₀ rec₀ outbox₀ pieces₀ front₀ i₀ i-end page line used rec outbox pieces front i =
     (i-end ≡ length bytes) × (length page ≡ length page₀) × (length line ≡ length line₀) × (length rec ≡ length rec₀) × (length outbox ≡ length outbox₀)
+    × (length pieces ≡ length pieces₀) × (length front ≡ length front₀)
 
 abbrev μ-loop : tie.MeasureT-loop
-μ-loop bytes page₀ line₀ used₀ rec₀ outbox₀ i₀ i-end page line used rec outbox i =
+μ-loop bytes page₀ line₀ used₀ rec₀ outbox₀ pieces₀ front₀ i₀ i-end page line used rec outbox pieces front i =
     i-end - i
 
 loop-holds : tie.Need-loop-holds Inv-loop μ-loop
@@ -38,6 +39,12 @@ same-length-3 c = search needs
 same-length-4 : tie.Need-same-length-4 Inv-loop μ-loop
 same-length-4 c = search needs
 
+same-length-5 : tie.Need-same-length-5 Inv-loop μ-loop
+same-length-5 c = search needs
+
+same-length-6 : tie.Need-same-length-6 Inv-loop μ-loop
+same-length-6 c = search needs
+
 returns : tie.Need-returns Inv-loop μ-loop
 returns c = search needs
 
@@ -50,17 +57,23 @@ loop-less c = search needs
 loop-again : tie.Need-loop-again Inv-loop μ-loop
 loop-again c = search needs
 
-same-length-5 : tie.Need-same-length-5 Inv-loop μ-loop
-same-length-5 c = search needs
-
-same-length-6 : tie.Need-same-length-6 Inv-loop μ-loop
-same-length-6 c = search needs
-
 same-length-7 : tie.Need-same-length-7 Inv-loop μ-loop
 same-length-7 c = search needs
 
 same-length-8 : tie.Need-same-length-8 Inv-loop μ-loop
 same-length-8 c = search needs
+
+same-length-9 : tie.Need-same-length-9 Inv-loop μ-loop
+same-length-9 c = search needs
+
+same-length-10 : tie.Need-same-length-10 Inv-loop μ-loop
+same-length-10 c = search needs
+
+same-length-11 : tie.Need-same-length-11 Inv-loop μ-loop
+same-length-11 c = search needs
+
+same-length-12 : tie.Need-same-length-12 Inv-loop μ-loop
+same-length-12 c = search needs
 
 returns-2 : tie.Need-returns-2 Inv-loop μ-loop
 returns-2 c = search needs
@@ -79,12 +92,16 @@ take-spec =
     same-length-2
     same-length-3
     same-length-4
+    same-length-5
+    same-length-6
     returns
     add-i
     loop-less
     loop-again
-    same-length-5
-    same-length-6
     same-length-7
     same-length-8
+    same-length-9
+    same-length-10
+    same-length-11
+    same-length-12
     returns-2)

@@ -70,6 +70,24 @@ tray-requires c κs = search needs
 answered-requires-6 : tie.Need-answered-requires-6
 answered-requires-6 c κs = search needs
 
+enum-told-7 : tie.Need-enum-told-7
+enum-told-7 c = search needs
+
+piece-requires : tie.Need-piece-requires
+piece-requires c κs = search needs
+
+answered-requires-7 : tie.Need-answered-requires-7
+answered-requires-7 c κs = search needs
+
+enum-told-8 : tie.Need-enum-told-8
+enum-told-8 c = search needs
+
+end-requires : tie.Need-end-requires
+end-requires c κs = search needs
+
+answered-requires-8 : tie.Need-answered-requires-8
+answered-requires-8 c κs = search needs
+
 ask-requires : tie.Need-ask-requires
 ask-requires c κs = search needs
 
@@ -82,7 +100,7 @@ same-length-2 c = search needs
 returns-2 : tie.Need-returns-2
 unfolding tells
 returns-2 c =
-    telling (c .before .before .before .before .before .before .before .before .before .before .before .before .before .before .before .before .before .before .args .line .now) (c .before .before .before .before .before .before .before .before .before .before .command-of .result) command.Start (c .before .before .before .before .before .before .before .before .before .before .command-of .ensures) (c .before .before .before .before .before .before .before .before .enum-told .given .1) refl _ _ _ _
+    telling (c .before .before .before .before .before .before .before .before .before .before .before .before .before .before .before .before .before .before .before .before .args .line .now) (c .before .before .before .before .before .before .before .before .before .before .command-of .result) command.Start (c .before .before .before .before .before .before .before .before .before .before .command-of .ensures) (c .before .before .before .before .before .before .before .before .enum-told .given .1) refl _ _ _ _
 
 same-length-3 : tie.Need-same-length-3
 same-length-3 c = search needs
@@ -96,7 +114,7 @@ same-length-5 c = search needs
 returns-3 : tie.Need-returns-3
 unfolding tells
 returns-3 c =
-    telling (c .before .before .before .before .before .before .before .before .before .before .before .before .before .before .before .before .before .before .before .before .before .args .line .now) (c .before .before .before .before .before .before .before .before .before .before .before .before .before .command-of .result) command.Vote (c .before .before .before .before .before .before .before .before .before .before .before .before .before .command-of .ensures) (c .before .before .before .before .before .before .before .before .before .before .before .enum-told2 .given .1) refl _ _ _ _
+    telling (c .before .before .before .before .before .before .before .before .before .before .before .before .before .before .before .before .before .before .before .before .before .before .before .args .line .now) (c .before .before .before .before .before .before .before .before .before .before .before .before .before .command-of .result) command.Vote (c .before .before .before .before .before .before .before .before .before .before .before .before .before .command-of .ensures) (c .before .before .before .before .before .before .before .before .before .before .before .enum-told2 .given .1) refl _ _ _ _
 
 same-length-6 : tie.Need-same-length-6
 same-length-6 c = search needs
@@ -110,7 +128,7 @@ same-length-8 c = search needs
 returns-4 : tie.Need-returns-4
 unfolding tells
 returns-4 c =
-    telling (c .before .before .before .before .before .before .before .before .before .before .before .before .before .before .before .before .before .before .before .before .before .args .line .now) (c .before .before .before .before .before .before .before .before .before .before .before .before .before .command-of .result) command.Block (c .before .before .before .before .before .before .before .before .before .before .before .before .before .command-of .ensures) (c .before .before .before .before .before .before .before .before .before .before .before .enum-told3 .given .1) refl _ _ _ _
+    telling (c .before .before .before .before .before .before .before .before .before .before .before .before .before .before .before .before .before .before .before .before .before .before .before .args .line .now) (c .before .before .before .before .before .before .before .before .before .before .before .before .before .command-of .result) command.Block (c .before .before .before .before .before .before .before .before .before .before .before .before .before .command-of .ensures) (c .before .before .before .before .before .before .before .before .before .before .before .enum-told3 .given .1) refl _ _ _ _
 
 same-length-9 : tie.Need-same-length-9
 same-length-9 c = search needs
@@ -124,7 +142,7 @@ same-length-11 c = search needs
 returns-5 : tie.Need-returns-5
 unfolding tells
 returns-5 c =
-    telling (c .before .before .before .before .before .before .before .before .before .before .before .before .before .before .before .before .before .before .before .before .before .args .line .now) (c .before .before .before .before .before .before .before .before .before .before .before .before .before .command-of .result) command.Timeout (c .before .before .before .before .before .before .before .before .before .before .before .before .before .command-of .ensures) (c .before .before .before .before .before .before .before .before .before .before .before .enum-told4 .given .1) refl _ _ _ _
+    telling (c .before .before .before .before .before .before .before .before .before .before .before .before .before .before .before .before .before .before .before .before .before .before .before .args .line .now) (c .before .before .before .before .before .before .before .before .before .before .before .before .before .command-of .result) command.Timeout (c .before .before .before .before .before .before .before .before .before .before .before .before .before .command-of .ensures) (c .before .before .before .before .before .before .before .before .before .before .before .enum-told4 .given .1) refl _ _ _ _
 
 same-length-12 : tie.Need-same-length-12
 same-length-12 c = search needs
@@ -138,7 +156,7 @@ same-length-14 c = search needs
 returns-6 : tie.Need-returns-6
 unfolding tells
 returns-6 c =
-    telling (c .before .before .before .before .before .before .before .before .before .before .before .before .before .before .before .before .before .before .before .before .before .args .line .now) (c .before .before .before .before .before .before .before .before .before .before .before .before .before .command-of .result) command.Look (c .before .before .before .before .before .before .before .before .before .before .before .before .before .command-of .ensures) (c .before .before .before .before .before .before .before .before .before .before .before .enum-told5 .given .1) refl _ _ _ _
+    telling (c .before .before .before .before .before .before .before .before .before .before .before .before .before .before .before .before .before .before .before .before .before .before .before .args .line .now) (c .before .before .before .before .before .before .before .before .before .before .before .before .before .command-of .result) command.Look (c .before .before .before .before .before .before .before .before .before .before .before .before .before .command-of .ensures) (c .before .before .before .before .before .before .before .before .before .before .before .enum-told5 .given .1) refl _ _ _ _
 
 same-length-15 : tie.Need-same-length-15
 same-length-15 c = search needs
@@ -152,7 +170,7 @@ same-length-17 c = search needs
 returns-7 : tie.Need-returns-7
 unfolding tells
 returns-7 c =
-    telling (c .before .before .before .before .before .before .before .before .before .before .before .before .before .before .before .before .before .before .before .before .before .args .line .now) (c .before .before .before .before .before .before .before .before .before .before .before .before .before .command-of .result) command.Tray (c .before .before .before .before .before .before .before .before .before .before .before .before .before .command-of .ensures) (c .before .before .before .before .before .before .before .before .before .before .before .enum-told6 .given .1) refl _ _ _ _
+    telling (c .before .before .before .before .before .before .before .before .before .before .before .before .before .before .before .before .before .before .before .before .before .before .before .args .line .now) (c .before .before .before .before .before .before .before .before .before .before .before .before .before .command-of .result) command.Tray (c .before .before .before .before .before .before .before .before .before .before .before .before .before .command-of .ensures) (c .before .before .before .before .before .before .before .before .before .before .before .enum-told6 .given .1) refl _ _ _ _
 
 same-length-18 : tie.Need-same-length-18
 same-length-18 c = search needs
@@ -160,8 +178,32 @@ same-length-18 c = search needs
 same-length-19 : tie.Need-same-length-19
 same-length-19 c = search needs
 
+same-length-20 : tie.Need-same-length-20
+same-length-20 c = search needs
+
 returns-8 : tie.Need-returns-8
 returns-8 c = search needs
+
+same-length-21 : tie.Need-same-length-21
+same-length-21 c = search needs
+
+same-length-22 : tie.Need-same-length-22
+same-length-22 c = search needs
+
+same-length-23 : tie.Need-same-length-23
+same-length-23 c = search needs
+
+returns-9 : tie.Need-returns-9
+returns-9 c = search needs
+
+same-length-24 : tie.Need-same-length-24
+same-length-24 c = search needs
+
+same-length-25 : tie.Need-same-length-25
+same-length-25 c = search needs
+
+returns-10 : tie.Need-returns-10
+returns-10 c = search needs
 
 pub obey-spec : {M : Type 1} → statement M
 obey-spec =
@@ -188,6 +230,12 @@ obey-spec =
     enum-told-6
     tray-requires
     answered-requires-6
+    enum-told-7
+    piece-requires
+    answered-requires-7
+    enum-told-8
+    end-requires
+    answered-requires-8
     ask-requires
     same-length
     same-length-2
@@ -214,4 +262,12 @@ obey-spec =
     returns-7
     same-length-18
     same-length-19
-    returns-8)
+    same-length-20
+    returns-8
+    same-length-21
+    same-length-22
+    same-length-23
+    returns-9
+    same-length-24
+    same-length-25
+    returns-10)
