@@ -27,7 +27,7 @@ pub struct Script {
 pub fn script(seed: u64) -> Script {
     // The seed is stirred once, so that seeds in a row share nothing.
     let mut random = Random::new(Random::new(seed).next());
-    match random.below(56) {
+    match random.below(58) {
         0 => tiny(random),
         1 => before_start(random),
         2 => restarts(random),
@@ -42,9 +42,9 @@ pub fn script(seed: u64) -> Script {
         22..=24 => standoffs(random),
         25 | 26 => bridges(random),
         27 | 28 => leaps(random),
-        29 | 30 => messages(random),
+        29 | 30 | 45 => messages(random),
         31 | 32 => trays(random),
-        33..=38 => waits(random),
+        33..=38 | 46 => waits(random),
         39..=41 => ancestry(random),
         42..=44 => in_pieces(random),
         _ => history(random),
