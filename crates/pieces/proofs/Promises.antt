@@ -1,6 +1,6 @@
 -- The promises of proofs in pieces.
 use mathlib.Core.Path.{_≡_, refl, sym, ap, ap₂, _∙_}
-use mathlib.Core.Bool.{true}
+use mathlib.Core.Bool.{Bool, true, false}
 use mathlib.Core.List.{List, [], _∷_, _++_, append-assoc, append-nil}
 use Prim.Native.Nat.{ℕ, suc, _+_, _-_, _≤_}
 use native.Mathlib.Omega.{arith}
@@ -10,19 +10,20 @@ use lib.Dec.{eqb}
 use borrow.Author.Tests.{eqb-true, eqb-false}
 use Rattle.rulebook.specs.declared.CheckAnswer.{CheckAnswer}
 use Rattle.rulebook.specs.declared.CheckAnswer.the-variants as check
+use Rattle.rulebook.specs.declared.Refusal.{Refusal}
 use Rattle.rulebook.specs.declared.Refusal.the-variants as refusal
 use Rattle.rulebook.specs.Weights.{stakesFit}
 use Rattle.rulebook.specs.Ledger.{none}
 use Rattle.rulebook.specs.Checker.{checkProof}
-use Rattle.rulebook.proofs.ToolLaws.{given-on, given-off, by-test}
+use Rattle.rulebook.proofs.ToolLaws.{given-on, given-off, by-test, true-not-false}
 use Rattle.pieces.specs.declared.PieceAnswer.{PieceAnswer}
 use Rattle.pieces.specs.declared.PieceAnswer.the-variants as answer
 use Rattle.pieces.specs.Pieces.{Taken, nothing, since, afterPiece, pieceAnswer, endAnswer, Asked, piece, end, Said, ofPiece, ofEnd, said, afterCall, saidBy, afterCalls, Piece, calls, packet, mores}
-use Rattle.pieces.specs.State.{stateWords, frontBytes, mark, kept, nodes, table, front, blank, isWhole, keptFront, PieceOf, EndOf, wordsOf, bytesOf}
-use Rattle.pieces.specs.Promises.{FrontDecides, Call, Meets, asPiece, asEnd, Calls, noMore, called, askedIn, answeredIn, lastWords, lastBytes, zeroWords, zeroBytes, CallsAnswer, CutsAnywhere, EndWithoutPiece, TableRefused, LeftByCalls, WholeIsLeft, EndAnew, PieceOne, EndOne}
+use Rattle.pieces.specs.State.{stateWords, frontBytes, mark, kept, nodes, table, front, blank, isReady, isWhole, keptFront, PieceOf, EndOf, wordsOf, bytesOf}
+use Rattle.pieces.specs.Promises.{FrontDecides, Call, Meets, asPiece, asEnd, Calls, noMore, called, askedIn, answeredIn, lastWords, lastBytes, zeroWords, zeroBytes, CallsAnswer, CutsAnywhere, EndWithoutPiece, TableRefused, LeftByCalls, WholeIsLeft, PieceRefused, EndAnew, PieceOne, EndOne}
 use Rattle.pieces.proofs.Runs.{blank-zeros}
 use Rattle.pieces.proofs.Tests.{ready-words, ready-bytes, ready-within, ready-blank, whole-ready, whole-held, table-held}
-use Rattle.pieces.proofs.Ways.{end-broken, piece-more, piece-unfit, piece-first, end-nothing, end-whole}
+use Rattle.pieces.proofs.Ways.{end-broken, piece-unready, piece-more, piece-unfit, piece-first, end-nothing, end-whole}
 use Rattle.pieces.proofs.Front as decided
 use Rattle.pieces.proofs.Held.{zeros, since-ready, since-whole, since-begun, since-table, since-front, words-more, bytes-more, words-first, bytes-first, nothing-mark, nothing-ready, nothing-whole}
 
@@ -292,3 +293,29 @@ whole-taken ws bs r ws' bs' h e =
 pub end-anew : EndAnew
 end-anew ws bs r ws' bs' h =
     (whole-taken ws bs r ws' bs' h, λ e. end-one ws bs r (check.Refused refusal.BadRecord) ws' ws bs' bs h (end-broken ws bs e))
+
+-- ---- a refused piece
+
+isMore : PieceAnswer → Bool
+isMore answer.More = true
+isMore (answer.Refused r) = false
+
+-- No contract allows a refusal where the piece is taken.
+not-more : {X : Type 0} (ws bs stakes bytes : List ℕ) (r : Refusal) (ws' bs' left front : List ℕ) → PieceOf ws bs stakes bytes (answer.Refused r) ws' bs'
+    → PieceOf ws bs stakes bytes answer.More left front → X
+unfolding isMore
+not-more ws bs stakes bytes r ws' bs' left front h m =
+    let e : answer.Refused r ≡ answer.More = piece-one ws bs stakes bytes (answer.Refused r) answer.More ws' left bs' front h m .0 in
+    true-not-false (isMore answer.More) refl (sym (ap isMore e))
+
+pub piece-refused : PieceRefused
+piece-refused ws bs stakes bytes r ws' bs' h =
+    let same : (x : PieceAnswer) → PieceOf ws bs stakes bytes x ws bs → (ws' ≡ ws) × (bs' ≡ bs) =
+    (λ x m. let i = piece-one ws bs stakes bytes (answer.Refused r) x ws' ws bs' bs h m in (i .1, i .2)) in
+    by-test (isReady ws bs)
+    (λ e. by-test (eqb (mark ws) 0)
+    (λ t. by-test (stakesFit stakes (length stakes))
+    (λ f. not-more ws bs stakes bytes r ws' bs' _ _ h (piece-first ws bs stakes bytes e (eqb-true (mark ws) 0 t) f refl (record { words = refl; front = refl })))
+    (λ f. same (answer.Refused refusal.BadSizes) (piece-unfit ws bs stakes bytes e (eqb-true (mark ws) 0 t) f)))
+    (λ t. not-more ws bs stakes bytes r ws' bs' _ _ h (piece-more ws bs stakes bytes e (eqb-false (mark ws) 0 t) (record { words = refl; front = refl }))))
+    (λ e. same (answer.Refused refusal.BadRecord) (piece-unready ws bs stakes bytes e))

@@ -6,6 +6,7 @@ use Prim.Native.Nat.{ℕ}
 use lib.ListN.{length, replicate, take}
 use Rattle.rulebook.specs.declared.CheckAnswer.{CheckAnswer}
 use Rattle.rulebook.specs.declared.CheckAnswer.the-variants as check
+use Rattle.rulebook.specs.declared.Refusal.{Refusal}
 use Rattle.rulebook.specs.declared.Refusal.the-variants as refusal
 use Rattle.rulebook.specs.Weights.{stakesFit}
 use Rattle.rulebook.specs.Checker.{checkProof}
@@ -104,6 +105,11 @@ pub record LeftByCalls (ws bs : List ℕ) : Type 0 where
 
 abbrev pub WholeIsLeft : Type 0
 WholeIsLeft = (ws bs : List ℕ) → (isWhole ws bs ≡ true → LeftByCalls ws bs) × (LeftByCalls ws bs → isWhole ws bs ≡ true)
+
+-- A refused piece leaves the state as found.
+abbrev pub PieceRefused : Type 0
+PieceRefused =
+    (ws bs stakes bytes : List ℕ) (r : Refusal) (ws' bs' : List ℕ) → PieceOf ws bs stakes bytes (answer.Refused r) ws' bs' → (ws' ≡ ws) × (bs' ≡ bs)
 
 -- A state that calls left is all 0 after the end, whatever was answered; any other is as found.
 abbrev pub EndAnew : Type 0
