@@ -9,3 +9,4 @@ pub mod Figured
 pub mod Printed
 pub mod Families
 pub mod Differs
+pub mod Pieces

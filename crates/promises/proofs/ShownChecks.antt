@@ -49,7 +49,7 @@ told-five stakes found.Early = refl
 told-five stakes found.Malformed = refl
 
 -- Five zeros beside a refusal.
-refusal-shown : (stakes : List ℕ) (x : Found) (r : Refusal) → checkPanel (length stakes) (check.Refused r) ≡ shown (Refused r) (toldOf stakes x)
+pub refusal-shown : (stakes : List ℕ) (x : Found) (r : Refusal) → checkPanel (length stakes) (check.Refused r) ≡ shown (Refused r) (toldOf stakes x)
 unfolding checkNumber checkValues shown besideIt verdictNumber
 refusal-shown stakes x r = ap (λ (n : ℕ). record { number = refusalNumber r; values = replicate n 0 }) (sym (told-five stakes x))
 

@@ -7,3 +7,4 @@ pub mod Figures
 pub mod Printed
 pub mod Families
 pub mod Differs
+pub mod Pieces
