@@ -2,8 +2,9 @@
 //! branches of the rules, and the forms of packets.
 
 use crate::gen;
+use crate::node::{Node, LAST_SLOT};
 use crate::packet;
-use crate::panel::{lines, Answer, Panel};
+use crate::panel::{lines, Answer, Panel, MOST_LINES};
 use crate::refusal::Refusal;
 use crate::stakes::{Family, Stakes};
 use std::collections::BTreeMap;
@@ -47,6 +48,8 @@ const COMMANDS: &[&str] = &[
     "unpack",
     "piece",
     "end",
+    "aside",
+    "differ",
 ];
 
 pub fn cover(seed: u64, count: u64) -> Cover {
@@ -82,7 +85,7 @@ impl Cover {
         for (i, line) in script.iter().enumerate() {
             if let Some(answer) = panel.line(line) {
                 self.commands += 1;
-                self.take_answer(&String::from_utf8_lossy(line), answer);
+                self.take_answer(&panel, &String::from_utf8_lossy(line), answer);
                 self.take_notes(&mut panel);
             }
             if panel.ended {
@@ -108,7 +111,7 @@ impl Cover {
         }
     }
 
-    fn take_answer(&mut self, line: &str, answer: Answer) {
+    fn take_answer(&mut self, panel: &Panel, line: &str, answer: Answer) {
         let words: Vec<&str> = line.split_ascii_whitespace().collect();
         let command = match words.first() {
             Some(word) if COMMANDS.contains(word) => word,
@@ -137,6 +140,7 @@ impl Cover {
             "cert" | "proof" if number == "0" => self.take_written(command, answered[2]),
             "piece" if number == "more" => self.pieces += 1,
             "end" if number != "?" => self.take_end(number),
+            "differ" if number != "?" => self.take_differ(panel, &answered),
             "unpack" if number == "0" => self.note(format!("unpack 0, {} bytes", words[2].len() / 2)),
             "check" | "checkproof" if number != "?" => self.take_checked(&words, number),
             _ => {}
@@ -177,6 +181,70 @@ impl Cover {
             _ => "more pieces",
         };
         self.note(format!("end {number} after {pieces}"));
+    }
+
+    /// What a comparison found, and between which nodes.
+    fn take_differ(&mut self, panel: &Panel, answered: &[&str]) {
+        let (aside, node) = match (&panel.aside, &panel.node) {
+            (Some(aside), Some(node)) => (aside, node),
+            (_, Some(_)) => return self.note("differ: nothing aside"),
+            (_, None) => return self.note("differ: no node"),
+        };
+        if aside.stakes() != node.stakes() {
+            return self.take_other_tables(aside, node);
+        }
+        if aside.own() != node.own() {
+            self.note("differ: the same table, another own number");
+        }
+        if aside.genesis() != node.genesis() {
+            self.note("differ: the same table, another genesis");
+        }
+        match answered[..] {
+            ["9", _] => self.note("differ: too many lines"),
+            _ => self.take_lines(aside, node, &answered[2..]),
+        }
+    }
+
+    fn take_other_tables(&mut self, aside: &Node, node: &Node) {
+        let (first, second) = (aside.stakes(), node.stakes());
+        self.note(if first.family() != second.family() {
+            "differ: tables of two families"
+        } else if first.count() != second.count() {
+            "differ: tables with another count"
+        } else if first.total() == second.total() {
+            "differ: tables with the same total"
+        } else {
+            "differ: tables with another stake"
+        });
+        if aside.stored_votes() == node.stored_votes() {
+            self.note("differ: other tables with equal votes");
+        }
+    }
+
+    fn take_lines(&mut self, aside: &Node, node: &Node, lines: &[&str]) {
+        let on_side = |side: &str| lines.iter().any(|line| line.ends_with(side));
+        let sides = match (on_side(",1"), on_side(",2")) {
+            (true, true) => "differ: lines of both sides",
+            (false, false) => "differ: no line",
+            _ => "differ: lines of one side",
+        };
+        self.note(sides);
+        if node.stakes().family() == Family::Large {
+            self.note(format!("{sides}, large table"));
+        }
+        if lines.is_empty() && (1..=LAST_SLOT).any(|slot| aside.kept_blocks(slot) != node.kept_blocks(slot)) {
+            self.note("differ: no line, other blocks kept");
+        }
+        if lines.len() == MOST_LINES {
+            self.note("differ: the most lines");
+        }
+        let fields: Vec<Vec<&str>> = lines.iter().map(|line| line.split(',').collect()).collect();
+        for field in &fields {
+            self.note(format!("differ: votes of kind {}", field[2]));
+        }
+        for pair in fields.windows(2).filter(|pair| pair[0][..3] == pair[1][..3]) {
+            self.note(format!("differ: side {} then {} in one place", pair[0][4], pair[1][4]));
+        }
     }
 
     /// What the votes of a tray were answered, and how many there were.

@@ -2,6 +2,7 @@
 
 mod compare;
 mod cover;
+mod differ;
 mod gen;
 mod measure;
 mod message;

@@ -310,6 +310,14 @@ impl Node {
         &self.stakes
     }
 
+    pub fn own(&self) -> usize {
+        self.own
+    }
+
+    pub fn genesis(&self) -> u64 {
+        self.genesis
+    }
+
     fn cells(&self, slot: u64) -> impl Iterator<Item = &Cell> {
         self.pool[slot as usize].values()
     }

@@ -1,5 +1,6 @@
 //! The script: one command a line, one answer a command.
 
+use crate::differ::{differ, Line};
 use crate::message::{self, Message};
 use crate::node::{is_slot, Node, Record, Vote};
 use crate::packet;
@@ -13,11 +14,16 @@ pub const LONGEST_LINE: usize = 65_536;
 /// Nodes whose votes a page of `votes SLOT FROM` has.
 pub const VOTERS_A_PAGE: usize = 64;
 
+/// Lines of a comparison for which the panel has room.
+pub const MOST_LINES: usize = 15_360;
+
 const NOT_A_COMMAND: &str = "?";
 
 #[derive(Default)]
 pub struct Panel {
     pub node: Option<Node>,
+    /// A copy for later comparison.
+    pub aside: Option<Node>,
     /// A proof that arrives in pieces.
     pieces: Option<Pieces>,
     /// Set by `quit`: nothing after it is read.
@@ -62,6 +68,8 @@ enum Command {
     Block { slot: u64, number: u64, parent_slot: u64, parent: u64 },
     Timeout { slot: u64 },
     Look,
+    Aside,
+    Differ,
     Cert { kind: u64, slot: u64, block: u64 },
     Proof { slot: u64, block: u64 },
     Check { packet: Vec<u8>, stakes: Vec<u64> },
@@ -119,6 +127,15 @@ impl Panel {
             }
             Command::Timeout { slot } => show_records(&self.node()?.timeout(slot)?),
             Command::Look => show_records(&self.node()?.look()),
+            Command::Aside => {
+                self.aside = Some(self.node()?.clone());
+                "0".to_string()
+            }
+            Command::Differ => match (&self.aside, &self.node) {
+                (None, _) => show_no_record(1),
+                (_, None) => show_no_record(2),
+                (Some(aside), Some(node)) => show_lines(&differ(aside, node)),
+            },
             Command::Cert { kind, slot, block } => {
                 show_packet(&packet::write_cert(self.node()?, kind, slot, block)?)
             }
@@ -186,6 +203,8 @@ fn parse(words: &[&[u8]]) -> Result<Command, Malformed> {
             let stakes = numbers.split_off(2);
             Ok(Command::Start { own: numbers[0], genesis: numbers[1], stakes })
         }
+        b"aside" => numbers::<0>(rest).map(|_| Command::Aside),
+        b"differ" => numbers::<0>(rest).map(|_| Command::Differ),
         b"vote" => {
             let [kind, node, slot, block] = numbers(rest)?;
             Ok(Command::Vote { kind, node, slot, block })
@@ -308,6 +327,24 @@ fn show_packet(packet: &[u8]) -> String {
 
 fn show_checked(c: packet::Checked) -> String {
     format!("0 {} {} {} {} {}", c.kind, c.slot, c.block, c.count, c.weight)
+}
+
+/// The first side is named where both have no node.
+fn show_no_record(side: u64) -> String {
+    format!("{} {side}", Refusal::NoNode.number())
+}
+
+/// A list that is too long is told by its length alone.
+fn show_lines(lines: &[Line]) -> String {
+    if lines.len() > MOST_LINES {
+        return format!("9 {}", lines.len());
+    }
+    let mut shown = format!("0 {}", lines.len());
+    for l in lines {
+        let (slot, node, kind, block) = l.vote;
+        shown += &format!(" {slot},{node},{kind},{block},{}", l.side);
+    }
+    shown
 }
 
 fn show_message(m: Message) -> String {

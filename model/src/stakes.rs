@@ -74,6 +74,10 @@ impl Stakes {
         self.each.len()
     }
 
+    pub fn total(&self) -> u64 {
+        self.total
+    }
+
     pub fn of(&self, node: usize) -> u64 {
         self.each[node]
     }

@@ -3,9 +3,9 @@
 use crate::cover::cover;
 use crate::gen;
 use crate::message::{self, Message};
-use crate::node::{Cert, Node, Record};
+use crate::node::{Cert, Node, Record, Vote, LAST_SLOT};
 use crate::packet::{check, check_proof, put_number, take_number, write_cert, write_proof, Checked};
-use crate::panel::{lines, show_hex, Answer, Panel, LONGEST_LINE};
+use crate::panel::{lines, show_hex, Answer, Panel, LONGEST_LINE, MOST_LINES};
 use crate::refusal::Refusal;
 use crate::stakes::{Signers, Stakes, MOST_NODES, P20, P40, P60, P80};
 
@@ -758,6 +758,93 @@ fn own_skips_of_a_timeout_come_before_the_rules() {
     assert_eq!(timeout(&mut n, 3), [(3, 1, 0), (3, 2, 0), (3, 3, 0), (3, 4, 0), (7, 5, 0)]);
 }
 
+// ---- which votes differ ----
+
+#[test]
+fn equal_votes_differ_in_no_line() {
+    let start = "start 0 1 1 1 1 1";
+    let votes = ["vote 2 1 3 9", "vote 2 1 3 7", "vote 3 2 1 0"];
+    let script = format!("{start}\n{}\naside\ndiffer", votes.join("\n"));
+    assert_eq!(run(&script)[4..], ["0", "0 0"]);
+    // The order of coming, own number and genesis play no part.
+    let again =
+        format!("{script}\nstart 3 5 1 1 1 1\ndiffer\nvote 3 2 1 0\nvote 2 1 3 7\nvote 2 1 3 9\ndiffer");
+    assert_eq!(run(&again)[7], "0 3 1,2,3,0,1 3,1,2,7,1 3,1,2,9,1");
+    assert_eq!(run(&again)[11], "0 0");
+}
+
+#[test]
+fn votes_that_differ_in_order_with_their_sides() {
+    let first =
+        "start 0 1 1 1 1 1 1 1\nvote 1 2 16 7\nvote 2 2 1 9\nvote 5 1 1 0\nvote 2 1 1 8\nvote 3 3 1 0";
+    let second =
+        "start 0 1 1 1 1 1 1 1\nvote 1 2 16 6\nvote 4 2 1 0\nvote 2 1 1 8\nvote 3 3 1 0\nvote 2 1 1 7";
+    let answers = run(&format!("{first}\naside\n{second}\ndiffer"));
+    assert_eq!(answers.last().unwrap(), "0 6 1,1,2,7,2 1,1,5,0,1 1,2,2,9,1 1,2,4,0,2 16,2,1,6,2 16,2,1,7,1");
+}
+
+#[test]
+fn other_tables_are_one_line() {
+    for other in ["1 1 2", "1 1", "1 1 1 1"] {
+        let answers = run(&format!("start 0 1 1 1 1\nlook\naside\nstart 0 1 {other}\nvote 3 1 1 0\ndiffer"));
+        assert_eq!(answers.last().unwrap(), "0 1 0,0,0,0,0", "{other}");
+    }
+}
+
+#[test]
+fn differ_before_there_is_a_record() {
+    let script = "aside\ndiffer\nstart 0 1 5\ndiffer\naside\nstart 9 1 5\ndiffer\naside 1\ndiffer 1";
+    assert_eq!(run(script), ["17", "17 1", "0", "17 1", "0", "1", "0 0", "?", "?"]);
+    // A copy: the node goes on, what is aside stays.
+    assert_eq!(run("start 0 1 5\naside\nblock 1 7 0 1\ndiffer").last().unwrap(), "0 2 1,0,1,7,2 1,0,5,0,2");
+}
+
+/// More than there is room for is told by the number of lines alone.
+#[test]
+fn lines_up_to_the_most_and_past_it() {
+    let voters = MOST_LINES / LAST_SLOT as usize;
+    let mut stakes = vec![1; voters + 1];
+    stakes[0] = 10 * MOST_LINES as u64;
+    let skips = |slot| (1..=voters).map(move |node| (slot, node, Vote::Skip));
+    let fresh = node(0, &stakes);
+    let full = fresh.clone().with_votes((1..=LAST_SLOT).flat_map(skips).collect());
+    for (aside, present, side) in [(&full, &fresh, 1), (&fresh, &full, 2)] {
+        let mut panel = Panel::default();
+        (panel.aside, panel.node) = (Some(aside.clone()), Some(present.clone()));
+        let answer = |panel: &mut Panel| panel.line(b"differ").unwrap().lines().concat();
+        let most = answer(&mut panel);
+        assert!(most.starts_with(&format!("0 {MOST_LINES} 1,1,3,0,{side} 1,2,3,0,{side} ")));
+        assert!(most.ends_with(&format!(" 16,{voters},3,0,{side}")));
+        assert_eq!(most.split(' ').count(), 2 + MOST_LINES);
+        assert_eq!(panel.line(b"vote 5 1 1 0").unwrap().lines(), ["0 1 7,1,0"]);
+        assert_eq!(answer(&mut panel), format!("9 {}", MOST_LINES + 1));
+    }
+}
+
+#[test]
+fn only_votes_and_the_table_are_compared() {
+    // Blocks, windows, timeouts and final blocks play no part.
+    let first = "start 0 1 9 1\nvote 3 1 2 0\nblock 6 7 5 3\naside";
+    assert_eq!(run(&format!("{first}\nstart 1 1 9 1\ndiffer")).last().unwrap(), "0 1 2,1,3,0,1");
+    assert_eq!(run(&format!("{first}\nstart 0 1 9 1\nvote 3 1 2 0\ndiffer")).last().unwrap(), "0 0");
+    // Stakes are compared place by place; their sum does not do.
+    let other = format!("{first}\nstart 0 1 1 9\nvote 3 1 2 0\ndiffer");
+    assert_eq!(run(&other).last().unwrap(), "0 1 0,0,0,0,0");
+    // A refused start leaves both nodes, an accepted one leaves that aside.
+    let refused = format!("{first}\nstart 0 0 9 1\ndiffer\nstart 0 1 9 1\ndiffer\naside\ndiffer");
+    assert_eq!(run(&refused)[4..], ["1", "0 0", "0", "0 1 2,1,3,0,1", "0", "0 0"]);
+}
+
+#[test]
+fn tables_of_two_families_are_other_tables() {
+    let start = |nodes: usize| format!("start 0 1{}", " 1".repeat(nodes));
+    for (first, second) in [(64, 65), (65, 64), (2047, 2048), (2048, 2048), (65, 65)] {
+        let answer = run(&format!("{}\naside\n{}\ndiffer", start(first), start(second)));
+        let expected = if first == second { "0 0" } else { "0 1 0,0,0,0,0" };
+        assert_eq!(answer.last().unwrap(), expected, "{first} {second}");
+    }
+}
+
 // ---- packets ----
 
 #[test]
@@ -1277,6 +1364,8 @@ const POSSIBLE: &[(&str, &[u64])] = &[
     ("proof", &[0, 3, 5, 17, 18]),
     ("check", &[0, 1, 3, 4, 5, 12, 13, 14, 15]),
     ("checkproof", &[0, 1, 3, 4, 5, 12, 13, 14, 15, 16]),
+    ("aside", &[0, 17]),
+    ("differ", &[0, 17]),
     ("piece", &[1]),
     ("end", &[0, 4, 12, 13, 14, 15, 16]),
     ("votes", &[0, 17]),
@@ -1353,6 +1442,24 @@ const BRANCHES: &[&str] = &[
     "cert written: kind 15",
     "check 4 for a kind of the other family",
     "checkproof 4 for a kind of the other family",
+    "differ: no line",
+    "differ: lines of one side",
+    "differ: lines of both sides",
+    "differ: tables with another count",
+    "differ: tables with another stake",
+    "differ: tables with the same total",
+    "differ: the same table, another own number",
+    "differ: lines of one side, large table",
+    "differ: lines of both sides, large table",
+    "differ: side 1 then 1 in one place",
+    "differ: side 1 then 2 in one place",
+    "differ: side 2 then 1 in one place",
+    "differ: side 2 then 2 in one place",
+    "differ: votes of kind 1",
+    "differ: votes of kind 2",
+    "differ: votes of kind 3",
+    "differ: votes of kind 4",
+    "differ: votes of kind 5",
     "checkproof 16, large table",
     "start with 66 to 128 nodes",
     "start with 129 to 2047 nodes",
@@ -1379,6 +1486,11 @@ const SELDOM: &[&str] = &[
     "start with 64 nodes",
     "start with 65 nodes",
     "start with 2048 nodes",
+    "differ: nothing aside",
+    "differ: no node",
+    "differ: the same table, another genesis",
+    "differ: other tables with equal votes",
+    "differ: no line, large table",
     "D by a vote in another slot",
     "D by its block, a later one, large table",
     "D by a vote in the parent's slot, large table",
@@ -1386,52 +1498,56 @@ const SELDOM: &[&str] = &[
     "D past a lower block that waits, large table",
 ];
 
+/// Scripts of very many votes, which are few.
+const LONG: &[&str] = &["differ: the most lines", "differ: too many lines"];
+
+/// Everything that is reached too seldom is told at once.
 #[test]
 fn a_thousand_scripts_reach_everything() {
     let seen = cover(1, 1000);
+    let mut few: Vec<String> = Vec::new();
+    let mut want = |what: &str, times: u64, least: u64| {
+        if times < least {
+            few.push(format!("{what}: {times} of {least}"));
+        }
+    };
     for (command, numbers) in POSSIBLE {
         for number in *numbers {
-            let times = seen.answers(command, &number.to_string());
-            assert!(times >= 10, "{command} answered {number} only {times} times");
+            want(&format!("{command} {number}"), seen.answers(command, &number.to_string()), 10);
         }
     }
     for (command, answer) in [("board", "text"), ("board", "17"), ("help", "text"), ("why", "text")] {
-        assert!(seen.answers(command, answer) >= 10, "few {command} with {answer}");
+        want(&format!("{command} {answer}"), seen.answers(command, answer), 10);
     }
     for silent in ["(blank)", "(comment)"] {
-        assert!(seen.answers(silent, "?") >= 10, "few {silent} lines over the buffer");
+        want(&format!("{silent} over the buffer"), seen.answers(silent, "?"), 10);
     }
     for kind in 1..=8 {
-        assert!(seen.records(kind) >= 50, "few records of kind {kind}");
+        want(&format!("records of kind {kind}"), seen.records(kind), 50);
     }
-    for what in BRANCHES {
-        assert!(seen.notes(what) >= 20, "few of: {what}");
+    for (what, least) in notes_wanted() {
+        want(&what, seen.notes(&what), least);
     }
-    for distance in ["1", "2 to 5", "more"] {
-        for rest in 0..5 {
-            for command in ["check", "checkproof"] {
-                let what = format!("{command} missing {distance}, total 5k + {rest}");
-                assert!(seen.notes(&what) >= 5, "few of: {what}");
-            }
-        }
-    }
-    for number in [2, 3, 4, 5, 6, 7, 8] {
-        let what = format!("tray: {number} between accepted votes");
-        assert!(seen.notes(&what) >= 20, "few of: {what}");
-    }
-    for number in [0, 3, 4, 5, 12, 13, 14, 15] {
-        for command in ["check", "checkproof"] {
-            let what = format!("{command} {number}, large table");
-            assert!(seen.notes(&what) >= 5, "few of: {what}");
-        }
-    }
-    for bytes in 4..=14 {
-        let what = format!("unpack 0, {bytes} bytes");
-        assert!(seen.notes(&what) >= 20, "few of: {what}");
-    }
-    for what in SELDOM {
-        assert!(seen.notes(what) >= 3, "none of: {what}");
-    }
+    assert!(few.is_empty(), "too few of {few:#?}");
     // The document's bound for a life.
     assert!(seen.most_records_in_a_life <= 132);
+}
+
+/// Each with the times that it is to be reached at least.
+fn notes_wanted() -> Vec<(String, u64)> {
+    let mut wanted: Vec<(String, u64)> = Vec::new();
+    wanted.extend(BRANCHES.iter().map(|what| (what.to_string(), 20)));
+    wanted.extend(SELDOM.iter().map(|what| (what.to_string(), 3)));
+    wanted.extend(LONG.iter().map(|what| (what.to_string(), 1)));
+    for command in ["check", "checkproof"] {
+        for (distance, rest) in ["1", "2 to 5", "more"].iter().flat_map(|d| (0..5).map(move |r| (d, r))) {
+            wanted.push((format!("{command} missing {distance}, total 5k + {rest}"), 5));
+        }
+        for number in [0, 3, 4, 5, 12, 13, 14, 15] {
+            wanted.push((format!("{command} {number}, large table"), 5));
+        }
+    }
+    wanted.extend((2..=8).map(|number| (format!("tray: {number} between accepted votes"), 20)));
+    wanted.extend((4..=14).map(|bytes| (format!("unpack 0, {bytes} bytes"), 20)));
+    wanted
 }

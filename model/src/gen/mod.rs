@@ -1,5 +1,6 @@
 //! Random scripts, each wholly set by its seed.
 
+mod compared;
 mod history;
 mod malformed;
 mod messages;
@@ -27,7 +28,7 @@ pub struct Script {
 pub fn script(seed: u64) -> Script {
     // The seed is stirred once, so that seeds in a row share nothing.
     let mut random = Random::new(Random::new(seed).next());
-    match random.below(58) {
+    match random.below(66) {
         0 => tiny(random),
         1 => before_start(random),
         2 => restarts(random),
@@ -38,15 +39,17 @@ pub fn script(seed: u64) -> Script {
         12..=14 => soup(random),
         15..=17 => pushes(random),
         18 => brink(random),
-        19..=21 => avalanche(random),
-        22..=24 => standoffs(random),
-        25 | 26 => bridges(random),
-        27 | 28 => leaps(random),
-        29 | 30 | 45 => messages(random),
-        31 | 32 => trays(random),
-        33..=38 | 46 => waits(random),
-        39..=41 => ancestry(random),
-        42..=44 => in_pieces(random),
+        19..=22 => avalanche(random),
+        23..=26 => standoffs(random),
+        27 | 28 => bridges(random),
+        29 | 30 => leaps(random),
+        31..=33 => messages(random),
+        34 | 35 => trays(random),
+        36..=43 => waits(random),
+        44..=46 => ancestry(random),
+        47..=50 => in_pieces(random),
+        51..=54 if random.percent(5) => many_lines(random),
+        51..=54 => compared(random),
         _ => history(random),
     }
 }
@@ -147,7 +150,7 @@ fn standoffs(mut random: Random) -> Script {
 fn waits(mut random: Random) -> Script {
     let nodes = random.pick(&[5, 5, 5, 6, 8]);
     let mut ring = Ring::of_fifths(&mut random, nodes);
-    if random.percent(20) {
+    if random.percent(25) {
         ring = ring.widened(&mut random);
     }
     let mut w = begin(random, ring, 100, 200);
@@ -174,6 +177,22 @@ fn leaps(mut random: Random) -> Script {
     let mut w = begin(random, ring, 200, 200);
     scenes::leaps(&mut w);
     finish_with_audit(w, 8)
+}
+
+fn compared(mut random: Random) -> Script {
+    let ring = if random.percent(80) { Ring::small(&mut random) } else { Ring::any(&mut random) };
+    let mut w = begin(random, ring, 20, 50);
+    compared::compared(&mut w);
+    end(w)
+}
+
+/// Not widened: more nodes would only take longer.
+fn many_lines(mut random: Random) -> Script {
+    let ring = compared::ring_of_many_lines(&mut random);
+    let mut w = Writer::new(random, ring, 0);
+    w.start();
+    compared::many_lines(&mut w);
+    end(w)
 }
 
 /// The audit has lines of its own after the history's.
@@ -230,6 +249,10 @@ fn before_start(mut random: Random) -> Script {
         "board 1",
         "board 99",
         "board 1 7",
+        "aside",
+        "aside",
+        "differ",
+        "differ",
     ];
     let ring = Ring::small(&mut random);
     let budget = random.range(3, 40) as usize;
@@ -340,7 +363,7 @@ fn in_pieces(mut random: Random) -> Script {
 }
 
 fn packets_only(mut random: Random) -> Script {
-    let ring = if random.percent(80) { Ring::any(&mut random) } else { Ring::crowd(&mut random) };
+    let ring = if random.percent(70) { Ring::any(&mut random) } else { Ring::crowd(&mut random) };
     let mut w = begin(random, ring, 10, 200);
     match w.random.below(6) {
         0 => packets::taken_apart(&mut w),

@@ -8,7 +8,7 @@ use crate::random::Random;
 use crate::stakes::{MOST_NODES, MOST_TOTAL};
 
 pub fn some(w: &mut Writer, numbers: &Numbers) {
-    match w.random.below(17) {
+    match w.random.below(18) {
         0 | 1 => w.repeat_some_line(),
         2 => contradict(w, numbers),
         3 => contradict_block(w),
@@ -32,6 +32,11 @@ pub fn some(w: &mut Writer, numbers: &Numbers) {
             let line = w.random.pick(&["end", "piece 01 5", "piece -", "piece 01070100", "piece - 1 1"]);
             w.say(line);
         }
+        16 => {
+            let set_aside = w.panel.aside.is_none() && w.random.percent(90);
+            let line = w.random.pick(&["aside", "differ", "differ"]);
+            w.say(if set_aside { "aside" } else { line });
+        }
         _ => {
             let line = bad_start(w);
             w.say(line);
@@ -42,12 +47,12 @@ pub fn some(w: &mut Writer, numbers: &Numbers) {
 /// What people read, for its own sake and for what it must leave alone.
 fn for_people(w: &mut Writer) {
     let slot = w.random.pick(&[1, 1, 2, 5, LAST_SLOT, 0, LAST_SLOT + 1, 1 << 32 | 1, u64::MAX]);
-    let line = match w.random.below(7) {
+    let line = match w.random.below(8) {
         0 => "board".to_string(),
         1 | 2 => format!("board {slot}"),
         3 => format!("board {slot} {}", w.random.any_number()),
-        4 => "help".to_string(),
-        5 => format!("why {}", w.random.pick(&[0, 1, 9, 15, 18, 19, 257, u64::MAX])),
+        4 | 5 => "help".to_string(),
+        6 => format!("why {}", w.random.pick(&[0, 1, 9, 15, 18, 19, 257, u64::MAX])),
         _ => return page_of_votes(w, slot),
     };
     w.ask_for_text(&line);

@@ -179,13 +179,13 @@ impl Fields {
         let any_node = random.index(nodes);
         let places = 64 * ring.table().family().mask_words();
         let beyond = nodes + random.index((places - nodes).max(1));
-        match random.below(9) {
+        match random.below(10) {
             0 => self.kind = other_kind(random, self.kind),
             1 => {
                 self.slot =
                     random.pick(&[0, 17, 18, 127, 128, 256 | self.slot, 1 << 32 | self.slot, u64::MAX])
             }
-            2 => self.block = if self.block == 0 { random.any_number().max(1) } else { 0 },
+            2 | 8 => self.block = if self.block == 0 { random.any_number().max(1) } else { 0 },
             3 if beyond < places => {
                 self.a.insert(beyond);
             }
@@ -316,9 +316,9 @@ pub fn hand_made(w: &mut Writer) {
     while !w.full() {
         if w.random.percent(10) {
             w.ring = match w.random.below(10) {
-                0 => Ring::crowd(&mut w.random),
-                1 => Ring::small(&mut w.random).widened(&mut w.random),
-                2..=5 => Ring::small(&mut w.random),
+                0 | 1 => Ring::crowd(&mut w.random),
+                2 | 3 => Ring::small(&mut w.random).widened(&mut w.random),
+                4..=6 => Ring::small(&mut w.random),
                 _ => Ring::any(&mut w.random),
             };
         }

@@ -370,7 +370,7 @@ pub fn waits(w: &mut Writer) {
         if !w.node().is_armed(slot) {
             lead_over(w, first_of_window(slot));
         }
-        if w.random.percent(60) {
+        if w.random.percent(70) {
             follow(w, &numbers, slot);
         }
         wait_in(w, &numbers, slot);
@@ -393,9 +393,12 @@ fn wait_in(w: &mut Writer, numbers: &Numbers, slot: u64) {
     for step in some_steps(&mut w.random) {
         match step {
             Step::OwnVote => {
-                let any = w.random.range(first_of_window(slot), slot);
-                let named = w.random.pick(&[slot, any]);
-                w.say(format!("timeout {named}"));
+                // Who voted for a block is mostly left without the window's skips.
+                if w.node().own_cell(slot).initial.is_none() || w.random.percent(25) {
+                    let any = w.random.range(first_of_window(slot), slot);
+                    let named = w.random.pick(&[slot, any]);
+                    w.say(format!("timeout {named}"));
+                }
             }
             Step::Votes(camp, lean) => camp_votes(w, &[camp], slot, lean, &blocks),
             Step::Announce(i) => {
@@ -417,8 +420,10 @@ fn wait_in(w: &mut Writer, numbers: &Numbers, slot: u64) {
     }
 }
 
-/// A parent for each of the slot's blocks, mostly the same for all.
+/// A parent for each of the slot's blocks, mostly the same for all, and often
+/// the own node's choice next door.
 fn some_parents(w: &mut Writer, numbers: &Numbers, slot: u64) -> [(u64, u64); 4] {
+    let own = if slot > 1 { w.node().own_cell(slot - 1).notar_block() } else { None };
     let mut any_parent = || {
         let any_below = w.random.below(slot);
         let parent_slot = w.random.pick(&[slot - 1, slot - 1, any_below]);
@@ -426,6 +431,7 @@ fn some_parents(w: &mut Writer, numbers: &Numbers, slot: u64) -> [(u64, u64); 4]
         (parent_slot, if parent_slot == 0 { w.ring.genesis } else { w.random.pick(&of_slot) })
     };
     let (shared, other) = (any_parent(), any_parent());
+    let shared = own.filter(|_| w.random.percent(60)).map_or(shared, |block| (slot - 1, block));
     [(); 4].map(|_| w.random.pick(&[shared, shared, shared, other]))
 }
 
@@ -437,7 +443,7 @@ fn some_steps(random: &mut Random) -> Vec<Step> {
     for (percent, step) in [
         (90, Step::Certify(0)),
         (40, Step::Certify(random.index(4))),
-        (20, Step::Announce(4)),
+        (30, Step::Announce(4)),
         (20, Step::AnnounceOtherwise(random.index(4))),
     ] {
         if random.percent(percent) {
@@ -445,6 +451,10 @@ fn some_steps(random: &mut Random) -> Vec<Step> {
         }
     }
     random.shuffle(&mut steps);
+    // A fallback that has nothing to wait for comes before the skips of rule E.
+    if random.percent(25) {
+        steps.sort_by_key(|step| matches!(step, Step::Votes(..)));
+    }
     steps
 }
 

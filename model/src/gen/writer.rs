@@ -17,7 +17,8 @@ pub struct Writer {
     budget: usize,
     /// Command lines so far, for repeats.
     said: Vec<String>,
-    /// Whether some answer was 17, which needs a panel without a node.
+    /// Whether some answer was 17, which needs a panel without a node, or with
+    /// none aside.
     unstarted: bool,
     style: Style,
     /// Votes not yet said, for a tray.
@@ -88,7 +89,7 @@ impl Writer {
         self.text += if crlf { "\r\n" } else { "\n" };
         let answer = answer.map_or(vec![], Answer::lines);
         self.commands += 1;
-        self.unstarted |= answer == ["17"];
+        self.unstarted |= answer == ["17"] || answer == ["17 1"];
         answer
     }
 
