@@ -17,7 +17,7 @@ use Rattle.script.specs.Numbers.{wordFrom, wordTo}
 use Rattle.script.proofs.Reading.{word-from, word-to}
 use Rattle.commands.specs.declared.Command.{Command}
 use Rattle.commands.specs.declared.Command.the-variants as command
-use Rattle.commands.specs.Commands.{sameText, inputOf, exactly, atLeast, wordOf, packetAndStakes, countAndMessage, argumentsFit, commandOf, tells, Heard}
+use Rattle.commands.specs.Commands.{sameText, inputOf, exactly, atLeast, wordOf, oneWord, packetAndStakes, countAndMessage, argumentsFit, commandOf, tells, Heard}
 
 -- ---- two texts
 
@@ -74,6 +74,14 @@ module _ (line : List ℕ) (at : ℕ) (w : Word) (h : WordIn line at w) where
 
     pub good-packet : (r : Bool) → hex .good ≡ true → r ≡ atLeast line (w .to) 0 → r ≡ packetAndStakes line at
     good-packet r d g = g ∙ ap (λ (n : ℕ). atLeast line n 0) (word-to line at w h) ∙ ap (packet-test true) (sym d) ∙ packet-is
+
+-- ---- one word
+
+pub word-alone : (line : List ℕ) (at : ℕ) (w : Word) → WordIn line at w → (c : Bool) → c ≡ exactly line (w .to) 0
+    → (ltb (w .from) (w .to) && c) ≡ oneWord line at
+unfolding oneWord
+word-alone line at w h c e =
+    λ i. ltb (word-from line at w h i) (word-to line at w h i) && (e ∙ ap (λ (n : ℕ). exactly line n 0) (word-to line at w h)) i
 
 -- ---- a count and a message
 

@@ -58,6 +58,15 @@ pieceText = 112 ∷ 105 ∷ 101 ∷ 99 ∷ 101 ∷ []
 abbrev pub endText : List ℕ
 endText = 101 ∷ 110 ∷ 100 ∷ []
 
+abbrev pub asideText : List ℕ
+asideText = 97 ∷ 115 ∷ 105 ∷ 100 ∷ 101 ∷ []
+
+abbrev pub differText : List ℕ
+differText = 100 ∷ 105 ∷ 102 ∷ 102 ∷ 101 ∷ 114 ∷ []
+
+abbrev pub saveText : List ℕ
+saveText = 115 ∷ 97 ∷ 118 ∷ 101 ∷ []
+
 abbrev pub boardText : List ℕ
 boardText = 98 ∷ 111 ∷ 97 ∷ 114 ∷ 100 ∷ []
 
@@ -73,14 +82,19 @@ helpText = 104 ∷ 101 ∷ 108 ∷ 112 ∷ []
 abbrev pub quitText : List ℕ
 quitText = 113 ∷ 117 ∷ 105 ∷ 116 ∷ []
 
--- The command that a word is, asked for in five lists: "board", "votes", "why", "help" and "quit" are for people,
+-- The command that a word is, asked for in six lists: "board", "votes", "why", "help" and "quit" are for people,
 unfoldable pub viewOf : List ℕ → Command
 viewOf w =
     choose (sameText w boardText) command.Board (choose (sameText w votesText) command.Votes (choose (sameText w whyText) command.Why (choose (sameText w helpText) command.Help (choose (sameText w quitText) command.Quit (command.Other)))))
 
+-- "aside", "differ" and "save" are for comparing nodes,
+unfoldable pub comparedOf : List ℕ → Command
+comparedOf w =
+    choose (sameText w asideText) command.Aside (choose (sameText w differText) command.Differ (choose (sameText w saveText) command.Save (viewOf w)))
+
 -- "piece" and "end" are for proofs in pieces,
 unfoldable pub piecesOf : List ℕ → Command
-piecesOf w = choose (sameText w pieceText) command.Piece (choose (sameText w endText) command.End (viewOf w))
+piecesOf w = choose (sameText w pieceText) command.Piece (choose (sameText w endText) command.End (comparedOf w))
 
 -- "pack" and "unpack" are for vote messages,
 unfoldable pub messageOf : List ℕ → Command
@@ -106,6 +120,10 @@ atLeast line at many = let n = numbersOf line at [] .answer in n .good && leb ma
 -- The next word of a line.
 abbrev pub wordOf : List ℕ → ℕ → List ℕ
 wordOf line at = take (wordTo line at - wordFrom line at) (drop (wordFrom line at) line)
+
+-- One word, and nothing more.
+unfoldable pub oneWord : List ℕ → ℕ → Bool
+oneWord line at = ltb (wordFrom line at) (wordTo line at) && exactly line (wordTo line at) 0
 
 -- A packet in hex, of at most 32,768 bytes, which no line exceeds, and then numbers.
 unfoldable pub packetAndStakes : List ℕ → ℕ → Bool
@@ -134,6 +152,9 @@ argumentsFit command.Pack line at = exactly line at 5
 argumentsFit command.Unpack line at = countAndMessage line at
 argumentsFit command.Piece line at = packetAndStakes line at
 argumentsFit command.End line at = exactly line at 0
+argumentsFit command.Aside line at = exactly line at 0
+argumentsFit command.Differ line at = exactly line at 0
+argumentsFit command.Save line at = oneWord line at
 argumentsFit command.Board line at = exactly line at 0 || (exactly line at 1 || exactly line at 2)
 argumentsFit command.Votes line at = exactly line at 0 || exactly line at 2
 argumentsFit command.Why line at = exactly line at 1
@@ -161,6 +182,9 @@ tells command.Pack = false
 tells command.Unpack = false
 tells command.Piece = false
 tells command.End = false
+tells command.Aside = false
+tells command.Differ = false
+tells command.Save = false
 tells command.Board = false
 tells command.Votes = false
 tells command.Why = false

@@ -1,6 +1,6 @@
 // Which command a line of a script is: by its first word, and by what follows it.
 ghost use mathlib.Core.Path.{_≡_};
-ghost use Rattle.commands.specs.Commands.{sameText, inputOf, questionOf, messageOf, piecesOf, viewOf, exactly, atLeast, packetAndStakes, countAndMessage, argumentsFit, commandOf};
+ghost use Rattle.commands.specs.Commands.{sameText, inputOf, questionOf, messageOf, piecesOf, comparedOf, viewOf, exactly, atLeast, oneWord, packetAndStakes, countAndMessage, argumentsFit, commandOf};
 use hex::read_hex;
 use script::read_numbers;
 use script::word_at;
@@ -21,6 +21,9 @@ pub enum Command {
     Unpack,
     Piece,
     End,
+    Aside,
+    Differ,
+    Save,
     Board,
     Votes,
     Why,
@@ -111,6 +114,22 @@ fn pieces_of(word: &[u8]) -> Command
     if same(word, b"end") {
         return Command::End;
     }
+    compared_of(word)
+}
+
+// The commands by which two nodes are compared.
+fn compared_of(word: &[u8]) -> Command
+    ensures { λ r. ⌜ r ≡ comparedOf (now (word .entry)) ⌝ }
+{
+    if same(word, b"aside") {
+        return Command::Aside;
+    }
+    if same(word, b"differ") {
+        return Command::Differ;
+    }
+    if same(word, b"save") {
+        return Command::Save;
+    }
     view_of(word)
 }
 
@@ -152,6 +171,17 @@ fn at_least(line: &[u8], at: usize, many: usize) -> bool
     let mut none = [0u64; 0];
     let n = read_numbers(line, at, &mut none);
     n.good & (many <= n.count)
+}
+
+// Whether the rest of a line is one word, whatever it is.
+fn one_word(line: &[u8], at: usize) -> bool
+    ensures { λ r. ⌜ r ≡ oneWord (now (line .entry)) at ⌝ }
+{
+    let w = word_at(line, at);
+    let from = w.from;
+    let to = w.to;
+    let ended = exactly(line, to, 0);
+    (from < to) & ended
 }
 
 // Whether the rest of a line is a packet in hex, of at most 32,768 bytes, and then numbers.
@@ -204,6 +234,9 @@ fn arguments_fit(c: Command, line: &[u8], at: usize) -> bool
         Command::Unpack => count_and_message(line, at),
         Command::Piece => packet_and_stakes(line, at),
         Command::End => exactly(line, at, 0),
+        Command::Aside => exactly(line, at, 0),
+        Command::Differ => exactly(line, at, 0),
+        Command::Save => one_word(line, at),
         Command::Board => exactly(line, at, 0) | (exactly(line, at, 1) | exactly(line, at, 2)),
         Command::Votes => exactly(line, at, 0) | exactly(line, at, 2),
         Command::Why => exactly(line, at, 1),

@@ -3,6 +3,7 @@ use answers::differ_number;
 use answers::differ_value;
 use differences::differ;
 use door::end_line;
+use door::send_to;
 use door::tell_line;
 use lines::put_byte;
 use lines::put_decimal;
@@ -285,13 +286,6 @@ fn tell(page: &mut [u8], list: &[u64], lines: usize) -> usize {
     count_line(page, at, lines)
 }
 
-// Writes the text at a page's front to standard error.
-fn say(page: &[u8], used: usize) {
-    if used < page.len() {
-        io::write_all(ERR, &page[0..used]);
-    }
-}
-
 // What stands on standard error where nothing is compared: the file, and why.
 fn blame(page: &mut [u8], i: usize, why: &[u8]) {
     let mut path = io::buffer();
@@ -300,7 +294,7 @@ fn blame(page: &mut [u8], i: usize, why: &[u8]) {
     let q = put_text(page, p, &path[..length]);
     let r = put_text(page, q, why);
     let s = put_byte(page, r, b'\n');
-    say(page, s);
+    send_to(ERR, page, s);
 }
 
 // A number that is not 0: the side's record is bad, or there are more lines than there is room for.
@@ -316,7 +310,7 @@ fn refuse(page: &mut [u8], number: u64, beside: usize) {
         q,
         b" stored votes differ, and 40000 lines are the most that are listed\n",
     );
-    say(page, r);
+    send_to(ERR, page, r);
 }
 
 // Compares two records.

@@ -7,14 +7,21 @@ use lines::put_text;
 
 const OUT: i32 = 1;
 
-// Writes the text at a page's front, and answers whether all of it was taken. A page that is full holds no whole line.
-pub fn send(page: &[u8], used: usize) -> bool
+// Writes the text at a page's front to an open file, and answers whether all of it was taken. A page that is full may hold less.
+pub fn send_to(fd: i32, page: &[u8], used: usize) -> bool
     ensures { λ r. ⌜ Whole (length (now (page .entry))) used r ⌝ }
 {
     if used < page.len() {
-        return io::write_all(OUT, &page[..used]);
+        return io::write_all(fd, &page[..used]);
     }
     false
+}
+
+// The same to standard output.
+pub fn send(page: &[u8], used: usize) -> bool
+    ensures { λ r. ⌜ Whole (length (now (page .entry))) used r ⌝ }
+{
+    send_to(OUT, page, used)
 }
 
 // Ends the line that stands in a page up to a place and sends it. Answers the place where the next line begins: the page's

@@ -68,6 +68,21 @@ fn questions_and_messages(page: &mut [u8], at: usize) -> usize {
     )
 }
 
+// The commands by which two nodes are compared.
+fn comparisons(page: &mut [u8], at: usize) -> usize {
+    let p = tell_line(page, at, b"aside                                0");
+    let q = tell_line(
+        page,
+        p,
+        b"differ                               0 N slot,node,kind,block,side .., 1 the node aside, 2 the present one; 17 SIDE, 9 LINES",
+    );
+    tell_line(
+        page,
+        q,
+        b"save FILE                            0; the node's record, as ./differ reads it",
+    )
+}
+
 // The commands for people.
 fn views(page: &mut [u8], at: usize) -> usize {
     let p = tell_line(
@@ -127,7 +142,7 @@ fn kinds(page: &mut [u8], at: usize) -> usize {
     tell_line(
         page,
         r,
-        b"? is a line that is no command. A refusal is its number, and beside 15 of a check what is missing:",
+        b"? is a line that is no command, or a file that was not saved. A refusal is its number, and beside 15 of a check what is missing:",
     )
 }
 
@@ -176,7 +191,7 @@ fn middle_refusal(page: &mut [u8], at: usize, n: u64) -> usize {
         9 => tell_line(
             page,
             at,
-            b"9: The outbox is below 160 records; or the buffer below 32 bytes for a certificate, 64 for a proof (768 and 1,536 with more than 64 nodes), 16 for a vote message; or a tray has fewer places for answers than votes.",
+            b"9: The outbox is below 160 records; or the buffer below 32 bytes for a certificate, 64 for a proof (768 and 1,536 with more than 64 nodes), 16 for a vote message; or a tray has fewer places for answers than votes; or a list fewer lines than votes differ.",
         ),
         10 => tell_line(
             page,
@@ -243,8 +258,9 @@ fn refusals(page: &mut [u8], at: usize) -> usize {
 pub fn help(page: &mut [u8]) -> bool {
     let p = inputs(page, 0);
     let q = questions_and_messages(page, p);
-    let r = views(page, q);
-    let t = kinds(page, r);
+    let r = comparisons(page, q);
+    let s = views(page, r);
+    let t = kinds(page, s);
     refusals(page, t) < page.len()
 }
 

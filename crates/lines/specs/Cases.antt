@@ -27,7 +27,8 @@ abbrev bytesOf : string.String → List ℕ
 bytesOf string.[] = []
 bytesOf (string._∷_ c s) = code c ∷ bytesOf s
 
-abbrev reads : List ℕ → string.String → Bool
+-- A line reads as that text.
+abbrev pub reads : List ℕ → string.String → Bool
 reads line text = equal line (bytesOf text)
 
 -- Decimal without leading zeros, up to the largest word.

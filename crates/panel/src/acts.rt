@@ -2,6 +2,8 @@
 ghost use Rattle.commands.specs.Commands.{Heard};
 use commands::Command;
 use commands::command_of;
+use comparing::differ;
+use comparing::save;
 use piecing::end;
 use piecing::piece;
 use replies::Turn;
@@ -21,12 +23,30 @@ fn ask(page: &mut [u8], c: Command, line: &[u8], at: usize, rec: &[u64]) -> Turn
     asking::ask(page, c, line, at, &rec[0..words])
 }
 
+// Answers a command by which nodes are compared, or one that only asks; the node is lent to be read.
+fn others(
+    page: &mut [u8],
+    c: Command,
+    line: &[u8],
+    at: usize,
+    rec: &[u64],
+    aside: &mut [u64],
+) -> Turn {
+    match c {
+        Command::Aside => answered(comparing::aside(page, rec, aside)),
+        Command::Differ => answered(differ(page, aside, rec)),
+        Command::Save => answered(save(page, line, at, rec)),
+        _ => ask(page, c, line, at, rec),
+    }
+}
+
 // Answers a line, and tells what follows; nothing is answered where it has no word. A line that is none of the commands leaves record
 // and outbox as they were, and so does every command that only asks.
 pub fn obey(
     page: &mut [u8],
     line: &[u8],
     rec: &mut [u64],
+    aside: &mut [u64],
     outbox: &mut [u64],
     pieces: &mut [u64],
     front: &mut [u8],
@@ -48,6 +68,6 @@ pub fn obey(
         Command::Tray => answered(tray(page, line, at, rec, outbox)),
         Command::Piece => answered(piece(page, line, at, pieces, front)),
         Command::End => answered(end(page, pieces, front)),
-        _ => ask(page, c, line, at, rec),
+        _ => others(page, c, line, at, rec, aside),
     }
 }

@@ -13,8 +13,9 @@ const LINE_ROOM: usize = 65538;
 
 const LONGEST: usize = 65536;
 
-// Every answer has room in a page: at most 160 records of 63 bytes with the numbers of 8,191 votes, three bytes each, or 1,536 bytes in hex.
-const PAGE_ROOM: usize = 34816;
+// Every answer has room in a page: at most 160 records of 63 bytes with the numbers of 8,191 votes, three bytes each, 1,536 bytes in hex, or
+// the 15,360 lines of a comparison, 33 bytes each.
+const PAGE_ROOM: usize = 506912;
 
 // The words of the largest record, that of 2,048 nodes.
 const RECORD_WORDS: usize = 246023;
@@ -52,6 +53,7 @@ fn answer(
     page: &mut [u8],
     line: &[u8],
     rec: &mut [u64],
+    aside: &mut [u64],
     outbox: &mut [u64],
     pieces: &mut [u64],
     front: &mut [u8],
@@ -62,7 +64,7 @@ fn answer(
     if is_comment(line) {
         return Turn::On;
     }
-    obey(page, line, rec, outbox, pieces, front)
+    obey(page, line, rec, aside, outbox, pieces, front)
 }
 
 // Answers the line that stands in the front of the buffer.
@@ -71,6 +73,7 @@ fn finish_line(
     buffer: &[u8],
     used: usize,
     rec: &mut [u64],
+    aside: &mut [u64],
     outbox: &mut [u64],
     pieces: &mut [u64],
     front: &mut [u8],
@@ -83,7 +86,7 @@ fn finish_line(
     if end > line.len() {
         return Turn::On;
     }
-    answer(page, &line[0..end], rec, outbox, pieces, front)
+    answer(page, &line[0..end], rec, aside, outbox, pieces, front)
 }
 
 // Keeps a byte of a line, where there is room, and answers how many are kept.
@@ -102,6 +105,7 @@ fn take_byte(
     line: &mut [u8],
     used: &mut usize,
     rec: &mut [u64],
+    aside: &mut [u64],
     outbox: &mut [u64],
     pieces: &mut [u64],
     front: &mut [u8],
@@ -112,7 +116,7 @@ fn take_byte(
     }
     let kept = *used;
     *used = 0;
-    finish_line(page, line, kept, rec, outbox, pieces, front)
+    finish_line(page, line, kept, rec, aside, outbox, pieces, front)
 }
 
 // Takes bytes of the script, up to the first answer after which nothing more is answered.
@@ -122,12 +126,23 @@ fn take(
     line: &mut [u8],
     used: &mut usize,
     rec: &mut [u64],
+    aside: &mut [u64],
     outbox: &mut [u64],
     pieces: &mut [u64],
     front: &mut [u8],
 ) -> Turn {
     for i in 0..bytes.len() {
-        let turn = take_byte(bytes[i], page, line, used, rec, outbox, pieces, front);
+        let turn = take_byte(
+            bytes[i],
+            page,
+            line,
+            used,
+            rec,
+            aside,
+            outbox,
+            pieces,
+            front,
+        );
         if !goes_on(turn) {
             return turn;
         }
@@ -142,6 +157,7 @@ fn take_piece(
     line: &mut [u8],
     used: &mut usize,
     rec: &mut [u64],
+    aside: &mut [u64],
     outbox: &mut [u64],
     pieces: &mut [u64],
     front: &mut [u8],
@@ -155,7 +171,17 @@ fn take_piece(
         return Turn::End;
     }
     let n = io::count(got, &buffer);
-    take(&buffer[..n], page, line, used, rec, outbox, pieces, front)
+    take(
+        &buffer[..n],
+        page,
+        line,
+        used,
+        rec,
+        aside,
+        outbox,
+        pieces,
+        front,
+    )
 }
 
 // The turns that are left after one: one fewer, or none where nothing more is answered.
@@ -173,6 +199,7 @@ fn run(
     page: &mut [u8],
     line: &mut [u8],
     rec: &mut [u64],
+    aside: &mut [u64],
     outbox: &mut [u64],
     pieces: &mut [u64],
     front: &mut [u8],
@@ -181,11 +208,11 @@ fn run(
     let mut last = Turn::On;
     let mut turns = u64::MAX;
     while turns > 0 {
-        last = take_piece(fd, page, line, &mut used, rec, outbox, pieces, front);
+        last = take_piece(fd, page, line, &mut used, rec, aside, outbox, pieces, front);
         turns = turns_left(goes_on(last), turns);
     }
     match last {
-        Turn::End => finish_line(page, line, used, rec, outbox, pieces, front),
+        Turn::End => finish_line(page, line, used, rec, aside, outbox, pieces, front),
         _ => last,
     }
 }
@@ -195,6 +222,7 @@ fn play(fd: i32) {
     let mut page = [0u8; PAGE_ROOM];
     let mut line = [0u8; LINE_ROOM];
     let mut rec = [0u64; RECORD_WORDS];
+    let mut aside = [0u64; RECORD_WORDS];
     let mut outbox = [0u64; OUTBOX_WORDS];
     let mut pieces = [0u64; PIECES_WORDS];
     let mut front = [0u8; PIECES_BYTES];
@@ -203,6 +231,7 @@ fn play(fd: i32) {
         &mut page,
         &mut line,
         &mut rec,
+        &mut aside,
         &mut outbox,
         &mut pieces,
         &mut front,

@@ -13,6 +13,8 @@ use rulebook::StartAnswer;
 use rulebook::StepAnswer;
 use rulebook::WriteAnswer;
 use script::read_numbers;
+use slices::copy_words;
+use slices::put_word;
 use soundness::start;
 use writers::write_certificate;
 use writers::write_proof;
@@ -46,30 +48,12 @@ fn equal(words: &[u64], other: &[u64]) -> bool {
     same
 }
 
-fn put(rec: &mut [u64], place: usize, value: u64) {
-    if place < rec.len() {
-        rec[place] = value;
-    }
-}
-
-fn copy_word(from: &[u64], to: &mut [u64], i: usize) {
-    if i < from.len() {
-        put(to, i, from[i]);
-    }
-}
-
-fn copy(from: &[u64], to: &mut [u64]) {
-    for i in 0..from.len() {
-        copy_word(from, to, i);
-    }
-}
-
 // Puts in number i of a line, where it is the value of the place in front of it.
 fn put_value(rec: &mut [u64], numbers: &[u64], count: usize, i: usize) {
     if i < numbers.len() {
         if 0 < i {
             if (i < count) & (i % 2 == 1) {
-                put(rec, numbers[i - 1] as usize, numbers[i]);
+                put_word(rec, numbers[i - 1] as usize, numbers[i]);
             }
         }
     }
@@ -120,8 +104,8 @@ fn ask(rec: &mut [u64], other: &[u64]) {
 fn spoil(sound: &[u64], numbers: &[u64], count: usize) {
     let mut rec = [0u64; RECORD_WORDS];
     let mut other = [0u64; RECORD_WORDS];
-    copy(sound, &mut rec);
-    copy(sound, &mut other);
+    copy_words(sound, &mut rec);
+    copy_words(sound, &mut other);
     put_all(&mut rec, numbers, count);
     put_all(&mut other, numbers, count);
     ask(&mut rec, &other);
@@ -198,10 +182,10 @@ fn begin(rec: &mut [u64]) {
 // A fresh node of so many stakes of 1, told as a node of two with total 2: nothing but the number of places is wrong.
 fn as_two(rec: &mut [u64], stakes: &[u64]) {
     start(rec, stakes, Node(0), 1);
-    put(rec, 0, 2);
-    put(rec, 1, 2);
+    put_word(rec, 0, 2);
+    put_word(rec, 1, 2);
     if 2 < stakes.len() {
-        put(rec, 10, 0);
+        put_word(rec, 10, 0);
     }
 }
 

@@ -1,10 +1,12 @@
 // The words of a script's line: where they stand, and what they say as a decimal number.
 ghost use mathlib.Core.Path.{_≡_};
-ghost use Prim.Native.Nat.{_+_, _*_, _≤_, _<_, min};
-ghost use lib.ListN.{length, set};
+ghost use Prim.Native.Nat.{_+_, _*_, _≤_, _<_};
+ghost use lib.ListN.{length};
 ghost use Rattle.script.specs.Words.{isSpace, isInk, Spanned, WordIn};
 ghost use Rattle.script.specs.Numbers.{NumbersIn};
 ghost use Rattle.script.specs.Digits.{isDigit, fits64, decimalOf};
+use slices::least;
+use slices::put_word;
 
 // What a word says as a decimal number.
 pub enum Decimal {
@@ -29,14 +31,6 @@ pub fn wide(x: u8) -> u64
     ensures { λ r. ⌜ r ≡ x ⌝ }
 {
     x as u64
-}
-
-// The smaller of two places.
-fn least(a: usize, b: usize) -> usize
-    ensures { λ r. ⌜ r ≡ min a b ⌝ }
-    ensures { λ r. ⌜ r ≤ b ⌝ }
-{
-    if a < b { a } else { b }
 }
 
 // The first place at or after a place where no space stands.
@@ -116,15 +110,6 @@ pub fn read_decimal(word: &[u8]) -> Decimal
     Decimal::Value(v)
 }
 
-// Puts a number to a place, where there is one.
-fn keep(out: &mut [u64], i: usize, v: u64)
-    ensures { λ _. ⌜ now (out .exit) ≡ set (now (out .entry)) i v ⌝ }
-{
-    if i < out.len() {
-        out[i] = v;
-    }
-}
-
 // Reads the words from a place on as numbers and puts the first of them into out, as far as it has room.
 pub fn read_numbers(line: &[u8], at: usize, out: &mut [u64]) -> Numbers
     ensures { λ r. ⌜ NumbersIn (now (line .entry)) at (now (out .entry)) r (now (out .exit)) ⌝ }
@@ -142,7 +127,7 @@ pub fn read_numbers(line: &[u8], at: usize, out: &mut [u64]) -> Numbers
         let Decimal::Value(v) = d else {
             return Numbers { good: false, count };
         };
-        keep(out, count, v);
+        put_word(out, count, v);
         count += 1;
         place = to;
     }

@@ -95,14 +95,23 @@ enum-told-15 c = search needs
 exactly-requires-9 : tie.Need-exactly-requires-9
 exactly-requires-9 c κs = search needs
 
+enum-told-16 : tie.Need-enum-told-16
+enum-told-16 c = search needs
+
 exactly-requires-10 : tie.Need-exactly-requires-10
 exactly-requires-10 c κs = search needs
 
+enum-told-17 : tie.Need-enum-told-17
+enum-told-17 c = search needs
+
+one-word-requires : tie.Need-one-word-requires
+one-word-requires c κs = search needs
+
+enum-told-18 : tie.Need-enum-told-18
+enum-told-18 c = search needs
+
 exactly-requires-11 : tie.Need-exactly-requires-11
 exactly-requires-11 c κs = search needs
-
-enum-told-16 : tie.Need-enum-told-16
-enum-told-16 c = search needs
 
 exactly-requires-12 : tie.Need-exactly-requires-12
 exactly-requires-12 c κs = search needs
@@ -110,26 +119,35 @@ exactly-requires-12 c κs = search needs
 exactly-requires-13 : tie.Need-exactly-requires-13
 exactly-requires-13 c κs = search needs
 
-enum-told-17 : tie.Need-enum-told-17
-enum-told-17 c = search needs
+enum-told-19 : tie.Need-enum-told-19
+enum-told-19 c = search needs
 
 exactly-requires-14 : tie.Need-exactly-requires-14
 exactly-requires-14 c κs = search needs
 
-enum-told-18 : tie.Need-enum-told-18
-enum-told-18 c = search needs
-
 exactly-requires-15 : tie.Need-exactly-requires-15
 exactly-requires-15 c κs = search needs
 
-enum-told-19 : tie.Need-enum-told-19
-enum-told-19 c = search needs
+enum-told-20 : tie.Need-enum-told-20
+enum-told-20 c = search needs
 
 exactly-requires-16 : tie.Need-exactly-requires-16
 exactly-requires-16 c κs = search needs
 
-enum-told-20 : tie.Need-enum-told-20
-enum-told-20 c = search needs
+enum-told-21 : tie.Need-enum-told-21
+enum-told-21 c = search needs
+
+exactly-requires-17 : tie.Need-exactly-requires-17
+exactly-requires-17 c κs = search needs
+
+enum-told-22 : tie.Need-enum-told-22
+enum-told-22 c = search needs
+
+exactly-requires-18 : tie.Need-exactly-requires-18
+exactly-requires-18 c κs = search needs
+
+enum-told-23 : tie.Need-enum-told-23
+enum-told-23 c = search needs
 
 returns : tie.Need-returns
 unfolding argumentsFit
@@ -204,32 +222,47 @@ returns-14 c =
 returns-15 : tie.Need-returns-15
 unfolding argumentsFit
 returns-15 c =
-    simp (c .before .before .before .enum-told15 .given .1, c .before .before .exactly9 .ensures, c .before .exactly10 .ensures, c .exactly11 .ensures)
+    simp (c .before .enum-told15 .given .1, c .exactly9 .ensures)
 
 returns-16 : tie.Need-returns-16
 unfolding argumentsFit
 returns-16 c =
-    simp (c .before .before .enum-told16 .given .1, c .before .exactly12 .ensures, c .exactly13 .ensures)
+    simp (c .before .enum-told16 .given .1, c .exactly10 .ensures)
 
 returns-17 : tie.Need-returns-17
 unfolding argumentsFit
 returns-17 c =
-    simp (c .before .enum-told17 .given .1, c .exactly14 .ensures)
+    simp (c .before .enum-told17 .given .1, c .one-word .ensures)
 
 returns-18 : tie.Need-returns-18
 unfolding argumentsFit
 returns-18 c =
-    simp (c .before .enum-told18 .given .1, c .exactly15 .ensures)
+    simp (c .before .before .before .enum-told18 .given .1, c .before .before .exactly11 .ensures, c .before .exactly12 .ensures, c .exactly13 .ensures)
 
 returns-19 : tie.Need-returns-19
 unfolding argumentsFit
 returns-19 c =
-    simp (c .before .enum-told19 .given .1, c .exactly16 .ensures)
+    simp (c .before .before .enum-told19 .given .1, c .before .exactly14 .ensures, c .exactly15 .ensures)
 
 returns-20 : tie.Need-returns-20
 unfolding argumentsFit
 returns-20 c =
-    simp (c .enum-told20 .given .1)
+    simp (c .before .enum-told20 .given .1, c .exactly16 .ensures)
+
+returns-21 : tie.Need-returns-21
+unfolding argumentsFit
+returns-21 c =
+    simp (c .before .enum-told21 .given .1, c .exactly17 .ensures)
+
+returns-22 : tie.Need-returns-22
+unfolding argumentsFit
+returns-22 c =
+    simp (c .before .enum-told22 .given .1, c .exactly18 .ensures)
+
+returns-23 : tie.Need-returns-23
+unfolding argumentsFit
+returns-23 c =
+    simp (c .enum-told23 .given .1)
 
 pub arguments-fit-spec : {M : Type 1} → statement M
 arguments-fit-spec =
@@ -265,18 +298,24 @@ arguments-fit-spec =
     exactly-requires-8
     enum-told-15
     exactly-requires-9
-    exactly-requires-10
-    exactly-requires-11
     enum-told-16
+    exactly-requires-10
+    enum-told-17
+    one-word-requires
+    enum-told-18
+    exactly-requires-11
     exactly-requires-12
     exactly-requires-13
-    enum-told-17
-    exactly-requires-14
-    enum-told-18
-    exactly-requires-15
     enum-told-19
-    exactly-requires-16
+    exactly-requires-14
+    exactly-requires-15
     enum-told-20
+    exactly-requires-16
+    enum-told-21
+    exactly-requires-17
+    enum-told-22
+    exactly-requires-18
+    enum-told-23
     returns
     returns-2
     returns-3
@@ -296,4 +335,7 @@ arguments-fit-spec =
     returns-17
     returns-18
     returns-19
-    returns-20)
+    returns-20
+    returns-21
+    returns-22
+    returns-23)

@@ -29,13 +29,13 @@ unfolding piecesOf
 returns-2 c =
     sym (choose-off _ _ _ (sym (c .before .before .before .before .same .ensures) ∙ c .before .before .before .if1 .left) ∙ choose-on _ _ _ (sym (c .before .same2 .ensures) ∙ c .if2 .taken))
 
-view-of-requires : tie.Need-view-of-requires
-view-of-requires c κs = search needs
+compared-of-requires : tie.Need-compared-of-requires
+compared-of-requires c κs = search needs
 
 returns-3 : tie.Need-returns-3
 unfolding piecesOf
 returns-3 c =
-    c .view-of .ensures ∙ sym (choose-off _ _ _ (sym (c .before .before .before .before .before .same .ensures) ∙ c .before .before .before .before .if1 .left) ∙ choose-off _ _ _ (sym (c .before .before .same2 .ensures) ∙ c .before .if2 .left))
+    c .compared-of .ensures ∙ sym (choose-off _ _ _ (sym (c .before .before .before .before .before .same .ensures) ∙ c .before .before .before .before .if1 .left) ∙ choose-off _ _ _ (sym (c .before .before .same2 .ensures) ∙ c .before .if2 .left))
 
 pub pieces-of-spec : {M : Type 1} → statement M
 pieces-of-spec =
@@ -47,5 +47,5 @@ pieces-of-spec =
     slice-aggregate-same-2
     same-requires-2
     returns-2
-    view-of-requires
+    compared-of-requires
     returns-3)

@@ -6,12 +6,12 @@ use Rattle.panel.proofs.run.Statement.{statement}
 use Rattle.panel.proofs.run.Tie as tie
 
 abbrev Inv-loop : tie.InvT-loop
-Inv-loop fd page₀ line₀ rec₀ outbox₀ pieces₀ front₀ used₀ last₀ turns₀ page line rec outbox pieces front used last turns =
-    (length page ≡ length page₀) × (length line ≡ length line₀) × (length rec ≡ length rec₀) × (length outbox ≡ length outbox₀)
+Inv-loop fd page₀ line₀ rec₀ aside₀ outbox₀ pieces₀ front₀ used₀ last₀ turns₀ page line rec aside outbox pieces front used last turns =
+    (length page ≡ length page₀) × (length line ≡ length line₀) × (length rec ≡ length rec₀) × (length aside ≡ length aside₀) × (length outbox ≡ length outbox₀)
     × (length pieces ≡ length pieces₀) × (length front ≡ length front₀)
 
 abbrev μ-loop : tie.MeasureT-loop
-μ-loop fd page₀ line₀ rec₀ outbox₀ pieces₀ front₀ used₀ last₀ turns₀ page line rec outbox pieces front used last turns =
+μ-loop fd page₀ line₀ rec₀ aside₀ outbox₀ pieces₀ front₀ used₀ last₀ turns₀ page line rec aside outbox pieces front used last turns =
     turns
 
 loop-holds : tie.Need-loop-holds Inv-loop μ-loop
@@ -56,11 +56,11 @@ same-length-5 c = search needs
 same-length-6 : tie.Need-same-length-6 Inv-loop μ-loop
 same-length-6 c = search needs
 
-returns : tie.Need-returns Inv-loop μ-loop
-returns c = search needs
-
 same-length-7 : tie.Need-same-length-7 Inv-loop μ-loop
 same-length-7 c = search needs
+
+returns : tie.Need-returns Inv-loop μ-loop
+returns c = search needs
 
 same-length-8 : tie.Need-same-length-8 Inv-loop μ-loop
 same-length-8 c = search needs
@@ -76,6 +76,12 @@ same-length-11 c = search needs
 
 same-length-12 : tie.Need-same-length-12 Inv-loop μ-loop
 same-length-12 c = search needs
+
+same-length-13 : tie.Need-same-length-13 Inv-loop μ-loop
+same-length-13 c = search needs
+
+same-length-14 : tie.Need-same-length-14 Inv-loop μ-loop
+same-length-14 c = search needs
 
 returns-2 : tie.Need-returns-2 Inv-loop μ-loop
 returns-2 c = search needs
@@ -100,11 +106,13 @@ run-spec =
     same-length-4
     same-length-5
     same-length-6
-    returns
     same-length-7
+    returns
     same-length-8
     same-length-9
     same-length-10
     same-length-11
     same-length-12
+    same-length-13
+    same-length-14
     returns-2)

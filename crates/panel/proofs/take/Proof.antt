@@ -7,12 +7,12 @@ use Rattle.panel.proofs.take.Statement.{statement}
 use Rattle.panel.proofs.take.Tie as tie
 
 abbrev Inv-loop : tie.InvT-loop
-Inv-loop bytes page₀ line₀ used₀ rec₀ outbox₀ pieces₀ front₀ i₀ i-end page line used rec outbox pieces front i =
-    (i-end ≡ length bytes) × (length page ≡ length page₀) × (length line ≡ length line₀) × (length rec ≡ length rec₀) × (length outbox ≡ length outbox₀)
+Inv-loop bytes page₀ line₀ used₀ rec₀ aside₀ outbox₀ pieces₀ front₀ i₀ i-end page line used rec aside outbox pieces front i =
+    (i-end ≡ length bytes) × (length page ≡ length page₀) × (length line ≡ length line₀) × (length rec ≡ length rec₀) × (length aside ≡ length aside₀) × (length outbox ≡ length outbox₀)
     × (length pieces ≡ length pieces₀) × (length front ≡ length front₀)
 
 abbrev μ-loop : tie.MeasureT-loop
-μ-loop bytes page₀ line₀ used₀ rec₀ outbox₀ pieces₀ front₀ i₀ i-end page line used rec outbox pieces front i =
+μ-loop bytes page₀ line₀ used₀ rec₀ aside₀ outbox₀ pieces₀ front₀ i₀ i-end page line used rec aside outbox pieces front i =
     i-end - i
 
 loop-holds : tie.Need-loop-holds Inv-loop μ-loop
@@ -45,6 +45,9 @@ same-length-5 c = search needs
 same-length-6 : tie.Need-same-length-6 Inv-loop μ-loop
 same-length-6 c = search needs
 
+same-length-7 : tie.Need-same-length-7 Inv-loop μ-loop
+same-length-7 c = search needs
+
 returns : tie.Need-returns Inv-loop μ-loop
 returns c = search needs
 
@@ -56,9 +59,6 @@ loop-less c = search needs
 
 loop-again : tie.Need-loop-again Inv-loop μ-loop
 loop-again c = search needs
-
-same-length-7 : tie.Need-same-length-7 Inv-loop μ-loop
-same-length-7 c = search needs
 
 same-length-8 : tie.Need-same-length-8 Inv-loop μ-loop
 same-length-8 c = search needs
@@ -74,6 +74,12 @@ same-length-11 c = search needs
 
 same-length-12 : tie.Need-same-length-12 Inv-loop μ-loop
 same-length-12 c = search needs
+
+same-length-13 : tie.Need-same-length-13 Inv-loop μ-loop
+same-length-13 c = search needs
+
+same-length-14 : tie.Need-same-length-14 Inv-loop μ-loop
+same-length-14 c = search needs
 
 returns-2 : tie.Need-returns-2 Inv-loop μ-loop
 returns-2 c = search needs
@@ -94,14 +100,16 @@ take-spec =
     same-length-4
     same-length-5
     same-length-6
+    same-length-7
     returns
     add-i
     loop-less
     loop-again
-    same-length-7
     same-length-8
     same-length-9
     same-length-10
     same-length-11
     same-length-12
+    same-length-13
+    same-length-14
     returns-2)

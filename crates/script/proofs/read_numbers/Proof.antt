@@ -57,8 +57,8 @@ returns-2 : tie.Need-returns-2 Inv-loop μ-loop
 returns-2 c =
     read-in _ _ _ _ _ _ (c .before .before .before .before .before .before .before .loop .inv .0 ∙ turn-bad _ _ _ _ (c .before .before .before .before .before .word-at .result) (c .before .before .before .before .before .word-at .ensures) (c .before .before .before .before .before .before .loop-test .taken) (omega (arith, c .before .before .before .before .before .before .before .loop .inv .1, c .before .before .before .before .before .before .loop-test .taken)) (omega (arith, c .before .before .before .before .if1 .left)) (sym (c .enum-told .given .1) ∙ c .before .before .read-decimal .ensures)) (c .before .before .before .before .before .before .before .loop .inv .2)
 
-keep-requires : tie.Need-keep-requires Inv-loop μ-loop
-keep-requires c κs = search needs
+put-word-requires : tie.Need-put-word-requires Inv-loop μ-loop
+put-word-requires c κs = search needs
 
 add-count : tie.Need-add-count Inv-loop μ-loop
 add-count c = search needs
@@ -68,9 +68,9 @@ loop-less c = search needs
 
 loop-again : tie.Need-loop-again Inv-loop μ-loop
 loop-again c = (
-  c .before .before .before .before .before .before .before .before .before .before .before .before .loop .inv .0 ∙ turn-more _ _ _ _ (c .before .before .before .before .before .before .before .before .before .before .word-at .result) (c .before .before .before .before .before .before .before .before .before .before .word-at .ensures) (c .before .before .before .before .before .before .before .before .before .before .before .loop-test .taken) (omega (arith, c .before .before .before .before .before .before .before .before .before .before .before .before .loop .inv .1, c .before .before .before .before .before .before .before .before .before .before .before .loop-test .taken)) _ _ (omega (arith, c .before .before .before .before .before .before .before .before .before .if1 .left)) (sym (c .before .before .before .before .before .d .given .1) ∙ c .before .before .before .before .before .before .before .read-decimal .ensures) (c .before .before .keep .ensures),
+  c .before .before .before .before .before .before .before .before .before .before .before .before .loop .inv .0 ∙ turn-more _ _ _ _ (c .before .before .before .before .before .before .before .before .before .before .word-at .result) (c .before .before .before .before .before .before .before .before .before .before .word-at .ensures) (c .before .before .before .before .before .before .before .before .before .before .before .loop-test .taken) (omega (arith, c .before .before .before .before .before .before .before .before .before .before .before .before .loop .inv .1, c .before .before .before .before .before .before .before .before .before .before .before .loop-test .taken)) _ _ (omega (arith, c .before .before .before .before .before .before .before .before .before .if1 .left)) (sym (c .before .before .before .before .before .d .given .1) ∙ c .before .before .before .before .before .before .before .read-decimal .ensures) (c .before .before .put-word .ensures),
   omega (arith, c .before .before .before .before .before .before .before .before .before .if1 .left, c .before .before .before .before .before .before .before .before .before .before .word-at .ensures .from .low, c .before .before .before .before .before .before .before .before .before .before .before .before .loop .inv .1),
-  c .before .before .keep .kept .0 ∙ c .before .before .before .before .before .before .before .before .before .before .before .before .loop .inv .2,
+  c .before .before .put-word .kept .0 ∙ c .before .before .before .before .before .before .before .before .before .before .before .before .loop .inv .2,
 )
 
 same-length-3 : tie.Need-same-length-3 Inv-loop μ-loop
@@ -98,7 +98,7 @@ read-numbers-spec =
     enum-told
     same-length-2
     returns-2
-    keep-requires
+    put-word-requires
     add-count
     loop-less
     loop-again

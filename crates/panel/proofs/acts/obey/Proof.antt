@@ -88,8 +88,8 @@ end-requires c κs = search needs
 answered-requires-8 : tie.Need-answered-requires-8
 answered-requires-8 c κs = search needs
 
-ask-requires : tie.Need-ask-requires
-ask-requires c κs = search needs
+others-requires : tie.Need-others-requires
+others-requires c κs = search needs
 
 same-length : tie.Need-same-length
 same-length c = search needs
@@ -100,7 +100,7 @@ same-length-2 c = search needs
 returns-2 : tie.Need-returns-2
 unfolding tells
 returns-2 c =
-    telling (c .before .before .before .before .before .before .before .before .before .before .before .before .before .before .before .before .before .before .before .before .args .line .now) (c .before .before .before .before .before .before .before .before .before .before .command-of .result) command.Start (c .before .before .before .before .before .before .before .before .before .before .command-of .ensures) (c .before .before .before .before .before .before .before .before .enum-told .given .1) refl _ _ _ _
+    telling _ (c .before .before .before .before .before .before .before .before .before .before .command-of .result) command.Start (c .before .before .before .before .before .before .before .before .before .before .command-of .ensures) (c .before .before .before .before .before .before .before .before .enum-told .given .1) refl _ _ _ _
 
 same-length-3 : tie.Need-same-length-3
 same-length-3 c = search needs
@@ -114,7 +114,7 @@ same-length-5 c = search needs
 returns-3 : tie.Need-returns-3
 unfolding tells
 returns-3 c =
-    telling (c .before .before .before .before .before .before .before .before .before .before .before .before .before .before .before .before .before .before .before .before .before .before .before .args .line .now) (c .before .before .before .before .before .before .before .before .before .before .before .before .before .command-of .result) command.Vote (c .before .before .before .before .before .before .before .before .before .before .before .before .before .command-of .ensures) (c .before .before .before .before .before .before .before .before .before .before .before .enum-told2 .given .1) refl _ _ _ _
+    telling _ (c .before .before .before .before .before .before .before .before .before .before .before .before .before .command-of .result) command.Vote (c .before .before .before .before .before .before .before .before .before .before .before .before .before .command-of .ensures) (c .before .before .before .before .before .before .before .before .before .before .before .enum-told2 .given .1) refl _ _ _ _
 
 same-length-6 : tie.Need-same-length-6
 same-length-6 c = search needs
@@ -128,7 +128,7 @@ same-length-8 c = search needs
 returns-4 : tie.Need-returns-4
 unfolding tells
 returns-4 c =
-    telling (c .before .before .before .before .before .before .before .before .before .before .before .before .before .before .before .before .before .before .before .before .before .before .before .args .line .now) (c .before .before .before .before .before .before .before .before .before .before .before .before .before .command-of .result) command.Block (c .before .before .before .before .before .before .before .before .before .before .before .before .before .command-of .ensures) (c .before .before .before .before .before .before .before .before .before .before .before .enum-told3 .given .1) refl _ _ _ _
+    telling _ (c .before .before .before .before .before .before .before .before .before .before .before .before .before .command-of .result) command.Block (c .before .before .before .before .before .before .before .before .before .before .before .before .before .command-of .ensures) (c .before .before .before .before .before .before .before .before .before .before .before .enum-told3 .given .1) refl _ _ _ _
 
 same-length-9 : tie.Need-same-length-9
 same-length-9 c = search needs
@@ -142,7 +142,7 @@ same-length-11 c = search needs
 returns-5 : tie.Need-returns-5
 unfolding tells
 returns-5 c =
-    telling (c .before .before .before .before .before .before .before .before .before .before .before .before .before .before .before .before .before .before .before .before .before .before .before .args .line .now) (c .before .before .before .before .before .before .before .before .before .before .before .before .before .command-of .result) command.Timeout (c .before .before .before .before .before .before .before .before .before .before .before .before .before .command-of .ensures) (c .before .before .before .before .before .before .before .before .before .before .before .enum-told4 .given .1) refl _ _ _ _
+    telling _ (c .before .before .before .before .before .before .before .before .before .before .before .before .before .command-of .result) command.Timeout (c .before .before .before .before .before .before .before .before .before .before .before .before .before .command-of .ensures) (c .before .before .before .before .before .before .before .before .before .before .before .enum-told4 .given .1) refl _ _ _ _
 
 same-length-12 : tie.Need-same-length-12
 same-length-12 c = search needs
@@ -156,7 +156,7 @@ same-length-14 c = search needs
 returns-6 : tie.Need-returns-6
 unfolding tells
 returns-6 c =
-    telling (c .before .before .before .before .before .before .before .before .before .before .before .before .before .before .before .before .before .before .before .before .before .before .before .args .line .now) (c .before .before .before .before .before .before .before .before .before .before .before .before .before .command-of .result) command.Look (c .before .before .before .before .before .before .before .before .before .before .before .before .before .command-of .ensures) (c .before .before .before .before .before .before .before .before .before .before .before .enum-told5 .given .1) refl _ _ _ _
+    telling _ (c .before .before .before .before .before .before .before .before .before .before .before .before .before .command-of .result) command.Look (c .before .before .before .before .before .before .before .before .before .before .before .before .before .command-of .ensures) (c .before .before .before .before .before .before .before .before .before .before .before .enum-told5 .given .1) refl _ _ _ _
 
 same-length-15 : tie.Need-same-length-15
 same-length-15 c = search needs
@@ -170,7 +170,7 @@ same-length-17 c = search needs
 returns-7 : tie.Need-returns-7
 unfolding tells
 returns-7 c =
-    telling (c .before .before .before .before .before .before .before .before .before .before .before .before .before .before .before .before .before .before .before .before .before .before .before .args .line .now) (c .before .before .before .before .before .before .before .before .before .before .before .before .before .command-of .result) command.Tray (c .before .before .before .before .before .before .before .before .before .before .before .before .before .command-of .ensures) (c .before .before .before .before .before .before .before .before .before .before .before .enum-told6 .given .1) refl _ _ _ _
+    telling _ (c .before .before .before .before .before .before .before .before .before .before .before .before .before .command-of .result) command.Tray (c .before .before .before .before .before .before .before .before .before .before .before .before .before .command-of .ensures) (c .before .before .before .before .before .before .before .before .before .before .before .enum-told6 .given .1) refl _ _ _ _
 
 same-length-18 : tie.Need-same-length-18
 same-length-18 c = search needs
@@ -201,6 +201,9 @@ same-length-24 c = search needs
 
 same-length-25 : tie.Need-same-length-25
 same-length-25 c = search needs
+
+same-length-26 : tie.Need-same-length-26
+same-length-26 c = search needs
 
 returns-10 : tie.Need-returns-10
 returns-10 c = search needs
@@ -236,7 +239,7 @@ obey-spec =
     enum-told-8
     end-requires
     answered-requires-8
-    ask-requires
+    others-requires
     same-length
     same-length-2
     returns-2
@@ -270,4 +273,5 @@ obey-spec =
     returns-9
     same-length-24
     same-length-25
+    same-length-26
     returns-10)

@@ -5,8 +5,8 @@ use denote.Ref.{now}
 use lib.Seq.{length-take-le}
 use borrow.Author.Needs.{needs}
 use Rattle.door.proofs.Laws.{room-left}
-use Rattle.door.proofs.send.Statement.{statement}
-use Rattle.door.proofs.send.Tie as tie
+use Rattle.door.proofs.send_to.Statement.{statement}
+use Rattle.door.proofs.send_to.Tie as tie
 
 slice-aggregate-write-all : tie.Need-slice-aggregate-write-all
 slice-aggregate-write-all c =
@@ -22,5 +22,5 @@ returns c =
 returns-2 : tie.Need-returns-2
 returns-2 c = search needs
 
-pub send-spec : {M : Type 1} → statement M
-send-spec = tie.close (tie.spec slice-aggregate-write-all write-all-requires returns returns-2)
+pub send-to-spec : {M : Type 1} → statement M
+send-to-spec = tie.close (tie.spec slice-aggregate-write-all write-all-requires returns returns-2)

@@ -1,0 +1,2 @@
+-- Laws of words copied.
+pub mod Laws
