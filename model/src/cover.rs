@@ -2,7 +2,7 @@
 //! branches of the rules, and the forms of packets.
 
 use crate::gen;
-use crate::node::{Node, LAST_SLOT};
+use crate::node::{Node, LAST_SLOT, MOST_BLOCKS};
 use crate::packet;
 use crate::panel::{lines, Answer, Panel, MOST_LINES};
 use crate::refusal::Refusal;
@@ -26,6 +26,8 @@ pub struct Cover {
     life: usize,
     /// Since the last end.
     pieces: usize,
+    /// The slot and the leader of the last card.
+    last_leader: (u64, u64),
 }
 
 const COMMANDS: &[&str] = &[
@@ -40,6 +42,7 @@ const COMMANDS: &[&str] = &[
     "check",
     "checkproof",
     "votes",
+    "card",
     "board",
     "help",
     "why",
@@ -80,6 +83,7 @@ impl Cover {
         let mut panel = Panel::default();
         let script = lines(text.as_bytes());
         self.pieces = 0;
+        self.last_leader = (0, 0);
         self.scripts += 1;
         self.longest = self.longest.max(script.len());
         for (i, line) in script.iter().enumerate() {
@@ -140,6 +144,7 @@ impl Cover {
             "cert" | "proof" if number == "0" => self.take_written(command, answered[2]),
             "piece" if number == "more" => self.pieces += 1,
             "end" if number != "?" => self.take_end(number),
+            "card" if number == "0" => self.take_card(panel, words[1]),
             "differ" if number != "?" => self.take_differ(panel, &answered),
             "unpack" if number == "0" => self.note(format!("unpack 0, {} bytes", words[2].len() / 2)),
             "check" | "checkproof" if number != "?" => self.take_checked(&words, number),
@@ -181,6 +186,41 @@ impl Cover {
             _ => "more pieces",
         };
         self.note(format!("end {number} after {pieces}"));
+    }
+
+    /// What stands on a card, and how its leader came to lead.
+    fn take_card(&mut self, panel: &Panel, slot: &str) {
+        let (node, slot) = match (&panel.node, slot.parse()) {
+            (Some(node), Ok(slot)) => (node, slot),
+            _ => return,
+        };
+        let card = node.card(slot).expect("the card was shown");
+        let blocks = node.notar_blocks(slot);
+        let leading = |&&block: &&u64| node.notar_weight(slot, block) == card.leader_weight;
+        let tie = blocks.iter().filter(leading).count() > 1;
+        let before = std::mem::replace(&mut self.last_leader, (slot, card.leader));
+        let shown = match blocks.len() {
+            0 if card.skip_certificate + card.finals == 0 => "card: all 0",
+            0 => "card: no leader",
+            _ if before.0 != slot || before.1 == 0 => "card: a leader",
+            _ if before.1 == card.leader && tie => "card: a tie, the leader stays",
+            _ if before.1 == card.leader => "card: the leader stays",
+            _ if tie => "card: a tie, the lower one leads",
+            _ => "card: the leader overtaken",
+        };
+        self.note(shown);
+        if node.stakes().family() == Family::Large {
+            self.note(format!("{shown}, large table"));
+        }
+        if blocks.len() > MOST_BLOCKS {
+            self.note("card: more blocks than are kept");
+        }
+        if card.skip != card.skip_certificate {
+            self.note("card: skip-fallbacks that count");
+        }
+        if card.finals > 0 {
+            self.note("card: final votes");
+        }
     }
 
     /// What a comparison found, and between which nodes.

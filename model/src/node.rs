@@ -6,6 +6,7 @@
 
 use crate::refusal::Refusal;
 use crate::stakes::{Signers, Stakes, Threshold, P20, P40, P60, P80};
+use std::cmp::Reverse;
 use std::collections::{BTreeMap, BTreeSet};
 
 pub const LAST_SLOT: u64 = 16;
@@ -227,6 +228,17 @@ pub struct Block {
     pub parent: u64,
 }
 
+/// One slot's weights at a glance.
+#[derive(Clone, Copy, PartialEq, Eq, Debug)]
+pub struct Card {
+    pub skip: u64,
+    pub finals: u64,
+    pub skip_certificate: u64,
+    /// The heaviest notar block, 0 where there is none.
+    pub leader: u64,
+    pub leader_weight: u64,
+}
+
 /// Slots number from 1, so the first place of each row is never used.
 const ROWS: usize = LAST_SLOT as usize + 1;
 
@@ -345,7 +357,7 @@ impl Node {
         cells.filter(|(_, cell)| counts(cell)).map(|(&node, _)| self.stakes.of(node)).sum()
     }
 
-    fn notar_weight(&self, slot: u64, block: u64) -> u64 {
+    pub fn notar_weight(&self, slot: u64, block: u64) -> u64 {
         self.weight(slot, |cell| cell.notar_is(block))
     }
 
@@ -406,6 +418,25 @@ impl Node {
         parents
     }
 
+    /// The slot's tally card, by a recount.
+    pub fn card(&self, slot: u64) -> Result<Card, Refusal> {
+        if !is_slot(slot) {
+            return Err(Refusal::NoSuchSlot);
+        }
+        let blocks = self.notar_blocks(slot).into_iter();
+        let weighed = blocks.map(|block| (self.notar_weight(slot, block), block));
+        // The heaviest; of several the lowest number.
+        let (leader_weight, leader) =
+            weighed.max_by_key(|&(weight, block)| (weight, Reverse(block))).unwrap_or((0, 0));
+        Ok(Card {
+            skip: self.skip_weight(slot),
+            finals: self.weight(slot, |cell| cell.final_vote),
+            skip_certificate: self.weight(slot, |cell| Cert::Skip.counts(cell)),
+            leader,
+            leader_weight,
+        })
+    }
+
     /// Every stored vote as (slot, node, vote) in slot, node, kind, block order.
     pub fn stored_votes(&self) -> Vec<(u64, usize, Vote)> {
         let mut all = Vec::new();
@@ -442,6 +473,7 @@ impl Node {
             return Err(Refusal::AnotherStands);
         }
         cell.store(vote);
+        self.note_skips(slot, node as usize, vote);
         let records = self.run_rules();
         self.note_causes(Came::Vote, slot, &records);
         Ok(records)
@@ -802,6 +834,17 @@ enum Came {
 impl Node {
     fn note(&mut self, what: &'static str) {
         *self.notes.entry(what).or_insert(0) += 1;
+    }
+
+    /// Two votes of a node that count once for skip, by which came later.
+    fn note_skips(&mut self, slot: u64, node: usize, stored: Vote) {
+        let cell = &self.pool[slot as usize][&node];
+        match stored {
+            Vote::Skip if cell.skip_fallback => self.note("skip after skip-fallback"),
+            Vote::SkipFallback if cell.is_skip() => self.note("skip-fallback after skip"),
+            Vote::SkipFallback if cell.initial.is_none() => self.note("skip-fallback before an initial vote"),
+            _ => {}
+        }
     }
 
     fn kept_with_number(&self, slot: u64, number: u64) -> Option<Block> {

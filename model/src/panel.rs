@@ -2,7 +2,7 @@
 
 use crate::differ::{differ, Line};
 use crate::message::{self, Message};
-use crate::node::{is_slot, Node, Record, Vote};
+use crate::node::{is_slot, Card, Node, Record, Vote};
 use crate::packet;
 use crate::refusal::Refusal;
 use crate::stakes::{Family, Stakes};
@@ -78,6 +78,7 @@ enum Command {
     Unpack { count: u64, bytes: Vec<u8> },
     Piece { bytes: Vec<u8>, stakes: Vec<u64> },
     End,
+    Card { slot: u64 },
     Votes,
     VotesOfSlot { slot: u64, from: u64 },
     Board,
@@ -149,6 +150,7 @@ impl Panel {
                 let pieces = self.pieces.take().ok_or(Refusal::PacketLength)?;
                 show_checked(packet::check_proof(&pieces.bytes, &pieces.stakes)?)
             }
+            Command::Card { slot } => show_card(self.node()?.card(slot)?),
             Command::Votes => return self.node().map(|node| answer_votes(node)),
             Command::VotesOfSlot { slot, from } => {
                 return Ok(Answer::Lines(page_of_votes(self.node()?, slot, from)?))
@@ -225,6 +227,10 @@ fn parse(words: &[&[u8]]) -> Result<Command, Malformed> {
             Ok(Command::VotesOfSlot { slot, from })
         }
         b"board" if rest.len() <= 2 => all_numbers(rest).map(|_| Command::Board),
+        b"card" => {
+            let [slot] = numbers(rest)?;
+            Ok(Command::Card { slot })
+        }
         b"help" => numbers::<0>(rest).map(|_| Command::Help),
         b"why" => numbers::<1>(rest).map(|_| Command::Why),
         b"cert" => {
@@ -345,6 +351,10 @@ fn show_lines(lines: &[Line]) -> String {
         shown += &format!(" {slot},{node},{kind},{block},{}", l.side);
     }
     shown
+}
+
+fn show_card(c: Card) -> String {
+    format!("0 {} {} {} {} {}", c.skip, c.finals, c.skip_certificate, c.leader, c.leader_weight)
 }
 
 fn show_message(m: Message) -> String {

@@ -845,6 +845,74 @@ fn tables_of_two_families_are_other_tables() {
     }
 }
 
+// ---- cards ----
+
+fn card(node: &Node, slot: u64) -> [u64; 5] {
+    let c = node.card(slot).unwrap();
+    [c.skip, c.finals, c.skip_certificate, c.leader, c.leader_weight]
+}
+
+#[test]
+fn a_card_weighs_each_node_once() {
+    let mut n = node(0, &[1, 2, 4, 8, 16, 32]);
+    assert_eq!(card(&n, 2), [0; 5]);
+    vote(&mut n, 3, 1, 2, 0);
+    vote(&mut n, 4, 1, 2, 0);
+    assert_eq!(card(&n, 2), [2, 0, 2, 0, 0]);
+    // Fallbacks before the skip, and of a node with a notar vote.
+    vote(&mut n, 4, 2, 2, 0);
+    assert_eq!(card(&n, 2), [2, 0, 6, 0, 0]);
+    vote(&mut n, 3, 2, 2, 0);
+    vote(&mut n, 1, 3, 2, 7);
+    vote(&mut n, 4, 3, 2, 0);
+    assert_eq!(card(&n, 2), [6, 0, 14, 7, 8]);
+    vote(&mut n, 5, 3, 2, 0);
+    vote(&mut n, 2, 4, 2, 9);
+    assert_eq!(card(&n, 2), [6, 8, 14, 7, 8]);
+    assert_eq!(card(&n, 1), [0; 5]);
+    assert_eq!(card(&n, 3), [0; 5]);
+}
+
+#[test]
+fn the_leader_is_the_heaviest_and_of_several_the_lowest() {
+    let mut n = ten();
+    vote(&mut n, 1, 1, 16, 8);
+    assert_eq!(card(&n, 16)[3..], [8, 1]);
+    vote(&mut n, 1, 2, 16, 9);
+    assert_eq!(card(&n, 16)[3..], [8, 1]);
+    vote(&mut n, 1, 3, 16, 7);
+    assert_eq!(card(&n, 16)[3..], [7, 1]);
+    vote(&mut n, 1, 4, 16, 9);
+    assert_eq!(card(&n, 16)[3..], [9, 2]);
+    vote(&mut n, 1, 5, 16, 8);
+    assert_eq!(card(&n, 16)[3..], [8, 2]);
+}
+
+#[test]
+fn own_votes_are_on_the_card() {
+    let script = "card 1\nstart 0 1 5\ncard 0\ncard 17\nblock 1 7 0 1\ncard 1\ntimeout 2\ncard 2\ncard";
+    let answers = ["17", "0", "3", "3", "0 4 7,1,0 1,1,7 5,1,0 6,1,7", "0 0 5 0 7 5"];
+    assert_eq!(run(script)[..6], answers);
+    assert_eq!(run(script)[7..], ["0 5 0 5 0 0", "?"]);
+}
+
+#[test]
+fn refused_votes_leave_the_card() {
+    let mut n = ten();
+    vote(&mut n, 1, 1, 16, u64::MAX);
+    vote(&mut n, 3, 2, 16, 0);
+    let before = card(&n, 16);
+    for (kind, from, block) in
+        [(1, 1, u64::MAX), (1, 1, 7), (3, 1, 0), (3, 2, 0), (1, 2, 7), (1, 0, 7), (4, 3, 7)]
+    {
+        assert!(n.vote(kind, from, 16, block).is_err());
+        assert_eq!(card(&n, 16), before);
+    }
+    // The top bit is no sign.
+    vote(&mut n, 1, 3, 16, 1 << 63);
+    assert_eq!(card(&n, 16), [1, 0, 1, 1 << 63, 1]);
+}
+
 // ---- packets ----
 
 #[test]
@@ -1369,6 +1437,7 @@ const POSSIBLE: &[(&str, &[u64])] = &[
     ("piece", &[1]),
     ("end", &[0, 4, 12, 13, 14, 15, 16]),
     ("votes", &[0, 17]),
+    ("card", &[0, 3, 17]),
     ("pack", &[0, 1, 2, 3, 4, 5]),
     ("unpack", &[0, 1, 2, 3, 4, 5, 12, 13]),
 ];
@@ -1442,6 +1511,20 @@ const BRANCHES: &[&str] = &[
     "cert written: kind 15",
     "check 4 for a kind of the other family",
     "checkproof 4 for a kind of the other family",
+    "card: all 0",
+    "card: no leader",
+    "card: a leader",
+    "card: the leader stays",
+    "card: the leader overtaken",
+    "card: a tie, the leader stays",
+    "card: a tie, the lower one leads",
+    "card: a tie, the leader stays, large table",
+    "card: more blocks than are kept",
+    "card: skip-fallbacks that count",
+    "card: final votes",
+    "skip after skip-fallback",
+    "skip-fallback after skip",
+    "skip-fallback before an initial vote",
     "differ: no line",
     "differ: lines of one side",
     "differ: lines of both sides",
@@ -1449,11 +1532,8 @@ const BRANCHES: &[&str] = &[
     "differ: tables with another stake",
     "differ: tables with the same total",
     "differ: the same table, another own number",
-    "differ: lines of one side, large table",
-    "differ: lines of both sides, large table",
     "differ: side 1 then 1 in one place",
     "differ: side 1 then 2 in one place",
-    "differ: side 2 then 1 in one place",
     "differ: side 2 then 2 in one place",
     "differ: votes of kind 1",
     "differ: votes of kind 2",
@@ -1486,6 +1566,11 @@ const SELDOM: &[&str] = &[
     "start with 64 nodes",
     "start with 65 nodes",
     "start with 2048 nodes",
+    "card: a tie, the lower one leads, large table",
+    "differ: side 2 then 1 in one place",
+    "differ: lines of both sides, large table",
+    "differ: lines of one side, large table",
+    "card: the leader overtaken, large table",
     "differ: nothing aside",
     "differ: no node",
     "differ: the same table, another genesis",

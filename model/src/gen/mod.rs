@@ -1,5 +1,6 @@
 //! Random scripts, each wholly set by its seed.
 
+mod cards;
 mod compared;
 mod history;
 mod malformed;
@@ -11,6 +12,7 @@ mod scenes;
 mod trays;
 mod writer;
 
+use crate::node::LAST_SLOT;
 use crate::random::Random;
 use history::Numbers;
 use ring::Ring;
@@ -25,31 +27,41 @@ pub struct Script {
     pub quits: bool,
 }
 
+/// Seeds in a row go through the scenes in turn, each as often as it has
+/// numbers here.
+const SCENES: u64 = 73;
+
+/// Of so many scripts one has very many votes.
+const MANY_LINES_ONCE_IN: u64 = 1000;
+
 pub fn script(seed: u64) -> Script {
     // The seed is stirred once, so that seeds in a row share nothing.
-    let mut random = Random::new(Random::new(seed).next());
-    match random.below(66) {
+    let random = Random::new(Random::new(seed).next());
+    if seed % MANY_LINES_ONCE_IN == MANY_LINES_ONCE_IN / 2 {
+        return many_lines(random);
+    }
+    match seed % SCENES {
         0 => tiny(random),
-        1 => before_start(random),
-        2 => restarts(random),
-        3 => only_malformed(random),
-        4 | 5 => faults(random),
-        6 | 7 => lone(random),
-        8..=11 => packets_only(random),
-        12..=14 => soup(random),
-        15..=17 => pushes(random),
-        18 => brink(random),
-        19..=22 => avalanche(random),
-        23..=26 => standoffs(random),
-        27 | 28 => bridges(random),
-        29 | 30 => leaps(random),
-        31..=33 => messages(random),
-        34 | 35 => trays(random),
-        36..=43 => waits(random),
-        44..=46 => ancestry(random),
-        47..=50 => in_pieces(random),
-        51..=54 if random.percent(5) => many_lines(random),
-        51..=54 => compared(random),
+        1 | 2 => before_start(random),
+        3 => restarts(random),
+        4 => only_malformed(random),
+        5 | 6 => faults(random),
+        7 | 8 => lone(random),
+        9..=12 => packets_only(random),
+        13..=15 => soup(random),
+        16..=18 => pushes(random),
+        19 => brink(random),
+        20..=23 => avalanche(random),
+        24..=27 => standoffs(random),
+        28 | 29 => bridges(random),
+        30 | 31 => leaps(random),
+        32..=34 => messages(random),
+        35 | 36 => trays(random),
+        37..=45 => waits(random),
+        46..=48 => ancestry(random),
+        49..=52 => in_pieces(random),
+        53..=57 => compared(random),
+        58..=61 => cards(random),
         _ => history(random),
     }
 }
@@ -150,7 +162,7 @@ fn standoffs(mut random: Random) -> Script {
 fn waits(mut random: Random) -> Script {
     let nodes = random.pick(&[5, 5, 5, 6, 8]);
     let mut ring = Ring::of_fifths(&mut random, nodes);
-    if random.percent(25) {
+    if random.percent(35) {
         ring = ring.widened(&mut random);
     }
     let mut w = begin(random, ring, 100, 200);
@@ -180,9 +192,19 @@ fn leaps(mut random: Random) -> Script {
 }
 
 fn compared(mut random: Random) -> Script {
-    let ring = if random.percent(80) { Ring::small(&mut random) } else { Ring::any(&mut random) };
+    let mut ring = if random.percent(80) { Ring::small(&mut random) } else { Ring::any(&mut random) };
+    if random.percent(15) {
+        ring = ring.widened(&mut random);
+    }
     let mut w = begin(random, ring, 20, 50);
     compared::compared(&mut w);
+    end(w)
+}
+
+fn cards(mut random: Random) -> Script {
+    let ring = cards::ring_for_cards(&mut random);
+    let mut w = begin(random, ring, 40, 200);
+    cards::cards(&mut w);
     end(w)
 }
 
@@ -199,6 +221,11 @@ fn many_lines(mut random: Random) -> Script {
 fn finish_with_audit(mut w: Writer, most: usize) -> Script {
     w.add_room(40);
     packets::audit(&mut w, most);
+    for slot in 1..=LAST_SLOT {
+        if w.random.percent(20) {
+            w.say(format!("card {slot}"));
+        }
+    }
     end(w)
 }
 
@@ -243,6 +270,9 @@ fn before_start(mut random: Random) -> Script {
         "proof 1 7",
         "proof 0 0",
         "votes",
+        "card 1",
+        "card 16",
+        "card 99",
         "board",
         "votes 1 0",
         "votes 99 99",

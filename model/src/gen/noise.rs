@@ -8,7 +8,7 @@ use crate::random::Random;
 use crate::stakes::{MOST_NODES, MOST_TOTAL};
 
 pub fn some(w: &mut Writer, numbers: &Numbers) {
-    match w.random.below(18) {
+    match w.random.below(19) {
         0 | 1 => w.repeat_some_line(),
         2 => contradict(w, numbers),
         3 => contradict_block(w),
@@ -33,6 +33,11 @@ pub fn some(w: &mut Writer, numbers: &Numbers) {
             w.say(line);
         }
         16 => {
+            let any = w.random.range(1, LAST_SLOT);
+            let slot = w.random.pick(&[any, any, any, 0, LAST_SLOT + 1, 257, u64::MAX]);
+            w.say(format!("card {slot}"));
+        }
+        17 => {
             let set_aside = w.panel.aside.is_none() && w.random.percent(90);
             let line = w.random.pick(&["aside", "differ", "differ"]);
             w.say(if set_aside { "aside" } else { line });

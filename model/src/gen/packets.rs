@@ -179,13 +179,13 @@ impl Fields {
         let any_node = random.index(nodes);
         let places = 64 * ring.table().family().mask_words();
         let beyond = nodes + random.index((places - nodes).max(1));
-        match random.below(10) {
+        match random.below(11) {
             0 => self.kind = other_kind(random, self.kind),
             1 => {
                 self.slot =
                     random.pick(&[0, 17, 18, 127, 128, 256 | self.slot, 1 << 32 | self.slot, u64::MAX])
             }
-            2 | 8 => self.block = if self.block == 0 { random.any_number().max(1) } else { 0 },
+            2 | 8 | 9 => self.block = if self.block == 0 { random.any_number().max(1) } else { 0 },
             3 if beyond < places => {
                 self.a.insert(beyond);
             }
@@ -423,7 +423,7 @@ fn around_threshold(random: &mut Random, ring: &Ring, meaning: u64, slot: u64) -
 /// Proofs of every sort, each cut anew; ends without a piece, refused tables
 /// and other lines between.
 pub fn in_pieces(w: &mut Writer) {
-    let fault = w.random.pick(&[0, 10, 40]);
+    let fault = w.random.pick(&[0, 20, 40]);
     while !w.full() {
         let ring = w.ring.clone();
         let mut packet = proof(&mut w.random, &ring, fault);
@@ -447,6 +447,9 @@ pub fn in_pieces(w: &mut Writer) {
             4 => w.start(),
             5 => check(w, &packet, &ring.stakes),
             _ => {
+                if w.random.percent(10) {
+                    packet.truncate(w.random.index(packet.len() + 1));
+                }
                 let cuts = w.random.pick(&[0, 1, 2, 5, packet.len().min(30)]);
                 let cuts = (0..cuts).map(|_| w.random.index(packet.len() + 1)).collect();
                 cut_up(w, &packet, cuts);

@@ -335,11 +335,14 @@ pub fn bridges(w: &mut Writer) {
 /// What the four other camps vote so that rule D's weights may be reached.
 const DOUBTED: &[[Lean; 4]] = &[
     [M, M, N, N],
+    [M, M, N, N],
+    [M, M, N, N],
     [M, S, S, N],
     [M, A, S, S],
     [M, M, A, A],
     [A, M, M, S],
     [M, M, M, N],
+    [S, A, B, C],
     [S, A, B, C],
     [S, M, A, B],
 ];
@@ -394,7 +397,7 @@ fn wait_in(w: &mut Writer, numbers: &Numbers, slot: u64) {
         match step {
             Step::OwnVote => {
                 // Who voted for a block is mostly left without the window's skips.
-                if w.node().own_cell(slot).initial.is_none() || w.random.percent(25) {
+                if w.node().own_cell(slot).initial.is_none() || w.random.percent(15) {
                     let any = w.random.range(first_of_window(slot), slot);
                     let named = w.random.pick(&[slot, any]);
                     w.say(format!("timeout {named}"));
