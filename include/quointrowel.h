@@ -104,8 +104,8 @@ enum qr_size {
     QR_LAST_SLOT = 16
 };
 
-/* Words of a record of a ring of so many nodes, 1 to QR_MOST_NODES, exactly: 623 for three nodes, 246,023 for 2,048. */
-#define QR_RECORD_WORDS(nodes) (263 + 120 * (size_t)(nodes))
+/* Words of a record of a ring of so many nodes, 1 to QR_MOST_NODES, exactly: 708 for three nodes, 246,108 for 2,048. */
+#define QR_RECORD_WORDS(nodes) (348 + 120 * (size_t)(nodes))
 
 /*
  * The same of the library that is linked, which a host compares with those of this header. qr_record_words: by the number
@@ -172,6 +172,14 @@ uint64_t qr_write_certificate(const uint64_t *record, size_t record_words, uint8
 
 uint64_t qr_write_proof(const uint64_t *record, size_t record_words, uint8_t *buffer, size_t buffer_bytes, size_t *written,
                         size_t slot, uint64_t block);
+
+/*
+ * A slot's tally card into values: the weight of its skip votes, of its final votes and of those who count in its skip
+ * certificate, the block with the most notar weight, the lowest where several have as much, and that weight; these two are 0
+ * where there is no notar vote. After every call the card is what a recount of the stored votes gives; words in which one
+ * is not are refused with 17 by every call. Zeros beside a refusal. Refusals: 17, 3.
+ */
+uint64_t qr_card(const uint64_t *record, size_t record_words, size_t slot, uint64_t values[5]);
 
 /*
  * Check a packet against the stakes alone; their number tells the family. The kind, read first, tells how many numbers are

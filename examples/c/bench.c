@@ -1,5 +1,5 @@
 /* Bench cases B1 and B9 of the scope document, through the C face: one node of stake 5, one block, its finality proof; and a
-   proof that is too light, with what is missing. Then a vote as a message, a tray of votes, and a ring of 100 nodes, whose
+   proof that is too light, with what is missing. Then a vote as a message, a tray of votes and the tally card after it, and a ring of 100 nodes, whose
    certificates have the kinds 11 to 15. Last a proof that comes byte by byte. */
 #include <inttypes.h>
 #include <stdio.h>
@@ -52,6 +52,17 @@ static void show_tray(uint64_t *record, uint64_t *outbox)
         printf(" %" PRIu64, answers[i]);
     number = qr_tray(record, QR_RECORD_WORDS(3), outbox, QR_OUTBOX_WORDS, &made, votes, 15, answers, 3);
     printf("; a part at the end: %" PRIu64 "\n", number);
+}
+
+/* What the votes of slot 1 weigh after that tray; and a slot that is none. */
+static void show_card(const uint64_t *record)
+{
+    uint64_t card[5];
+    uint64_t number = qr_card(record, QR_RECORD_WORDS(3), 1, card);
+    printf("card of slot 1: %" PRIu64 ", skip %" PRIu64 " final %" PRIu64 " skip certificate %" PRIu64 " block %" PRIu64 " weight %" PRIu64,
+           number, card[0], card[1], card[2], card[3], card[4]);
+    number = qr_card(record, QR_RECORD_WORDS(3), QR_LAST_SLOT + 1, card);
+    printf("; of slot 17: %" PRIu64 ", skip %" PRIu64 "\n", number, card[0]);
 }
 
 /* A proof that comes byte by byte, one that is cut short, and an end with no piece before it. */
@@ -237,6 +248,7 @@ int main(void)
     show_check("B9: kind 5 without signers", number, values, missing);
     show_message();
     show_tray(record, outbox);
+    show_card(record);
     show_blocks(record, outbox);
     show_large(outbox);
     show_differences(record, outbox);

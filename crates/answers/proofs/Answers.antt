@@ -14,12 +14,14 @@ use Rattle.rulebook.specs.Writers.{Writes}
 use Rattle.node.specs.Stepping.{StepOf, stepLeaves}
 use Rattle.soundness.specs.Starting.{StartOf}
 use Rattle.trays.specs.Lent.{TrayOf}
+use Rattle.cards.specs.declared.CardAnswer.{CardAnswer}
+use Rattle.cards.specs.Asked.{cardPanel}
 use Rattle.differences.specs.declared.DifferAnswer.{DifferAnswer}
 use Rattle.differences.specs.Lent.{DifferOf, differPanel}
 use Rattle.pieces.specs.declared.PieceAnswer.{PieceAnswer}
 use Rattle.pieces.specs.Pieces.{piecePanel}
 use Rattle.pieces.specs.State.{nodes, PieceOf, EndOf, endLeaves}
-use Rattle.answers.specs.Face.{Beside, Started, Stepped, Trayed, Wrote, MessageRead, Checked, Compared, Pieced, Ended}
+use Rattle.answers.specs.Face.{Beside, Started, Stepped, Trayed, Wrote, MessageRead, CardRead, Checked, Compared, Pieced, Ended}
 
 pub started : (ws stakes : List ℕ) (own genesis : ℕ) (a : StartAnswer) (n : ℕ) (left : List ℕ) → StartOf ws stakes own genesis a left
     → n ≡ startPanel a .number → Started ws stakes own genesis n left
@@ -65,6 +67,13 @@ message-read b a n vs s e d =
     record {
       numbered = e ∙ ap (λ (x : ReadAnswer). readPanel x .number) s;
       valued = d ∙ ap (λ (x : ReadAnswer). readPanel x .values) s;
+    }
+
+pub card-read : (b a : CardAnswer) (n : ℕ) (vs : List ℕ) → a ≡ b → n ≡ cardPanel a .number → vs ≡ cardPanel a .values → CardRead b n vs
+card-read b a n vs s e d =
+    record {
+      numbered = e ∙ ap (λ (x : CardAnswer). cardPanel x .number) s;
+      valued = d ∙ ap (λ (x : CardAnswer). cardPanel x .values) s;
     }
 
 pub checked : (count : ℕ) (b a : CheckAnswer) (n : ℕ) (vs : List ℕ) (m : ℕ) → a ≡ b → n ≡ checkNumber a → vs ≡ checkValues count a

@@ -7,7 +7,8 @@ use Rattle.rulebook.specs.declared.Input.{Input}
 use Rattle.rulebook.specs.declared.ReadAnswer.{ReadAnswer}
 use Rattle.rulebook.specs.declared.CheckAnswer.{CheckAnswer}
 use Rattle.rulebook.specs.Writers as writer
-use Rattle.answers.specs.Face.{Beside, Started, Stepped, Trayed, Wrote, MessageRead, Checked, Compared, Pieced, Ended}
+use Rattle.cards.specs.declared.CardAnswer.{CardAnswer}
+use Rattle.answers.specs.Face.{Beside, Started, Stepped, Trayed, Wrote, MessageRead, CardRead, Checked, Compared, Pieced, Ended}
 
 -- One value beside one number.
 beside-one : {v v' : ℕ} {values : List ℕ} → Beside v values → Beside v' values → v ≡ v'
@@ -39,6 +40,11 @@ wrote-one a b = (a .numbered ∙ sym (b .numbered), beside-one (a .counted) (b .
 pub message-read-one : {answer : ReadAnswer} {n n' : ℕ} {values values' : List ℕ} → MessageRead answer n values → MessageRead answer n' values'
     → (n ≡ n') × (values ≡ values')
 message-read-one a b = (a .numbered ∙ sym (b .numbered), a .valued ∙ sym (b .valued))
+
+-- qr_card.
+pub card-read-one : {answer : CardAnswer} {n n' : ℕ} {values values' : List ℕ} → CardRead answer n values → CardRead answer n' values'
+    → (n ≡ n') × (values ≡ values')
+card-read-one a b = (a .numbered ∙ sym (b .numbered), a .valued ∙ sym (b .valued))
 
 -- qr_check_certificate, qr_check_proof.
 pub checked-one : {count : ℕ} {answer : CheckAnswer} {n n' missing missing' : ℕ} {values values' : List ℕ} → Checked count answer n values missing → Checked count answer n' values' missing'

@@ -14,6 +14,8 @@ use Rattle.rulebook.specs.Writers as written
 pub use Rattle.inputs.specs.Inputs.{voteInput, blockInput, timeoutInput}
 use Rattle.node.specs.Stepping.{stepLeaves}
 use Rattle.trays.specs.Lent.{trayLeaves}
+use Rattle.cards.specs.declared.CardAnswer.{CardAnswer}
+use Rattle.cards.specs.Asked.{cardPanel}
 use Rattle.differences.specs.Lines.{spellLines}
 use Rattle.differences.specs.Lent.{differ, differPanel}
 use Rattle.soundness.specs.Starting.{startJudged, startAnswer, startLeft}
@@ -62,6 +64,11 @@ pub record Wrote (wrote : written.Wrote) (buffer : List ℕ) (number count : ℕ
 pub record MessageRead (answer : ReadAnswer) (number : ℕ) (values : List ℕ) : Type 0 where
   pub numbered : number ≡ readPanel answer .number
   pub valued : values ≡ readPanel answer .values
+
+-- A slot's card: its number, and the card's five words.
+pub record CardRead (answer : CardAnswer) (number : ℕ) (values : List ℕ) : Type 0 where
+  pub numbered : number ≡ cardPanel answer .number
+  pub valued : values ≡ cardPanel answer .values
 
 -- A check under a table of so many nodes: its number, its five values, and what is missing beside 15.
 pub record Checked (count : ℕ) (answer : CheckAnswer) (number : ℕ) (values : List ℕ) (missing : ℕ) : Type 0 where

@@ -1,9 +1,11 @@
 // What the operations answer, as numbers and values on the panel: the definitions of the paper's numbers say which.
 ghost use mathlib.Core.Path.{_≡_};
 ghost use Rattle.rulebook.specs.PaperNumbers.{startPanel, stepPanel, writePanel, readPanel, checkNumber, checkValues, checkMissing};
+ghost use Rattle.cards.specs.Asked.{cardValues, cardPanel};
 ghost use Rattle.differences.specs.Lent.{differPanel};
 ghost use Rattle.pieces.specs.Pieces.{piecePanel};
 ghost use Rattle.answers.specs.Face.{Beside, voteValues, acceptedValues};
+use cards::CardAnswer;
 use differences::DifferAnswer;
 use differences::side_number;
 use kinds::number_in;
@@ -17,6 +19,7 @@ use rulebook::ReadAnswer;
 use rulebook::Refusal;
 use rulebook::StartAnswer;
 use rulebook::StepAnswer;
+use rulebook::Tally;
 use rulebook::Vote;
 use rulebook::Weight;
 use rulebook::WriteAnswer;
@@ -171,4 +174,35 @@ pub fn differ_value(a: DifferAnswer) -> usize
         DifferAnswer::BadRecord(s) => side_number(s) as usize,
         DifferAnswer::NoRoom(n) => n,
     }
+}
+
+// What the question for a card is answered, as a number.
+pub fn card_number(a: CardAnswer) -> u64
+    ensures { λ r. ⌜ r ≡ cardPanel a .number ⌝ }
+{
+    match a {
+        CardAnswer::Card(_) => 0,
+        CardAnswer::Refused(r) => refusal_number(r),
+    }
+}
+
+// Skip, final and skip-certificate weight, the leading block and its weight, zeros beside a refusal.
+pub fn card_values(a: CardAnswer) -> [u64; 5]
+    ensures { λ r. ⌜ r ≡ cardPanel a .values ⌝ }
+{
+    match a {
+        CardAnswer::Card(t) => tally_values(t),
+        CardAnswer::Refused(_) => [0, 0, 0, 0, 0],
+    }
+}
+
+// The five words of a card.
+fn tally_values(t: Tally) -> [u64; 5]
+    ensures { λ r. ⌜ r ≡ cardValues t ⌝ }
+{
+    let skip = t.skip;
+    let finals = t.finals;
+    let skipcert = t.skipcert;
+    let weight = t.weight;
+    [skip.0, finals.0, skipcert.0, t.leader, weight.0]
 }

@@ -3,6 +3,7 @@ use commands::Command;
 use help::help;
 use help::why;
 use hex::read_hex;
+use quointrowel::qr_card;
 use quointrowel::qr_check_certificate;
 use quointrowel::qr_check_proof;
 use quointrowel::qr_read_vote;
@@ -45,6 +46,15 @@ fn proof(page: &mut [u8], line: &[u8], at: usize, rec: &[u64]) -> bool {
     let mut written = 0;
     let n = qr_write_proof(rec, &mut buffer, &mut written, args[0] as usize, args[1]);
     packet(page, n, written, &buffer)
+}
+
+// card SLOT; as an accepted check the card has five values, and nothing is missing to it.
+fn card(page: &mut [u8], line: &[u8], at: usize, rec: &[u64]) -> bool {
+    let mut args = [0u64; 1];
+    read_numbers(line, at, &mut args);
+    let mut values = [0u64; 5];
+    let n = qr_card(rec, args[0] as usize, &mut values);
+    checked(page, n, &values, 0)
 }
 
 // check HEX STAKE.., checkproof HEX STAKE..; a line has no room for more than 32,768 bytes of packet.
@@ -165,6 +175,7 @@ pub fn ask(page: &mut [u8], c: Command, line: &[u8], at: usize, node: &[u64]) ->
         Command::Proof => answered(proof(page, line, at, node)),
         Command::Check => answered(check(page, line, at, false)),
         Command::CheckProof => answered(check(page, line, at, true)),
+        Command::Card => answered(card(page, line, at, node)),
         Command::Pack => answered(pack(page, line, at)),
         Command::Unpack => answered(unpack(page, line, at)),
         Command::Board => answered(view(page, line, at, node)),

@@ -46,6 +46,9 @@ checkText = 99 ∷ 104 ∷ 101 ∷ 99 ∷ 107 ∷ []
 abbrev pub checkProofText : List ℕ
 checkProofText = 99 ∷ 104 ∷ 101 ∷ 99 ∷ 107 ∷ 112 ∷ 114 ∷ 111 ∷ 111 ∷ 102 ∷ []
 
+abbrev pub cardText : List ℕ
+cardText = 99 ∷ 97 ∷ 114 ∷ 100 ∷ []
+
 abbrev pub packText : List ℕ
 packText = 112 ∷ 97 ∷ 99 ∷ 107 ∷ []
 
@@ -100,10 +103,10 @@ piecesOf w = choose (sameText w pieceText) command.Piece (choose (sameText w end
 unfoldable pub messageOf : List ℕ → Command
 messageOf w = choose (sameText w packText) command.Pack (choose (sameText w unpackText) command.Unpack (piecesOf w))
 
--- "cert", "proof", "check" and "checkproof" ask something,
+-- "cert", "proof", "check", "checkproof" and "card" ask something,
 unfoldable pub questionOf : List ℕ → Command
 questionOf w =
-    choose (sameText w certText) command.Cert (choose (sameText w proofText) command.Proof (choose (sameText w checkText) command.Check (choose (sameText w checkProofText) command.CheckProof (messageOf w))))
+    choose (sameText w certText) command.Cert (choose (sameText w proofText) command.Proof (choose (sameText w checkText) command.Check (choose (sameText w checkProofText) command.CheckProof (choose (sameText w cardText) command.Card (messageOf w)))))
 
 -- and "start", "vote", "block", "timeout", "look" and "tray" tell the node something.
 unfoldable pub inputOf : List ℕ → Command
@@ -148,6 +151,7 @@ argumentsFit command.Cert line at = exactly line at 3
 argumentsFit command.Proof line at = exactly line at 2
 argumentsFit command.Check line at = packetAndStakes line at
 argumentsFit command.CheckProof line at = packetAndStakes line at
+argumentsFit command.Card line at = exactly line at 1
 argumentsFit command.Pack line at = exactly line at 5
 argumentsFit command.Unpack line at = countAndMessage line at
 argumentsFit command.Piece line at = packetAndStakes line at
@@ -178,6 +182,7 @@ tells command.Cert = false
 tells command.Proof = false
 tells command.Check = false
 tells command.CheckProof = false
+tells command.Card = false
 tells command.Pack = false
 tells command.Unpack = false
 tells command.Piece = false

@@ -17,6 +17,7 @@ pub enum Command {
     Proof,
     Check,
     CheckProof,
+    Card,
     Pack,
     Unpack,
     Piece,
@@ -87,6 +88,9 @@ fn question_of(word: &[u8]) -> Command
     }
     if same(word, b"checkproof") {
         return Command::CheckProof;
+    }
+    if same(word, b"card") {
+        return Command::Card;
     }
     message_of(word)
 }
@@ -230,6 +234,7 @@ fn arguments_fit(c: Command, line: &[u8], at: usize) -> bool
         Command::Proof => exactly(line, at, 2),
         Command::Check => packet_and_stakes(line, at),
         Command::CheckProof => packet_and_stakes(line, at),
+        Command::Card => exactly(line, at, 1),
         Command::Pack => exactly(line, at, 5),
         Command::Unpack => count_and_message(line, at),
         Command::Piece => packet_and_stakes(line, at),

@@ -10,7 +10,7 @@ use borrow.Author.Tests.{eq-eqb, ne-eqb, eqb-true, eqb-false, ltb-true, ltb-fals
 use Rattle.rulebook.specs.Tools.{given, part, anyOf, lower, lowest}
 use Rattle.rulebook.specs.Ledger.{none}
 use Rattle.rulebook.proofs.ToolLaws.{given-on, given-off, by-test, and-both, both-and, or-cases, or-left, or-right, true-not-false, same-test, part-on, part-off, part-mono}
-use Rattle.candidates.proofs.LowestLaws.{lower-cases, lower-off, low-find}
+use Rattle.rulebook.proofs.LowestLaws.{lower-cases, lower-off, low-find}
 use Rattle.differences.specs.Lines.{ascending}
 
 -- The lowest above x is no higher than any number of the list above x.

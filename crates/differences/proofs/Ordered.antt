@@ -15,7 +15,7 @@ use Rattle.rulebook.specs.Weights.{lastSlot}
 use Rattle.rulebook.specs.PaperNumbers.{voteNumber}
 use Rattle.rulebook.specs.Ledger.{Ledger, none, cellAt}
 use Rattle.rulebook.proofs.ToolLaws.{given-on, given-off, given-keeps, by-test, both-and, and-both, or-left, or-right}
-use Rattle.candidates.proofs.LowestLaws.{low-find}
+use Rattle.rulebook.proofs.LowestLaws.{low-find}
 use Rattle.differences.specs.Lines.{Line, voteAt, keeps, lineOf, voteLine, blocksOf, mostNamed, ascending, linesOver, blockLines, cellLines, linesTo, nodeLines, slotLines, voteLines, sameTables, tablesLine, differences}
 use Rattle.differences.specs.Promises.{comesBefore, beforeAll, ascends, InOrder}
 

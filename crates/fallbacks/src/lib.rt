@@ -6,7 +6,7 @@ ghost use Rattle.rulebook.specs.Rules.{windowOpen, castFallback, ruleD, maySkip
 ghost use Rattle.record.specs.Layout.{ledgerOf};
 ghost use Rattle.voter.specs.Outbox.{stateIn};
 ghost use Rattle.voter.specs.Voting.{LiveAt, Onward};
-ghost use Rattle.candidates.specs.Judging.{Judging};
+ghost use Rattle.pool.specs.Weighing.{Carded};
 ghost use Rattle.fallbacks.specs.Fallbacks.{addNotarFallback, addSkipFallback};
 ghost use Rattle.fallbacks.specs.UnderWay.{UnderWayAt, WeighedAt};
 use candidates::fallback_block;
@@ -78,7 +78,7 @@ fn cast_skip_fallback(rec: &mut [u64], outbox: &mut [u64], at: usize, s: Slot) -
 
 // Rule E's first part: an own notar vote, and something that E would cast.
 fn may_skip(rec: &[u64], s: Slot) -> bool
-    requires { ⌜ Judging (now rec) (s .0) ⌝ }
+    requires { ⌜ Carded (now rec) (s .0) ⌝ }
     ensures { λ r. ⌜ r ≡ (not (none (ownCell (ledgerOf (now (rec .entry))) (s .0) .notar)) && (windowOpen (ledgerOf (now (rec .entry))) (s .0) || maySkipFallback (ownCell (ledgerOf (now (rec .entry))) (s .0)))) ⌝ }
 {
     let c = own_cell(rec, s);

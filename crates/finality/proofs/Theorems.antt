@@ -2,7 +2,7 @@
 use mathlib.Core.Path.{_≡_, refl, sym, ap, _∙_, subst}
 use mathlib.Core.Bool.{Bool, true, false, not, _&&_, _||_}
 use mathlib.Core.List.{List, [], _∷_}
-use mathlib.Core.Logic.{inl, inr, ⊎-elim}
+use mathlib.Core.Logic.{inl, inr}
 use Prim.Native.Nat.{ℕ, _≤_, _<_}
 use native.Mathlib.Omega.{arith}
 use lib.ListN.{length, length-append}
@@ -17,15 +17,14 @@ use Rattle.rulebook.specs.Inputs.{badParent}
 use Rattle.rulebook.specs.WellFormed.{inOrder, keptFits, blocksApart, blocksFit}
 use Rattle.rulebook.specs.Rules.{Record, State, report, isFinal, isNewcomer, tellFinal, findBlock, ruleG}
 use Rattle.rulebook.specs.Run.{made}
-use Rattle.rulebook.proofs.ToolLaws.{given-on, choose-on, choose-off, by-test, and-both, both-and, or-cases, or-none, true-not-false, lowest-passes}
+use Rattle.rulebook.proofs.ToolLaws.{given-on, choose-on, choose-off, by-test, and-both, both-and, or-cases, or-none, true-not-false}
 use Rattle.rulebook.proofs.BlockLaws.{find-all}
-use Rattle.settling.specs.Facts.{Sound}
-use Rattle.settling.specs.Steps.{Settled}
 use Rattle.settling.proofs.FactLaws.{formed}
 use Rattle.settling.proofs.RunLaws.{rule-F, rule-G}
 use Rattle.settling.proofs.Spending.{tell-comes, G-comes}
-use Rattle.candidates.proofs.LowestLaws.{low-le}
-use Rattle.candidates.proofs.NotarLaws.{notars, notars-free, heavy-among, lowest-notar, newcomer-heavy}
+use Rattle.rulebook.specs.Cards.{leader}
+use Rattle.recounting.proofs.Using.{final-card}
+use Rattle.recounting.proofs.Scanning.{newcomer-other}
 use Rattle.finality.specs.Finals.{IsTold, CertifiedIsTold, ParentIsTold}
 use Rattle.finality.proofs.FinalLaws.{clash-on, final-first, final-other, F-on, walk-to, G-stops, G-on}
 
@@ -45,21 +44,15 @@ told-already o s b e =
 -- ---- by certificates
 
 pub certified-is-told : CertifiedIsTold
-unfolding isNewcomer
 certified-is-told o h t s b low high nb e =
     let l : Ledger = o .ledger in
     let f : ℕ = rowAt l s .final in
     by-test (eqb b f) (λ u. inl (sym (eqb-true b f u)))
     (λ u.
-    let new : isNewcomer l s b ≡ true = both-and (isFinal l s b) (not (eqb b f)) e (ap not u) in
     let pos : 1 ≤ b = lt-of-le-ne (omega arith) (λ z. eqb-false b 0 nb (sym z)) in
-    let m : ℕ = lowest (isNewcomer l s) (names l s) in
-    let some : 1 ≤ lowest (isNewcomer l s) (notars l s) =
-    low-le (isNewcomer l s) (notars l s) b (notars-free l s (l .count)) (heavy-among l s b pos (newcomer-heavy l s b (t .some) new)) new .0 in
-    let nm : none m ≡ false = ne-eqb m 0 (λ z. omega (arith, some, lowest-notar l s (isNewcomer l s) (λ c. newcomer-heavy l s c (t .some)))) in
-    let told : tellFinal o s m ≡ o = sym (F-on o s nm) ∙ sym (rule-F o s) ∙ h .same 5 s low high in
-    let passes = and-both (isFinal l s m) (not (eqb m f)) (lowest-passes (isNewcomer l s) (names l s) nm) in
-    ⊎-elim (λ q. absurd (eqb-false m f (not-true (eqb m f) (passes .1)) (sym q))) (λ q. inr q) (told-already o s m told))
+    let lead : leader l s ≡ b = eqb-true (leader l s) b (and-both (eqb (leader l s) b) _ (sym (final-card l s (t .sum) (t .some) b pos) ∙ e) .0) in
+    let found : lowest (isNewcomer l s) (names l s) ≡ b = newcomer-other l s (t .sum) (t .some) b f (sym lead) refl (λ i. nb i || u i) ∙ choose-on (isFinal l s b) b 0 e in
+    told-already o s b (ap (tellFinal o s) (sym found) ∙ sym (F-on o s (ap none found ∙ nb)) ∙ sym (rule-F o s) ∙ h .same 5 s low high))
 
 -- ---- as a parent
 

@@ -46,10 +46,15 @@ fn packets(page: &mut [u8], at: usize) -> usize {
     )
 }
 
-// Those, and the commands of proofs in pieces: what the commands ask.
+// Those, the tally card, and the commands of proofs in pieces: what the commands ask.
 fn questions(page: &mut [u8], at: usize) -> usize {
     let p = packets(page, at);
-    let q = tell_line(page, p, b"piece HEX STAKE..                    more");
+    let card = tell_line(
+        page,
+        p,
+        b"card SLOT                            0 SKIP FINAL SKIPCERT BLOCK WEIGHT",
+    );
+    let q = tell_line(page, card, b"piece HEX STAKE..                    more");
     tell_line(
         page,
         q,
@@ -234,7 +239,7 @@ fn refusal(page: &mut [u8], at: usize, n: u64) -> usize {
         17 => tell_line(
             page,
             at,
-            b"17: No node is started; or the record has a wrong length, a field outside its range, a total that is not the sum, a fallback block kept twice for one node, an own notar-fallback whose block does not reach rule D's weights, a block kept twice in a slot, or an unused place that is not 0.",
+            b"17: No node is started; or the record has a wrong length, a field outside its range, a total that is not the sum, a fallback block kept twice for one node, an own notar-fallback whose block does not reach rule D's weights, a block kept twice in a slot, a tally card that a recount of the slot's votes does not give, or an unused place that is not 0.",
         ),
         18 => tell_line(
             page,

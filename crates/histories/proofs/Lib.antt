@@ -6,3 +6,4 @@ pub mod Meeting
 pub mod Honest
 pub mod Grounded
 pub mod Fallbacks
+pub mod Cards

@@ -1,6 +1,7 @@
--- Histories of calls of the C functions are lives of nodes, and demand 3 and the count of own fallbacks hold of them.
+-- Histories of calls of the C functions are lives of nodes, and demand 3, the count of own fallbacks and the tally cards hold of them.
 pub mod Lives
 pub mod Demand
 pub mod Meeting
 pub mod Honest
 pub mod Fallbacks
+pub mod Cards

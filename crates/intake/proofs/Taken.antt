@@ -18,15 +18,15 @@ use Rattle.rulebook.specs.Rules.{State, stateOf, castSkips}
 use Rattle.rulebook.specs.Run.{mostRecords}
 use Rattle.rulebook.specs.Inputs.{verdict, voteVerdict, blockVerdict, keepBlock, timeoutVerdict, timeOut, intake}
 use Rattle.rulebook.proofs.ToolLaws.{given-on, given-off}
-use Rattle.record.specs.Layout.{InSlot, Placed, ledgerOf}
+use Rattle.record.specs.Layout.{InSlot, ledgerOf}
 use Rattle.record.proofs.Places.{long-same}
 use Rattle.settling.specs.Facts.{Sound}
 use Rattle.settling.specs.Spare.{spare}
 use Rattle.settling.specs.Steps.{SameNode, Paid, VoteFine, BlockFine, TimeoutFine}
 use Rattle.settling.proofs.SpareLaws.{spare-most}
-use Rattle.settling.proofs.FactLaws.{formed, count-placed}
 use Rattle.settling.proofs.Verdicts.{vote-fine, block-fine, timeout-fine}
 use Rattle.settling.proofs.Life.{vote-paid, block-paid, timedOut-paid}
+use Rattle.storing.specs.Storing.{Storing}
 use Rattle.voter.specs.Outbox.{recordsIn, stateIn, Moved}
 use Rattle.voter.specs.Voting.{Live, LiveAt, Onward}
 use Rattle.voter.proofs.LiveLaws.{node-then, onward-none}
@@ -91,9 +91,8 @@ module _ {ws out : List ℕ} (v : Vote) (h : Taking ws out (input.Vote v)) where
   unfolding verdict
   vote-fits = vote-fine (ledgerOf ws) v (h .fine)
 
-  pub vote-placed : Placed ws (v .slot .0) (v .node .0)
-  vote-placed =
-      record { long = h .long; slot = omega (arith, vote-fits .high); node = omega (arith, vote-fits .node, count-placed (ledgerOf ws) (formed (ledgerOf ws) (h .sound .formed) .head)) }
+  pub vote-storing : Storing ws (v .slot .0) (v .node .0)
+  vote-storing = record { long = h .long; sound = h .sound; low = vote-fits .low; high = vote-fits .high; node = vote-fits .node }
 
   pub vote-taken : (ws' : List ℕ) → length ws' ≡ length ws
       → ledgerOf ws' ≡ storeVote (ledgerOf ws) (v .slot .0) (v .node .0) (v .kind) (v .block)

@@ -6,9 +6,9 @@ ghost use Rattle.intake.specs.Taking.{Taking};
 use record::keep_block;
 use record::mark_timed_out;
 use record::own_cell;
-use record::store_vote;
 use rulebook::Input;
 use rulebook::Slot;
+use storing::store_vote;
 use voter::cast_skips;
 use voter::no_initial;
 

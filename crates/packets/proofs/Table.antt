@@ -2,16 +2,16 @@
 use mathlib.Core.Path.{_≡_, refl, sym, ap, _∙_}
 use mathlib.Core.Bool.{Bool, true, false, _&&_}
 use mathlib.Core.List.{List}
-use Prim.Native.Nat.{ℕ, suc, _≤_, _<_}
+use Prim.Native.Nat.{ℕ, _≤_, _<_}
 use native.Mathlib.Omega.{arith}
 use lib.ListN.{length, take}
 use lib.Seq.{getD-take, length-take-le}
 use lib.Dec.{eqb, leb}
 use borrow.Author.Tests.{leb-true, eqb-true}
 use Rattle.rulebook.specs.Tools.{given, allTo}
-use Rattle.rulebook.specs.Weights.{mostNodes, placesFor, mostStake, lastSlot, stakeIn, totalTo, stakesFit}
+use Rattle.rulebook.specs.Weights.{mostNodes, placesFor, mostStake, stakeIn, totalTo, stakesFit}
 use Rattle.rulebook.specs.Ledger.{Ledger, places}
-use Rattle.rulebook.specs.WellFormed.{headFits, rowBlank, rowFits, wellFormed}
+use Rattle.rulebook.specs.WellFormed.{headFits, wellFormed}
 use Rattle.rulebook.proofs.PlaceLaws.{nodes-placed}
 use Rattle.rulebook.proofs.ToolLaws.{and-both, all-same, sum-same}
 use Rattle.packets.specs.Promises.{TableOfRecord}
@@ -44,7 +44,7 @@ head-true : (l : Ledger) → wellFormed l ≡ true → (stakesFit (l .stakes) (l
 unfolding wellFormed headFits
 head-true l e =
     let g = and-both (eqb (places l) (placesFor (l .count))) _
-    (given-true (headFits l) (λ _. given (rowBlank l) false (λ _. allTo lastSlot (λ i. rowFits l (suc i)))) e) in
+    (given-true (headFits l) _ e) in
     let h = and-both (stakesFit (l .stakes) (l .count) && eqb (totalTo (l .stakes) (l .count)) (l .total)) _ (g .1) .0 in
     let p = and-both (stakesFit (l .stakes) (l .count)) (eqb (totalTo (l .stakes) (l .count)) (l .total)) h in
     (p .0, eqb-true (totalTo (l .stakes) (l .count)) (l .total) (p .1), eqb-true (places l) (placesFor (l .count)) (g .0))

@@ -10,3 +10,4 @@ pub mod Printed
 pub mod Families
 pub mod Differs
 pub mod Pieces
+pub mod Cards

@@ -10,7 +10,7 @@ use Rattle.trays.specs.Trays.{wholeVotes}
 use Rattle.promises.specs.Printed.{Sends, StartPrinted, StepPrinted, TrayPrinted, PacketPrinted, MessagePrinted, CheckPrinted}
 
 -- A text in other words is sent as it stands.
-sends : (made sent : List ℕ) → made ≡ sent → Sends made sent
+pub sends : (made sent : List ℕ) → made ≡ sent → Sends made sent
 sends made sent e page page' used w h =
     let s = stands-whole w h in (λ j. take (s .0 j) (s .1 j)) ∙ over-front made page ∙ e
 

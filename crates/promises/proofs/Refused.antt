@@ -54,14 +54,14 @@ start-refused ws stakes own genesis r left h =
 -- ---- step
 
 -- A refusal keeps the ledger and makes no record.
-abbrev Kept : Ledger → Fed → Type 0
+abbrev pub Kept : Ledger → Fed → Type 0
 Kept l f = (r : Refusal) → f .answer ≡ step-answer.Refused r → (f .ledger ≡ l) × (f .records ≡ [])
 
 refused-kept : (l : Ledger) (x : Refusal) → Kept l (refusedWith l x)
 unfolding refusedWith
 refused-kept l x r e = (refl, refl)
 
-fed-kept : (l : Ledger) (i : Input) (v : Verdict) → Kept l (fedOn v l i)
+pub fed-kept : (l : Ledger) (i : Input) (v : Verdict) → Kept l (fedOn v l i)
 unfolding fedOn fedWith
 fed-kept l i Fine r e = let z : _≡_ {A = ℕ} 0 1 = cc in absurd (omega arith)
 fed-kept l i (Refused x) r e = refused-kept l x r e

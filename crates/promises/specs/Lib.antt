@@ -8,3 +8,4 @@ pub mod Printed
 pub mod Families
 pub mod Differs
 pub mod Pieces
+pub mod Cards

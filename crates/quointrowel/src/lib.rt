@@ -9,9 +9,12 @@ ghost use Rattle.rulebook.specs.WellFormed.{outboxWords};
 ghost use Rattle.record.specs.Layout.{recordWords};
 ghost use Rattle.writers.specs.Writing.{certificateOn, proofOn};
 ghost use Rattle.rulebook.specs.declared.Input.the-variants as input;
+ghost use Rattle.cards.specs.Asked.{cardOn};
 ghost use Rattle.pieces.specs.State.{stateWords, frontBytes};
-ghost use Rattle.answers.specs.Face.{voteInput, blockInput, timeoutInput, Started, Stepped, Trayed, Wrote, MessageRead, Checked, Compared, Pieced, Ended};
+ghost use Rattle.answers.specs.Face.{voteInput, blockInput, timeoutInput, Started, Stepped, Trayed, Wrote, MessageRead, CardRead, Checked, Compared, Pieced, Ended};
 use answers::bytes_written;
+use answers::card_number;
+use answers::card_values;
 use answers::check_missing;
 use answers::check_number;
 use answers::check_values;
@@ -24,6 +27,7 @@ use answers::records_made;
 use answers::start_number;
 use answers::step_number;
 use answers::write_number;
+use cards::read_card;
 use checker::check_certificate;
 use checker::check_proof;
 use differences::differ;
@@ -180,6 +184,16 @@ pub extern "C" fn qr_write_proof(
     let a = write_proof(rec, buffer, Slot(slot), block);
     *written = bytes_written(a);
     write_number(a)
+}
+
+// Reads a slot's tally card: its five words.
+#[no_mangle]
+pub extern "C" fn qr_card(rec: &[u64], slot: usize, values: &mut [u64; 5]) -> u64
+    ensures { λ r. ⌜ CardRead (cardOn (now (rec .entry)) slot) r (now (values .exit)) ⌝ }
+{
+    let a = read_card(rec, Slot(slot));
+    *values = card_values(a);
+    card_number(a)
 }
 
 // Checks a packet that is to be one certificate.

@@ -11,7 +11,7 @@ use lib.ListN.{length}
 use borrow.Author.Tests.{eqb-true, eq-eqb}
 use Rattle.rulebook.specs.Weights.{lastSlot}
 use Rattle.rulebook.specs.Ledger.{mostBlocks, places}
-use Rattle.record.specs.Layout.{wordAt, stakeStart, headWords, rowHead, rowWords, blockWords, cellWords, rowStart, blockStart, cellStart, timeoutAt, bareWords, placeWords, recordWords, placesIn, isLong, Long, ledgerAt, ledgerOf, InSlot, InBlocks, Placed, InTable, Counted, RowAt, BlockAt, CellAt}
+use Rattle.record.specs.Layout.{wordAt, stakeStart, headWords, rowHead, rowWords, blockWords, cellWords, rowStart, blockStart, cellStart, timeoutAt, bareWords, placeWords, recordWords, placesIn, isLong, Long, ledgerAt, ledgerOf, InSlot, InBlocks, Placed, InTable, Counted, RowAt, BlockAt, CardAt, CellAt}
 use Rattle.record.proofs.Tables.{lt-or-gt, length-tabulate}
 
 module _ (p : ℕ) where
@@ -113,18 +113,21 @@ words-in ws e = e ∙ record-long (placesIn ws)
 
 -- ---- as code computes it: no sum and no product wraps, since all lie within the words
 
-pub row-sum : (ws : List ℕ) (s : ℕ) → InSlot ws s → 8 + placesIn ws + (15 + 7 * placesIn ws) * s + (15 + 7 * placesIn ws) ≤ length ws
+pub row-sum : (ws : List ℕ) (s : ℕ) → InSlot ws s → 8 + placesIn ws + (20 + 7 * placesIn ws) * s + (20 + 7 * placesIn ws) ≤ length ws
 unfolding rowStart
 row-sum ws s h = omega (arith, row-inside (placesIn ws) s (h .slot), h .long)
 
-pub row-here : (ws : List ℕ) (s : ℕ) → InSlot ws s → RowAt ws s (8 + placesIn ws + (15 + 7 * placesIn ws) * s)
+pub row-here : (ws : List ℕ) (s : ℕ) → InSlot ws s → RowAt ws s (8 + placesIn ws + (20 + 7 * placesIn ws) * s)
 unfolding rowStart
 row-here ws s h = record { is = refl; inside = row-sum ws s h }
 
 pub block-here : (ws : List ℕ) (s n i : ℕ) → InBlocks ws s n → RowAt ws s i → BlockAt ws s n (i + 3 * n)
 block-here ws s n i h r = record { is = omega (arith, r .is); inside = omega (arith, r .inside, h .place) }
 
-pub cell-here : (ws : List ℕ) (s n i : ℕ) → Placed ws s n → RowAt ws s i → CellAt ws s n (i + 15 + 7 * n)
+pub card-here : (ws : List ℕ) (s i : ℕ) → RowAt ws s i → CardAt ws s (i + 15)
+card-here ws s i r = record { is = omega (arith, r .is); inside = omega (arith, r .inside) }
+
+pub cell-here : (ws : List ℕ) (s n i : ℕ) → Placed ws s n → RowAt ws s i → CellAt ws s n (i + 20 + 7 * n)
 cell-here ws s n i h r = record { is = omega (arith, r .is); inside = omega (arith, r .inside, h .node, places-words (placesIn ws) ws) }
 
 pub node-there : (ws : List ℕ) (n : ℕ) → InTable ws n → 8 + n < length ws

@@ -8,7 +8,7 @@ use Rattle.rulebook.specs.declared.Cell.{Cell}
 use Rattle.rulebook.specs.Weights.{lastSlot, windows, windowOf, stakeIn}
 use Rattle.rulebook.specs.Ledger.{Ledger, Row, noRow, noCell, noBlock, mostBlocks, blocksAt, places, rowAt, cellAt}
 use Rattle.rulebook.specs.WellFormed.{Shaped}
-use Rattle.record.specs.Layout.{wordAt, armedStart, stakeStart, rowStart, timeoutAt, finalAt, clashAt, blockStart, cellStart, tabulate, placesIn, cellFrom, blockFrom, blockOf, cellOf, rowOf, ledgerAt, ledgerOf, Placed, InSlot, InBlocks, InWindow}
+use Rattle.record.specs.Layout.{wordAt, armedStart, stakeStart, rowStart, timeoutAt, finalAt, clashAt, cardAt, cardStart, blockStart, cellStart, tabulate, placesIn, cellFrom, blockFrom, cardFrom, blockOf, cellOf, rowOf, ledgerAt, ledgerOf, Placed, InSlot, InBlocks, InWindow}
 use Rattle.record.proofs.Tables.{length-tabulate, getD-tabulate}
 use Rattle.record.proofs.Places.{node-placed}
 
@@ -85,6 +85,9 @@ module _ (ws : List ℕ) (s i : ℕ) (h : InSlot ws s) (e : i ≡ rowStart (plac
 
   pub clash-read : wordAt ws (i + clashAt) ≡ rowAt (ledgerOf ws) s .clash
   clash-read = ap (λ (k : ℕ). wordAt ws (k + clashAt)) e ∙ ap (λ (r : Row). r .clash) here
+
+pub card-read : (ws : List ℕ) (s i : ℕ) → InSlot ws s → i ≡ cardStart (placesIn ws) s → cardFrom ws i ≡ rowAt (ledgerOf ws) s .card
+card-read ws s i h e = ap (cardFrom ws) e ∙ ap (λ (r : Row). r .card) (sym (row-words (placesIn ws) ws s (h .slot)))
 
 -- A slot's window is one of the four.
 pub window-small : (s : ℕ) → 1 ≤ s → s < suc lastSlot → windowOf s < windows

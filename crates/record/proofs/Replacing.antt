@@ -9,10 +9,11 @@ use lib.ListN.{length, getD, set, length-set}
 use lib.Seq.{getD-set-same, getD-set-other, sets, length-sets}
 use Rattle.rulebook.specs.declared.Cell.{Cell}
 use Rattle.rulebook.specs.declared.Block.{Block}
+use Rattle.rulebook.specs.declared.Tally.{Tally}
 use Rattle.rulebook.specs.Weights.{lastSlot, windows, windowOf}
-use Rattle.rulebook.specs.Ledger.{Ledger, Row, noRow, noCell, noBlock, mostBlocks, rowAt, cellAt, blocksAt, putRow, putCell, putBlocks, putTimedOut, putFinal, putClash, putArmed}
-use Rattle.record.specs.Layout.{wordAt, armedStart, stakeStart, headWords, rowHead, rowWords, blockWords, cellWords, rowStart, timeoutAt, finalAt, clashAt, blockStart, cellStart, recordWords, placesIn, tabulate, cellFrom, blockFrom, blockOf, cellOf, rowOf, ledgerAt, ledgerOf, Placed, InSlot, InBlocks, InWindow}
-use Rattle.record.specs.Spelling.{spellCell, spellBlock}
+use Rattle.rulebook.specs.Ledger.{Ledger, Row, noRow, noCell, noBlock, mostBlocks, rowAt, cellAt, blocksAt, putRow, putCell, putCard, cardOf, putBlocks, putTimedOut, putFinal, putClash, putArmed}
+use Rattle.record.specs.Layout.{wordAt, armedStart, stakeStart, headWords, rowHead, rowWords, blockWords, cardWords, cellWords, rowStart, timeoutAt, finalAt, clashAt, cardAt, cardStart, blockStart, cellStart, recordWords, placesIn, tabulate, cellFrom, blockFrom, cardFrom, blockOf, cellOf, rowOf, ledgerAt, ledgerOf, Placed, InSlot, InBlocks, InWindow}
+use Rattle.record.specs.Spelling.{spellCell, spellBlock, spellCard}
 use Rattle.record.proofs.Tables.{lt-or-gt, tabulate-same, tabulate-set, sets-out, sets-in}
 use Rattle.record.proofs.Places.{head-before, row-later, row-inside, node-placed, same-shape}
 use Rattle.record.proofs.Reading.{row-words, window-small}
@@ -49,6 +50,12 @@ module _ (p : ℕ) (ws' ws : List ℕ) (a e : ℕ) (h : Apart ws' ws a e) where
         parent = g 2 (omega arith) i;
       }
 
+  card-kept : (b : ℕ) → (b + cardWords ≤ a) ⊎ (e ≤ b) → cardFrom ws' b ≡ cardFrom ws b
+  card-kept b q =
+      let g : (j : ℕ) → j < cardWords → wordAt ws' (b + j) ≡ wordAt ws (b + j) = (λ j l. h (b + j) (⊎-elim (λ o. inl (omega arith)) (λ o. inr (omega arith)) q)) in
+      let z : wordAt ws' b ≡ wordAt ws b = h b (⊎-elim (λ o. inl (omega arith)) (λ o. inr (omega arith)) q) in
+      λ i. cardOf (z i) (g 1 (omega arith) i) (g 2 (omega arith) i) (g 3 (omega arith) i) (g 4 (omega arith) i)
+
   blocks-kept : (s : ℕ) → (rowStart p s + timeoutAt ≤ a) ⊎ (e ≤ rowStart p s) → tabulate mostBlocks (blockOf p ws' s) ≡ tabulate mostBlocks (blockOf p ws s)
   blocks-kept s q =
       tabulate-same mostBlocks (blockOf p ws' s) (blockOf p ws s)
@@ -62,6 +69,7 @@ module _ (p : ℕ) (ws' ws : List ℕ) (a e : ℕ) (h : Apart ws' ws a e) where
         timedOut = g timeoutAt (omega arith) i;
         final = g finalAt (omega arith) i;
         clash = g clashAt (omega arith) i;
+        card = card-kept (cardStart p s) (⊎-elim (λ o. inl (omega arith)) (λ o. inr (omega arith)) q) i;
         cells = cells-kept s (⊎-elim (λ o. inl o) (λ o. inr (omega arith)) q) i;
       }
 
@@ -105,7 +113,7 @@ cell-put p ws s n c long slot node =
     let h : Apart ws' ws (cellStart p s n) (cellStart p s n + cellWords) = (λ k o. sets-out (spellCell c) ws (cellStart p s n) k 0 o) in
     let last = row-inside p s slot in
     put-row p ws' ws s (cellStart p s n) (cellStart p s n + cellWords)
-    (record { blocks = rowAt (ledgerAt p ws) s .blocks; timedOut = rowAt (ledgerAt p ws) s .timedOut; final = rowAt (ledgerAt p ws) s .final; clash = rowAt (ledgerAt p ws) s .clash; cells = set (rowAt (ledgerAt p ws) s .cells) n c })
+    (record { blocks = rowAt (ledgerAt p ws) s .blocks; timedOut = rowAt (ledgerAt p ws) s .timedOut; final = rowAt (ledgerAt p ws) s .final; clash = rowAt (ledgerAt p ws) s .clash; card = rowAt (ledgerAt p ws) s .card; cells = set (rowAt (ledgerAt p ws) s .cells) n c })
     h slot (omega arith) (omega arith)
     (rw (row-words p ws s slot)
     (λ i. record {
@@ -113,6 +121,7 @@ cell-put p ws s n c long slot node =
       timedOut = h (rowStart p s + timeoutAt) (inl (omega arith)) i;
       final = h (rowStart p s + finalAt) (inl (omega arith)) i;
       clash = h (rowStart p s + clashAt) (inl (omega arith)) i;
+      card = card-kept p ws' ws (cellStart p s n) (cellStart p s n + cellWords) h (cardStart p s) (inl (omega arith)) i;
       cells = tabulate-set p n (cellOf p ws s) (cellOf p ws' s) c (cell-in ws (cellStart p s n) c (omega arith))
           (λ k b q. cell-kept p ws' ws (cellStart p s n) (cellStart p s n + cellWords) h (cellStart p s k) (⊎-elim (λ o. inl (omega arith)) (λ o. inr (omega arith)) (lt-or-gt k n q))) i;
     }))
@@ -136,60 +145,83 @@ module _ (p : ℕ) (ws : List ℕ) (s : ℕ) (long : length ws ≡ recordWords p
   here = sym (row-words p ws s slot)
 
   -- A change in the head alone.
-  head-put : (ws' : List ℕ) (a e : ℕ) (bs : List Block) (t f c : ℕ) → Apart ws' ws a e → rowStart p s ≤ a → e ≤ rowStart p s + rowHead
+  head-put : (ws' : List ℕ) (a e : ℕ) (bs : List Block) (t f c : ℕ) (d : Tally) → Apart ws' ws a e → rowStart p s ≤ a → e ≤ rowStart p s + rowHead
       → tabulate mostBlocks (blockOf p ws' s) ≡ bs → wordAt ws' (rowStart p s + timeoutAt) ≡ t → wordAt ws' (rowStart p s + finalAt) ≡ f → wordAt ws' (rowStart p s + clashAt) ≡ c
-      → ledgerAt p ws' ≡ putRow (ledgerAt p ws) s (record { blocks = bs; timedOut = t; final = f; clash = c; cells = rowAt (ledgerAt p ws) s .cells })
-  head-put ws' a e bs t f c h lo hi eb et ef ec =
-      put-row p ws' ws s a e (record { blocks = bs; timedOut = t; final = f; clash = c; cells = rowAt (ledgerAt p ws) s .cells }) h slot lo (omega arith)
+      → cardFrom ws' (cardStart p s) ≡ d
+      → ledgerAt p ws' ≡ putRow (ledgerAt p ws) s (record { blocks = bs; timedOut = t; final = f; clash = c; card = d; cells = rowAt (ledgerAt p ws) s .cells })
+  head-put ws' a e bs t f c d h lo hi eb et ef ec ed =
+      put-row p ws' ws s a e (record { blocks = bs; timedOut = t; final = f; clash = c; card = d; cells = rowAt (ledgerAt p ws) s .cells }) h slot lo (omega arith)
       (rw (row-words p ws s slot)
-      (λ i. record { blocks = eb i; timedOut = et i; final = ef i; clash = ec i; cells = cells-kept p ws' ws a e h s (inr hi) i }))
+      (λ i. record { blocks = eb i; timedOut = et i; final = ef i; clash = ec i; card = ed i; cells = cells-kept p ws' ws a e h s (inr hi) i }))
 
   block-put : (n : ℕ) (b : Block) → n < mostBlocks → ledgerAt p (sets ws (blockStart p s n) (spellBlock b)) ≡ putBlocks (ledgerAt p ws) s (set (blocksAt (ledgerAt p ws) s) n b)
   block-put n b place =
       let ws' : List ℕ = sets ws (blockStart p s n) (spellBlock b) in
       let last = row-inside p s slot in
       let h : Apart ws' ws (blockStart p s n) (blockStart p s n + blockWords) = (λ k o. sets-out (spellBlock b) ws (blockStart p s n) k 0 o) in
-      head-put ws' (blockStart p s n) (blockStart p s n + blockWords) (set (blocksAt (ledgerAt p ws) s) n b) (rowAt (ledgerAt p ws) s .timedOut) (rowAt (ledgerAt p ws) s .final) (rowAt (ledgerAt p ws) s .clash) h (omega arith) (omega arith)
+      head-put ws' (blockStart p s n) (blockStart p s n + blockWords) (set (blocksAt (ledgerAt p ws) s) n b) (rowAt (ledgerAt p ws) s .timedOut) (rowAt (ledgerAt p ws) s .final) (rowAt (ledgerAt p ws) s .clash) (rowAt (ledgerAt p ws) s .card) h (omega arith) (omega arith)
       (tabulate-set mostBlocks n (blockOf p ws s) (blockOf p ws' s) b (block-in ws (blockStart p s n) b (omega arith))
       (λ k l q. block-kept p ws' ws (blockStart p s n) (blockStart p s n + blockWords) h (blockStart p s k) (⊎-elim (λ o. inl (omega arith)) (λ o. inr (omega arith)) (lt-or-gt k n q)))
       ∙ ap (λ (r : Row). set (r .blocks) n b) here)
       (h (rowStart p s + timeoutAt) (inr (omega arith)) ∙ ap (λ (r : Row). r .timedOut) here)
       (h (rowStart p s + finalAt) (inr (omega arith)) ∙ ap (λ (r : Row). r .final) here)
       (h (rowStart p s + clashAt) (inr (omega arith)) ∙ ap (λ (r : Row). r .clash) here)
+      (card-kept p ws' ws (blockStart p s n) (blockStart p s n + blockWords) h (cardStart p s) (inr (omega arith)) ∙ ap (λ (r : Row). r .card) here)
 
-  -- One word behind the blocks stored: they stay.
+  -- One word behind the blocks stored: they stay, and so does the card behind it.
   set-apart : (i v : ℕ) → Apart (set ws i v) ws i (i + 1)
   set-apart i v k o = getD-set-other ws i k v 0 (⊎-elim (λ q e. omega arith) (λ q e. omega arith) o)
 
   blocks-stay : (i v : ℕ) → rowStart p s + timeoutAt ≤ i → tabulate mostBlocks (blockOf p (set ws i v) s) ≡ blocksAt (ledgerAt p ws) s
   blocks-stay i v h = blocks-kept p (set ws i v) ws i (i + 1) (set-apart i v) s (inl h) ∙ ap (λ (r : Row). r .blocks) here
 
+  card-stays : (i v : ℕ) → i < cardStart p s → cardFrom (set ws i v) (cardStart p s) ≡ rowAt (ledgerAt p ws) s .card
+  card-stays i v h = card-kept p (set ws i v) ws i (i + 1) (set-apart i v) (cardStart p s) (inr (omega arith)) ∙ ap (λ (r : Row). r .card) here
+
   timed-out-in : ledgerAt p (set ws (rowStart p s + timeoutAt) 1) ≡ putTimedOut (ledgerAt p ws) s
   timed-out-in =
       let last = row-inside p s slot in
-      head-put (set ws (rowStart p s + timeoutAt) 1) (rowStart p s + timeoutAt) (rowStart p s + timeoutAt + 1) (blocksAt (ledgerAt p ws) s) 1 (rowAt (ledgerAt p ws) s .final) (rowAt (ledgerAt p ws) s .clash) (set-apart (rowStart p s + timeoutAt) 1) (omega arith) (omega arith)
+      head-put (set ws (rowStart p s + timeoutAt) 1) (rowStart p s + timeoutAt) (rowStart p s + timeoutAt + 1) (blocksAt (ledgerAt p ws) s) 1 (rowAt (ledgerAt p ws) s .final) (rowAt (ledgerAt p ws) s .clash) (rowAt (ledgerAt p ws) s .card) (set-apart (rowStart p s + timeoutAt) 1) (omega arith) (omega arith)
       (blocks-stay (rowStart p s + timeoutAt) 1 (omega arith))
       (getD-set-same ws (rowStart p s + timeoutAt) 1 0 (omega arith))
       (set-apart (rowStart p s + timeoutAt) 1 (rowStart p s + finalAt) (inr (omega arith)) ∙ ap (λ (r : Row). r .final) here)
       (set-apart (rowStart p s + timeoutAt) 1 (rowStart p s + clashAt) (inr (omega arith)) ∙ ap (λ (r : Row). r .clash) here)
+      (card-stays (rowStart p s + timeoutAt) 1 (omega arith))
 
   final-in : (b : ℕ) → ledgerAt p (set ws (rowStart p s + finalAt) b) ≡ putFinal (ledgerAt p ws) s b
   final-in b =
       let last = row-inside p s slot in
-      head-put (set ws (rowStart p s + finalAt) b) (rowStart p s + finalAt) (rowStart p s + finalAt + 1) (blocksAt (ledgerAt p ws) s) (rowAt (ledgerAt p ws) s .timedOut) b (rowAt (ledgerAt p ws) s .clash) (set-apart (rowStart p s + finalAt) b) (omega arith) (omega arith)
+      head-put (set ws (rowStart p s + finalAt) b) (rowStart p s + finalAt) (rowStart p s + finalAt + 1) (blocksAt (ledgerAt p ws) s) (rowAt (ledgerAt p ws) s .timedOut) b (rowAt (ledgerAt p ws) s .clash) (rowAt (ledgerAt p ws) s .card) (set-apart (rowStart p s + finalAt) b) (omega arith) (omega arith)
       (blocks-stay (rowStart p s + finalAt) b (omega arith))
       (set-apart (rowStart p s + finalAt) b (rowStart p s + timeoutAt) (inl (omega arith)) ∙ ap (λ (r : Row). r .timedOut) here)
       (getD-set-same ws (rowStart p s + finalAt) b 0 (omega arith))
       (set-apart (rowStart p s + finalAt) b (rowStart p s + clashAt) (inr (omega arith)) ∙ ap (λ (r : Row). r .clash) here)
+      (card-stays (rowStart p s + finalAt) b (omega arith))
 
   clash-in : ledgerAt p (set ws (rowStart p s + clashAt) 1) ≡ putClash (ledgerAt p ws) s
   clash-in =
       let last = row-inside p s slot in
-      head-put (set ws (rowStart p s + clashAt) 1) (rowStart p s + clashAt) (rowStart p s + clashAt + 1) (blocksAt (ledgerAt p ws) s) (rowAt (ledgerAt p ws) s .timedOut) (rowAt (ledgerAt p ws) s .final) 1 (set-apart (rowStart p s + clashAt) 1) (omega arith) (omega arith)
+      head-put (set ws (rowStart p s + clashAt) 1) (rowStart p s + clashAt) (rowStart p s + clashAt + 1) (blocksAt (ledgerAt p ws) s) (rowAt (ledgerAt p ws) s .timedOut) (rowAt (ledgerAt p ws) s .final) 1 (rowAt (ledgerAt p ws) s .card) (set-apart (rowStart p s + clashAt) 1) (omega arith) (omega arith)
       (blocks-stay (rowStart p s + clashAt) 1 (omega arith))
       (set-apart (rowStart p s + clashAt) 1 (rowStart p s + timeoutAt) (inl (omega arith)) ∙ ap (λ (r : Row). r .timedOut) here)
       (set-apart (rowStart p s + clashAt) 1 (rowStart p s + finalAt) (inl (omega arith)) ∙ ap (λ (r : Row). r .final) here)
       (getD-set-same ws (rowStart p s + clashAt) 1 0 (omega arith))
+      (card-stays (rowStart p s + clashAt) 1 (omega arith))
+
+  -- The card's five words.
+  card-in : (t : Tally) → ledgerAt p (sets ws (cardStart p s) (spellCard t)) ≡ putCard (ledgerAt p ws) s t
+  card-in t =
+      let ws' : List ℕ = sets ws (cardStart p s) (spellCard t) in
+      let last = row-inside p s slot in
+      let f : (j : ℕ) → j < cardWords → wordAt ws' (cardStart p s + j) ≡ getD (spellCard t) j 0 = (λ j l. sets-in (spellCard t) ws (cardStart p s) j 0 l (omega arith)) in
+      let z : wordAt ws' (cardStart p s) ≡ t .skip .0 = rw add-zero at (f 0 (omega arith)) in
+      let h : Apart ws' ws (cardStart p s) (cardStart p s + cardWords) = (λ k o. sets-out (spellCard t) ws (cardStart p s) k 0 o) in
+      head-put ws' (cardStart p s) (cardStart p s + cardWords) (blocksAt (ledgerAt p ws) s) (rowAt (ledgerAt p ws) s .timedOut) (rowAt (ledgerAt p ws) s .final) (rowAt (ledgerAt p ws) s .clash) t h (omega arith) (omega arith)
+      (blocks-kept p ws' ws (cardStart p s) (cardStart p s + cardWords) h s (inl (omega arith)) ∙ ap (λ (r : Row). r .blocks) here)
+      (h (rowStart p s + timeoutAt) (inl (omega arith)) ∙ ap (λ (r : Row). r .timedOut) here)
+      (h (rowStart p s + finalAt) (inl (omega arith)) ∙ ap (λ (r : Row). r .final) here)
+      (h (rowStart p s + clashAt) (inl (omega arith)) ∙ ap (λ (r : Row). r .clash) here)
+      (λ i. cardOf (z i) (f 1 (omega arith) i) (f 2 (omega arith) i) (f 3 (omega arith) i) (f 4 (omega arith) i))
 
 -- The same at a place that code computed.
 pub block-stored : (ws : List ℕ) (s n i : ℕ) (b : Block) → InBlocks ws s n → i ≡ blockStart (placesIn ws) s n
@@ -198,6 +230,12 @@ block-stored ws s n i b h e =
     same-shape ws (sets ws i (spellBlock b)) (length-sets ws i (spellBlock b))
     ∙ ap (λ (k : ℕ). ledgerAt (placesIn ws) (sets ws k (spellBlock b))) e
     ∙ block-put (placesIn ws) ws s (h .long) (h .slot) n b (h .place)
+
+pub card-put : (ws : List ℕ) (s i : ℕ) (t : Tally) → InSlot ws s → i ≡ cardStart (placesIn ws) s → ledgerOf (sets ws i (spellCard t)) ≡ putCard (ledgerOf ws) s t
+card-put ws s i t h e =
+    same-shape ws (sets ws i (spellCard t)) (length-sets ws i (spellCard t))
+    ∙ ap (λ (k : ℕ). ledgerAt (placesIn ws) (sets ws k (spellCard t))) e
+    ∙ card-in (placesIn ws) ws s (h .long) (h .slot) t
 
 module _ (ws : List ℕ) (s i : ℕ) (h : InSlot ws s) (e : i ≡ rowStart (placesIn ws) s) where
   pub timed-out-put : ledgerOf (set ws (i + timeoutAt) 1) ≡ putTimedOut (ledgerOf ws) s
@@ -256,11 +294,11 @@ row-other l s t r q = getD-set-other (l .rows) s t r noRow q
 pub block-other : (l : Ledger) (s n m : ℕ) (b : Block) → s < length (l .rows) → (m ≡ n → ⊥)
     → getD (blocksAt (putBlocks l s (set (blocksAt l s) n b)) s) m noBlock ≡ getD (blocksAt l s) m noBlock
 block-other l s n m b h q =
-    ap (λ (r : Row). getD (r .blocks) m noBlock) (getD-set-same (l .rows) s (record { blocks = set (rowAt l s .blocks) n b; timedOut = rowAt l s .timedOut; final = rowAt l s .final; clash = rowAt l s .clash; cells = rowAt l s .cells }) noRow h)
+    ap (λ (r : Row). getD (r .blocks) m noBlock) (getD-set-same (l .rows) s (record { blocks = set (rowAt l s .blocks) n b; timedOut = rowAt l s .timedOut; final = rowAt l s .final; clash = rowAt l s .clash; card = rowAt l s .card; cells = rowAt l s .cells }) noRow h)
     ∙ getD-set-other (rowAt l s .blocks) n m b noBlock q
 
 -- A node's cell stored in a row: the other nodes' stay.
 pub cell-other : (l : Ledger) (s n m : ℕ) (c : Cell) → s < length (l .rows) → (m ≡ n → ⊥) → cellAt (putCell l s n c) s m ≡ cellAt l s m
 cell-other l s n m c h q =
-    ap (λ (r : Row). getD (r .cells) m noCell) (getD-set-same (l .rows) s (record { blocks = rowAt l s .blocks; timedOut = rowAt l s .timedOut; final = rowAt l s .final; clash = rowAt l s .clash; cells = set (rowAt l s .cells) n c }) noRow h)
+    ap (λ (r : Row). getD (r .cells) m noCell) (getD-set-same (l .rows) s (record { blocks = rowAt l s .blocks; timedOut = rowAt l s .timedOut; final = rowAt l s .final; clash = rowAt l s .clash; card = rowAt l s .card; cells = set (rowAt l s .cells) n c }) noRow h)
     ∙ getD-set-other (rowAt l s .cells) n m c noCell q

@@ -9,8 +9,8 @@ use lib.ListN.{length, getD, set, take, drop, replicate, length-drop, length-rep
 use lib.Seq.{getD-set-same, getD-set-other, getD-take, getD-drop, ext-getD, length-take-le, sets, length-sets}
 use Rattle.rulebook.specs.declared.Cell.{Cell}
 use Rattle.rulebook.specs.Weights.{lastSlot, windows}
-use Rattle.rulebook.specs.Ledger.{Ledger, Row, noCell, noBlock, mostBlocks, blankRow, places}
-use Rattle.record.specs.Layout.{wordAt, armedStart, stakeStart, rowStart, timeoutAt, finalAt, clashAt, blockStart, cellStart, recordWords, placesIn, tabulate, blockOf, cellOf, rowOf, ledgerAt, ledgerOf, Long, InTable}
+use Rattle.rulebook.specs.Ledger.{Ledger, Row, cardOf, noCell, noBlock, mostBlocks, blankRow, places}
+use Rattle.record.specs.Layout.{wordAt, armedStart, stakeStart, rowStart, timeoutAt, finalAt, clashAt, cardStart, blockStart, cellStart, recordWords, placesIn, tabulate, blockOf, cellOf, rowOf, ledgerAt, ledgerOf, Long, InTable}
 use Rattle.record.specs.Setting.{noLedger, putHead, putStake}
 use Rattle.record.proofs.Tables.{lt-or-gt, length-tabulate, getD-tabulate, tabulate-same, tabulate-set, sets-out, sets-in}
 use Rattle.record.proofs.Places.{head-before, places-words, node-placed, same-shape}
@@ -57,6 +57,7 @@ module _ (p m : ℕ) where
         timedOut = zeros m (rowStart p s + timeoutAt) i;
         final = zeros m (rowStart p s + finalAt) i;
         clash = zeros m (rowStart p s + clashAt) i;
+        card = cardOf (zeros m (cardStart p s) i) (zeros m (cardStart p s + 1) i) (zeros m (cardStart p s + 2) i) (zeros m (cardStart p s + 3) i) (zeros m (cardStart p s + 4) i);
         cells = tabulate-all p (cellOf p (replicate m 0) s) noCell (cell-zeros s) i;
       }
 

@@ -10,11 +10,11 @@ use Rattle.rulebook.specs.declared.Cell.{Cell}
 use Rattle.rulebook.specs.declared.Block.{Block}
 use Rattle.rulebook.specs.declared.VoteKind.{VoteKind}
 use Rattle.rulebook.specs.Weights.{lastSlot, windows}
-use Rattle.rulebook.specs.Ledger.{Ledger, Row, noRow, noCell, noBlock, mostBlocks, places, rowAt, blocksAt, putRow}
+use Rattle.rulebook.specs.Ledger.{Ledger, Row, cardOf, noRow, noCell, noBlock, mostBlocks, places, rowAt, blocksAt, putRow}
 use Rattle.rulebook.specs.Votes.{storeVote}
 use Rattle.rulebook.specs.WellFormed.{Shaped}
-use Rattle.record.specs.Layout.{wordAt, armedStart, stakeStart, headWords, blockWords, cellWords, timeoutAt, finalAt, rowHead, rowWords, rowStart, blockStart, cellStart, recordWords, placesIn, tabulate, blockFrom, blockOf, cellFrom, cellOf, rowOf, ledgerAt, ledgerOf, Long}
-use Rattle.record.specs.Spelling.{joined, spellCell, spellBlock, spellHead, spellRow, wordsOf}
+use Rattle.record.specs.Layout.{wordAt, armedStart, stakeStart, headWords, blockWords, cellWords, timeoutAt, cardAt, cardWords, cardStart, finalAt, rowHead, rowWords, rowStart, blockStart, cellStart, recordWords, placesIn, tabulate, blockFrom, blockOf, cellFrom, cellOf, rowOf, ledgerAt, ledgerOf, Long}
+use Rattle.record.specs.Spelling.{joined, spellCell, spellBlock, spellCard, spellHead, spellRow, wordsOf}
 use Rattle.record.proofs.Tables.{getD-tabulate, tabulate-same, tabulate-getD}
 use Rattle.record.proofs.Places.{places-back, sized-long, same-shape}
 use Rattle.record.proofs.Reading.{row-words}
@@ -76,14 +76,17 @@ module _ (p : ℕ) (ws : List ℕ) where
       (λ n l. block-spelled (blockStart p s n)
       ∙ tabulate-same blockWords (λ j. wordAt ws (blockStart p s n + j)) (λ j. wordAt ws (rowStart p s + (blockWords * n + j))) (λ j m. ap (wordAt ws) (omega arith)))
 
-  marks-spelled : (s : ℕ) → rowOf p ws s .timedOut ∷ rowOf p ws s .final ∷ rowOf p ws s .clash ∷ [] ≡ tabulate 3 (λ j. wordAt ws (rowStart p s + (timeoutAt + j)))
+  marks-spelled : (s : ℕ) → rowOf p ws s .timedOut ∷ rowOf p ws s .final ∷ rowOf p ws s .clash ∷ spellCard (rowOf p ws s .card) ≡ tabulate 8 (λ j. wordAt ws (rowStart p s + (timeoutAt + j)))
   unfolding tabulate
-  marks-spelled s = refl
+  marks-spelled s =
+      let w : (j : ℕ) → wordAt ws (cardStart p s + j) ≡ wordAt ws (rowStart p s + (cardAt + j)) = (λ j. let e : cardStart p s + j ≡ rowStart p s + (cardAt + j) = omega arith in ap (wordAt ws) e) in
+      let r = rowOf p ws s in
+      λ i. r .timedOut ∷ r .final ∷ r .clash ∷ r .card .skip .0 ∷ w 1 i ∷ w 2 i ∷ w 3 i ∷ w 4 i ∷ []
 
   head-spelled : (s : ℕ) → spellHead (rowOf p ws s) ≡ tabulate rowHead (λ j. wordAt ws (rowStart p s + j))
   head-spelled s =
       sym
-      (tabulate-split rowHead timeoutAt 3 (λ j. wordAt ws (rowStart p s + j)) refl
+      (tabulate-split rowHead timeoutAt 8 (λ j. wordAt ws (rowStart p s + j)) refl
       ∙ (λ i. (tabulate-rows timeoutAt mostBlocks blockWords (λ j. wordAt ws (rowStart p s + j)) refl ∙ ap joined (sym (blocks-spelled s))) i ++ sym (marks-spelled s) i))
 
   cells-spelled : (s : ℕ) → map spellCell (tabulate p (cellOf p ws s)) ≡ tabulate p (λ n. tabulate cellWords (λ j. wordAt ws (rowStart p s + (rowHead + (cellWords * n + j)))))
@@ -213,14 +216,14 @@ spelled-at g k xs d n j e h l =
 
 -- The marks behind the blocks.
 abbrev spellMarks : Row → List ℕ
-spellMarks r = r .timedOut ∷ r .final ∷ r .clash ∷ []
+spellMarks r = r .timedOut ∷ r .final ∷ r .clash ∷ spellCard (r .card)
 
 module _ (r : Row) (four : length (r .blocks) ≡ mostBlocks) where
   blocks-long : length (joined (map spellBlock (r .blocks))) ≡ timeoutAt
   blocks-long = spelled-long spellBlock blockWords (r .blocks) noBlock (λ i h. refl) ∙ ap (λ (k : ℕ). blockWords * k) four
 
   head-long : length (spellHead r) ≡ rowHead
-  head-long = length-append (joined (map spellBlock (r .blocks))) (spellMarks r) ∙ ap (λ (k : ℕ). k + 3) blocks-long
+  head-long = length-append (joined (map spellBlock (r .blocks))) (spellMarks r) ∙ ap (λ (k : ℕ). k + 8) blocks-long
 
   row-long : (p : ℕ) → length (r .cells) ≡ p → length (spellRow r) ≡ rowWords p
   row-long p e =
@@ -237,7 +240,7 @@ module _ (r : Row) (four : length (r .blocks) ≡ mostBlocks) where
       ∙ List·getD-append (joined (map spellBlock (r .blocks))) (spellMarks r) 0 (blockWords * n + j) (omega (arith, blocks-long))
       ∙ spelled-at spellBlock blockWords (r .blocks) noBlock n j (λ i h. refl) (omega (arith, four)) l
 
-  row-mark : (j : ℕ) → j < 3 → wordAt (spellRow r) (timeoutAt + j) ≡ wordAt (spellMarks r) j
+  row-mark : (j : ℕ) → j < 8 → wordAt (spellRow r) (timeoutAt + j) ≡ wordAt (spellMarks r) j
   row-mark j h =
       let z : timeoutAt + j ≡ length (joined (map spellBlock (r .blocks))) + j = ap (λ (k : ℕ). k + j) (sym blocks-long) in
       head-at (timeoutAt + j) (omega arith) ∙ ap (wordAt (spellHead r)) z ∙ getD-append-add (joined (map spellBlock (r .blocks))) (spellMarks r) j 0
@@ -332,7 +335,9 @@ module _ (p : ℕ) (l : Ledger) (w : Shaped p l) where
 
   row-back : (s : ℕ) → s < suc lastSlot → rowOf p (wordsOf l) s ≡ rowAt l s
   row-back s h =
-      let mark : (j : ℕ) → j < 3 → wordAt (wordsOf l) (rowStart p s + (timeoutAt + j)) ≡ wordAt (spellMarks (rowAt l s)) j = (λ j m. row-word s (timeoutAt + j) h (omega arith) ∙ row-mark (rowAt l s) (w .blocks s h) j m) in
+      let mark : (j : ℕ) → j < 8 → wordAt (wordsOf l) (rowStart p s + (timeoutAt + j)) ≡ wordAt (spellMarks (rowAt l s)) j = (λ j m. row-word s (timeoutAt + j) h (omega arith) ∙ row-mark (rowAt l s) (w .blocks s h) j m) in
+      let card : (j : ℕ) → j < cardWords → wordAt (wordsOf l) (cardStart p s + j) ≡ wordAt (spellMarks (rowAt l s)) (3 + j) =
+      (λ j m. let e : cardStart p s + j ≡ rowStart p s + (timeoutAt + (3 + j)) = omega arith in ap (wordAt (wordsOf l)) e ∙ mark (3 + j) (omega arith)) in
       λ i. record {
         blocks = (tabulate-same mostBlocks (blockOf p (wordsOf l) s) (λ n. getD (blocksAt l s) n noBlock) (λ n k. block-back s n h k)
             ∙ ap (λ k. tabulate k (λ n. getD (blocksAt l s) n noBlock)) (sym (w .blocks s h))
@@ -340,6 +345,7 @@ module _ (p : ℕ) (l : Ledger) (w : Shaped p l) where
         timedOut = mark 0 (omega arith) i;
         final = mark 1 (omega arith) i;
         clash = mark 2 (omega arith) i;
+        card = cardOf (mark 3 (omega arith) i) (card 1 (omega arith) i) (card 2 (omega arith) i) (card 3 (omega arith) i) (card 4 (omega arith) i);
         cells = (tabulate-same p (cellOf p (wordsOf l) s) (λ n. getD (rowAt l s .cells) n noCell) (λ n k. cell-back s n h k)
             ∙ ap (λ k. tabulate k (λ n. getD (rowAt l s .cells) n noCell)) (sym (w .cells s h))
             ∙ sym (tabulate-getD (rowAt l s .cells) noCell)) i;

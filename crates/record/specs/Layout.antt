@@ -1,6 +1,6 @@
 -- What a node's words mean: a head (count, total, own number, genesis, the armed windows, the stakes), then a row for each
--- slot: four places for blocks (number, its parent's slot and number), timed out, final block, the mark of another, then a cell
--- for each node.
+-- slot: four places for blocks (number, its parent's slot and number), timed out, final block, the mark of another, the tally
+-- card, then a cell for each node.
 use mathlib.Core.Path.{_≡_}
 use mathlib.Core.Bool.{Bool}
 use mathlib.Core.List.{List, [], _∷_}
@@ -9,8 +9,9 @@ use lib.ListN.{length, getD}
 use lib.Dec.{eqb}
 use Rattle.rulebook.specs.declared.Cell.{Cell}
 use Rattle.rulebook.specs.declared.Block.{Block}
+use Rattle.rulebook.specs.declared.Tally.{Tally}
 use Rattle.rulebook.specs.Weights.{lastSlot, windows}
-use Rattle.rulebook.specs.Ledger.{Ledger, Row, mostBlocks, places}
+use Rattle.rulebook.specs.Ledger.{Ledger, Row, cardOf, mostBlocks, places}
 
 -- ---- where each thing stands
 
@@ -30,7 +31,10 @@ cellWords = 7
 abbrev pub blockWords : ℕ
 blockWords = 3
 
--- In a row's head: the mark of its timeout behind the blocks, then its final block, then the mark of another.
+abbrev pub cardWords : ℕ
+cardWords = 5
+
+-- In a row's head: the mark of its timeout behind the blocks, then its final block, the mark of another, and the card.
 abbrev pub timeoutAt : ℕ
 timeoutAt = 12
 
@@ -40,18 +44,24 @@ finalAt = 13
 abbrev pub clashAt : ℕ
 clashAt = 14
 
+abbrev pub cardAt : ℕ
+cardAt = 15
+
 abbrev pub rowHead : ℕ
-rowHead = 15
+rowHead = 20
 
 abbrev pub rowWords : ℕ → ℕ
 rowWords p = rowHead + cellWords * p
 
--- The first word of slot s's row, of place i for a block in it, and of node n's cell in it.
+-- The first word of slot s's row, of place i for a block in it, of its card, and of node n's cell in it.
 unfoldable pub rowStart : ℕ → ℕ → ℕ
 rowStart p s = headWords p + rowWords p * s
 
 abbrev pub blockStart : ℕ → ℕ → ℕ → ℕ
 blockStart p s i = rowStart p s + blockWords * i
+
+abbrev pub cardStart : ℕ → ℕ → ℕ
+cardStart p s = rowStart p s + cardAt
 
 abbrev pub cellStart : ℕ → ℕ → ℕ → ℕ
 cellStart p s n = rowStart p s + rowHead + cellWords * n
@@ -62,7 +72,7 @@ recordWords p = rowStart p (suc lastSlot)
 
 -- That is so many words without any place, and so many more for each.
 abbrev pub bareWords : ℕ
-bareWords = 263
+bareWords = 348
 
 abbrev pub placeWords : ℕ
 placeWords = 120
@@ -97,6 +107,9 @@ cellFrom ws i =
 abbrev pub blockFrom : List ℕ → ℕ → Block
 blockFrom ws i = record { number = wordAt ws i; parentslot = record { 0 = wordAt ws (i + 1) }; parent = wordAt ws (i + 2) }
 
+abbrev pub cardFrom : List ℕ → ℕ → Tally
+cardFrom ws i = cardOf (wordAt ws i) (wordAt ws (i + 1)) (wordAt ws (i + 2)) (wordAt ws (i + 3)) (wordAt ws (i + 4))
+
 abbrev pub cellOf : ℕ → List ℕ → ℕ → ℕ → Cell
 cellOf p ws s n = cellFrom ws (cellStart p s n)
 
@@ -110,6 +123,7 @@ rowOf p ws s =
       timedOut = wordAt ws (rowStart p s + timeoutAt);
       final = wordAt ws (rowStart p s + finalAt);
       clash = wordAt ws (rowStart p s + clashAt);
+      card = cardFrom ws (cardStart p s);
       cells = tabulate p (cellOf p ws s);
     }
 
@@ -178,7 +192,7 @@ pub record Counted (ws : List ℕ) : Type 0 where
   pub long : Long ws
   pub few : ledgerOf ws .count ≤ places (ledgerOf ws)
 
--- Where a row, a block's place, or a cell, begins, and that it lies within the words.
+-- Where a row, a block's place, a card, or a cell, begins, and that it lies within the words.
 pub record RowAt (ws : List ℕ) (s i : ℕ) : Type 0 where
   pub is : i ≡ rowStart (placesIn ws) s
   pub inside : i + rowWords (placesIn ws) ≤ length ws
@@ -186,6 +200,10 @@ pub record RowAt (ws : List ℕ) (s i : ℕ) : Type 0 where
 pub record BlockAt (ws : List ℕ) (s n i : ℕ) : Type 0 where
   pub is : i ≡ blockStart (placesIn ws) s n
   pub inside : i + blockWords ≤ length ws
+
+pub record CardAt (ws : List ℕ) (s i : ℕ) : Type 0 where
+  pub is : i ≡ cardStart (placesIn ws) s
+  pub inside : i + cardWords ≤ length ws
 
 pub record CellAt (ws : List ℕ) (s n i : ℕ) : Type 0 where
   pub is : i ≡ cellStart (placesIn ws) s n

@@ -5,20 +5,18 @@ ghost use mathlib.Core.Bool.{not};
 ghost use Prim.Native.Nat.{_<_};
 ghost use lib.ListN.{length, getD, set, take, replicate};
 ghost use Rattle.rulebook.specs.Weights.{placesFor, windows, stakeIn};
-ghost use Rattle.rulebook.specs.Ledger.{none, noBlock, places, rowAt, cellAt, ownCell, blocksAt, isArmed, putCell, putBlocks, putTimedOut, putFinal, putClash, putArmed};
-ghost use Rattle.rulebook.specs.Votes.{storeVote};
+ghost use Rattle.rulebook.specs.Ledger.{none, noBlock, places, rowAt, cellAt, ownCell, blocksAt, isArmed, putCell, putCard, putBlocks, putTimedOut, putFinal, putClash, putArmed};
 ghost use Rattle.rulebook.specs.Rules.{findBlock};
 ghost use Rattle.rulebook.specs.Inputs.{keepBlock};
-ghost use Rattle.record.specs.Layout.{recordWords, isLong, Long, InSlot, InWindow, InTable, InBlocks, Placed, RowAt, BlockAt, CellAt, OwnIn, Counted, ledgerOf};
+ghost use Rattle.record.specs.Layout.{recordWords, isLong, Long, InSlot, InWindow, InTable, InBlocks, Placed, RowAt, BlockAt, CardAt, CellAt, OwnIn, Counted, ledgerOf};
 ghost use Rattle.record.specs.Setting.{putHead, putStake};
 ghost use Rattle.record.specs.BlockPlaces.{freePlace};
-use cells::with_vote;
 use rulebook::Block;
 use rulebook::Cell;
 use rulebook::MOST_NODES;
 use rulebook::Node;
 use rulebook::Slot;
-use rulebook::VoteKind;
+use rulebook::Tally;
 use rulebook::Weight;
 
 // "Slots 1 to 16, windows of 4".
@@ -30,7 +28,7 @@ pub const WINDOWS: usize = 4;
 pub const MOST_BLOCKS: usize = 4;
 
 // The layout: 4 numbers, the armed windows, the stakes; then a row for slot 0 and each slot: 3 words for each kept block, the
-// timeout's mark, the final block, the mark of another, and 7 words for each node.
+// timeout's mark, the final block, the mark of another, 5 words of the tally card, and 7 words for each node.
 const ARMED_START: usize = 4;
 
 const STAKE_START: usize = ARMED_START + WINDOWS;
@@ -45,7 +43,11 @@ const FINAL_AT: usize = TIMEOUT_AT + 1;
 
 const CLASH_AT: usize = FINAL_AT + 1;
 
-const ROW_HEAD: usize = CLASH_AT + 1;
+const CARD_AT: usize = CLASH_AT + 1;
+
+const CARD_WORDS: usize = 5;
+
+const ROW_HEAD: usize = CARD_AT + CARD_WORDS;
 
 // The words of a record without any place, and how many more each place takes.
 const BARE_WORDS: usize = STAKE_START + ROW_HEAD * (LAST_SLOT + 1);
@@ -118,6 +120,15 @@ pub fn load_cell(rec: &[u64], s: Slot, n: Node) -> Cell
         skipfallback: rec[i + 5],
         finalvote: rec[i + 6],
     }
+}
+
+// The block of a node's notar vote in a slot, 0 where there is none: the first word of its cell.
+pub fn notar_of(rec: &[u64], s: Slot, n: Node) -> u64
+    requires { ⌜ Placed (now rec) (s .0) (n .0) ⌝ }
+    ensures { λ r. ⌜ r ≡ cellAt (ledgerOf (now (rec .entry))) (s .0) (n .0) .notar ⌝ }
+{
+    let i = cell_start(rec, s, n);
+    rec[i]
 }
 
 // Puts a cell in the place of a node's.
@@ -273,6 +284,46 @@ pub fn mark_clash(rec: &mut [u64], s: Slot)
     rec[i + CLASH_AT] = 1;
 }
 
+// The first word of a slot's tally card.
+fn card_start(rec: &[u64], s: Slot) -> usize
+    requires { ⌜ InSlot (now rec) (s .0) ⌝ }
+    ensures { λ r. ⌜ CardAt (now (rec .entry)) (s .0) r ⌝ }
+{
+    row_start(rec, s) + CARD_AT
+}
+
+// A slot's tally card.
+pub fn load_card(rec: &[u64], s: Slot) -> Tally
+    requires { ⌜ InSlot (now rec) (s .0) ⌝ }
+    ensures { λ r. ⌜ r ≡ rowAt (ledgerOf (now (rec .entry))) (s .0) .card ⌝ }
+{
+    let i = card_start(rec, s);
+    Tally {
+        skip: Weight(rec[i]),
+        finals: Weight(rec[i + 1]),
+        skipcert: Weight(rec[i + 2]),
+        leader: rec[i + 3],
+        weight: Weight(rec[i + 4]),
+    }
+}
+
+// Puts a card in the place of a slot's.
+pub fn store_card(rec: &mut [u64], s: Slot, t: Tally)
+    requires { ⌜ InSlot (now rec) (s .0) ⌝ }
+    ensures { λ _. ⌜ ledgerOf (now (rec .exit)) ≡ putCard (ledgerOf (now (rec .entry))) (s .0) t ⌝ }
+{
+    let i = card_start(rec, s);
+    let skip = t.skip;
+    let finals = t.finals;
+    let skipcert = t.skipcert;
+    let weight = t.weight;
+    rec[i] = skip.0;
+    rec[i + 1] = finals.0;
+    rec[i + 2] = skipcert.0;
+    rec[i + 3] = t.leader;
+    rec[i + 4] = weight.0;
+}
+
 // The word that marks a window as armed, whatever stands in it.
 pub fn armed_word(rec: &[u64], w: usize) -> u64
     requires { ⌜ Long (now rec) × (w < windows) ⌝ }
@@ -355,15 +406,6 @@ pub fn own_cell(rec: &[u64], s: Slot) -> Cell
     ensures { λ r. ⌜ r ≡ ownCell (ledgerOf (now (rec .entry))) (s .0) ⌝ }
 {
     load_cell(rec, s, own(rec))
-}
-
-// Stores a node's vote: the one way in for own and outside votes.
-pub fn store_vote(rec: &mut [u64], s: Slot, n: Node, k: VoteKind, b: u64)
-    requires { ⌜ Placed (now rec) (s .0) (n .0) ⌝ }
-    ensures { λ _. ⌜ ledgerOf (now (rec .exit)) ≡ storeVote (ledgerOf (now (rec .entry))) (s .0) (n .0) k b ⌝ }
-{
-    let c = load_cell(rec, s, n);
-    store_cell(rec, s, n, with_vote(c, k, b));
 }
 
 // Forgets everything.

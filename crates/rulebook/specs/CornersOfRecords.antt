@@ -1,5 +1,5 @@
 -- Computed cases of 17: a record in range that has something in every place, and the same record with one place spoiled.
-use mathlib.Core.Bool.{Bool, not}
+use mathlib.Core.Bool.{Bool, not, _&&_}
 use mathlib.Core.List.{List, [], _∷_, _++_}
 use Prim.Native.Nat.{ℕ, suc, _+_, _-_, _^_, min}
 use lib.ListN.{set, replicate}
@@ -12,7 +12,7 @@ use Rattle.rulebook.specs.Tools.{choose}
 use Rattle.rulebook.specs.Weights.{lastSlot, windows}
 use Rattle.rulebook.specs.Ledger.{Ledger, none, noBlock, blankRow, rowAt, putRow, putCell, putBlocks, putTimedOut, putFinal, putClash}
 use Rattle.rulebook.specs.WellFormed.{blocksFit, wellFormed, step}
-use Rattle.rulebook.specs.Scripts.{vote, look, cell, ring, equal, all}
+use Rattle.rulebook.specs.Scripts.{vote, look, cell, recounted, withVotes, ring, equal, all}
 use Rattle.rulebook.specs.Computes.{rules}
 
 abbrev blockOf : ℕ → ℕ → ℕ → Block
@@ -36,12 +36,12 @@ withBlock l s b = withBlocks l s b noBlock noBlock noBlock
 abbrev odd : Ledger
 odd =
     let kept = withBlock (ring (6 ∷ 4 ∷ []) (cell 7 0 7 0 0 1 1 ∷ cell 0 1 5 6 7 1 1 ∷ [])) 1 (blockOf 7 0 1) in
-    putCell (putFinal (putTimedOut (withBlocks kept 16 (blockOf 7 15 3) (blockOf 6 15 3) (blockOf 9 0 1) (blockOf 8 1 7)) 9) 16 1) 16 1
+    withVotes (putFinal (putTimedOut (withBlocks kept 16 (blockOf 7 15 3) (blockOf 6 15 3) (blockOf 9 0 1) (blockOf 8 1 7)) 9) 16 1) 16 1
     (cell 0 0 8 9 0 1 0)
 
 -- A cell in the place of node n's in slot s.
 abbrev withCell : ℕ → ℕ → Cell → Bool
-withCell s n c = wellFormed (putCell odd s n c)
+withCell s n c = wellFormed (withVotes odd s n c)
 
 -- The votes of a node: flags above 1, two initial votes, fallbacks not from the front, one of them twice.
 abbrev cells : Bool
@@ -68,27 +68,27 @@ ownFallbacks =
     let l = fifths (cell 0 1 21 22 23 0 0) in
     let own : Cell → Bool = (λ c. wellFormed (fifths c)) in
     all (wellFormed l ∷ not (own (cell 0 1 24 22 23 0 0)) ∷ not (own (cell 0 1 21 24 23 0 0)) ∷ not (own (cell 0 1 21 22 24 0 0))
-    ∷ not (own (cell 7 0 21 0 0 0 0)) ∷ not (wellFormed (putCell l 1 1 (cell 0 0 0 0 0 1 0))) ∷ wellFormed (putCell l 1 1 (cell 0 1 31 32 33 0 0))
-    ∷ not (wellFormed (putCell l 2 0 (cell 0 1 21 0 0 0 0))) ∷ not (wellFormed (putCell l 16 0 (cell 0 1 21 0 0 0 0)))
-    ∷ wellFormed (withOwn (fifths (cell 0 1 31 32 33 0 0)) 4) ∷ not (wellFormed (withOwn (putCell l 1 4 (cell 23 0 31 0 0 0 0)) 4)) ∷ [])
+    ∷ not (own (cell 7 0 21 0 0 0 0)) ∷ not (wellFormed (withVotes l 1 1 (cell 0 0 0 0 0 1 0))) ∷ wellFormed (withVotes l 1 1 (cell 0 1 31 32 33 0 0))
+    ∷ not (wellFormed (withVotes l 2 0 (cell 0 1 21 0 0 0 0))) ∷ not (wellFormed (withVotes l 16 0 (cell 0 1 21 0 0 0 0)))
+    ∷ wellFormed (withOwn (fifths (cell 0 1 31 32 33 0 0)) 4) ∷ not (wellFormed (withOwn (withVotes l 1 4 (cell 23 0 31 0 0 0 0)) 4)) ∷ [])
 
 -- The same by notar votes alone: two fifths are enough and one is not; nothing else of rule D is asked, neither an own initial vote nor
 -- the wait for the block and its parent.
 abbrev ownByNotar : Bool
 ownByNotar =
     let l = ring (3 ∷ 2 ∷ []) [] in
-    let own : ℕ → Ledger → Bool = (λ s m. wellFormed (putCell (putCell m s 0 (cell 0 0 8 0 0 0 0)) s 1 (cell 8 0 0 0 0 0 0))) in
+    let own : ℕ → Ledger → Bool = (λ s m. wellFormed (withVotes (withVotes m s 0 (cell 0 0 8 0 0 0 0)) s 1 (cell 8 0 0 0 0 0 0))) in
     all (own 1 l ∷ own 2 l ∷ not (own 1 (ring (4 ∷ 1 ∷ []) [])) ∷ not (own 2 (ring (4 ∷ 1 ∷ []) [])) ∷ [])
-
--- The cell of node n in a slot that no vote is for.
-abbrev blankOnly : ℕ → ℕ → Bool
-blankOnly s n =
-    all (not (withCell s n (cell 1 0 0 0 0 0 0)) ∷ not (withCell s n (cell 0 1 0 0 0 0 0)) ∷ not (withCell s n (cell 0 0 1 0 0 0 0)) ∷ not (withCell s n (cell 0 0 0 1 0 0 0))
-    ∷ not (withCell s n (cell 0 0 0 0 1 0 0)) ∷ not (withCell s n (cell 0 0 0 0 0 1 0)) ∷ not (withCell s n (cell 0 0 0 0 0 0 1)) ∷ [])
 
 -- Unused cells: those of row 0, the first and the last.
 abbrev unusedCells : Bool
-unusedCells = all (blankOnly 0 0 ∷ blankOnly 0 1 ∷ [])
+unusedCells =
+    let fits : ℕ → Cell → Bool = (λ n c. wellFormed (putCell odd 0 n c)) in
+    let blankOnly : ℕ → Bool =
+    (λ n.
+    all (not (fits n (cell 1 0 0 0 0 0 0)) ∷ not (fits n (cell 0 1 0 0 0 0 0)) ∷ not (fits n (cell 0 0 1 0 0 0 0)) ∷ not (fits n (cell 0 0 0 1 0 0 0))
+    ∷ not (fits n (cell 0 0 0 0 1 0 0)) ∷ not (fits n (cell 0 0 0 0 0 1 0)) ∷ not (fits n (cell 0 0 0 0 0 0 1)) ∷ [])) in
+    blankOnly 0 && blankOnly 1
 
 -- These four places of slot 2 are in range.
 abbrev fourFit : Block → Block → Block → Block → Bool
@@ -120,14 +120,15 @@ abbrev marks : Bool
 marks =
     let r = rowAt odd 2 in
     let blankBut : Block → Bool = (λ b. wellFormed (withBlock odd 0 b)) in
-    let withMarks : ℕ → ℕ → Bool = (λ t c. wellFormed (putRow odd 2 (record { blocks = r .blocks; timedOut = t; final = r .final; clash = c; cells = r .cells }))) in
+    let withMarks : ℕ → ℕ → Bool = (λ t c. wellFormed (putRow odd 2 (record { blocks = r .blocks; timedOut = t; final = r .final; clash = c; card = r .card; cells = r .cells }))) in
     all (withMarks 1 1 ∷ not (withMarks 2 0) ∷ not (withMarks 0 2) ∷ not (wellFormed (putTimedOut odd 0)) ∷ not (wellFormed (putClash odd 0))
     ∷ not (wellFormed (putFinal odd 0 7)) ∷ not (blankBut (blockOf 7 0 0)) ∷ not (blankBut (blockOf 0 1 0)) ∷ not (blankBut (blockOf 0 0 1))
     ∷ not (wellFormed (withBlocks odd 0 noBlock noBlock noBlock (blockOf 7 0 0))) ∷ [])
 
--- The record with another header.
+-- The record with another header, its cards recounted.
 abbrev headed : ℕ → ℕ → ℕ → ℕ → List ℕ → List ℕ → Bool
-headed c t o g a w = wellFormed (record { count = c; total = t; own = o; genesis = g; armed = a; stakes = w; rows = odd .rows })
+headed c t o g a w =
+    wellFormed (recounted (recounted (record { count = c; total = t; own = o; genesis = g; armed = a; stakes = w; rows = odd .rows }) 1) 16)
 
 -- Count, total, own number, genesis; each armed flag; a stake of 0, one past the count, a total above 2^48.
 abbrev heads : Bool

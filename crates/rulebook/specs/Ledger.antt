@@ -6,16 +6,18 @@ use lib.ListN.{length, getD, set, replicate}
 use lib.Dec.{eqb}
 use Rattle.rulebook.specs.declared.Cell.{Cell}
 use Rattle.rulebook.specs.declared.Block.{Block}
+use Rattle.rulebook.specs.declared.Tally.{Tally}
 use Rattle.rulebook.specs.Tools.{choose}
 use Rattle.rulebook.specs.Weights.{placesFor, lastSlot, windows, windowOf, totalTo}
 
 -- One slot: places for blocks with their parents, the first announced in front; whether its timeout was taken; the block reported
--- final; whether another was, a mark; a cell for each node.
+-- final; whether another was, a mark; the tally card; a cell for each node.
 pub record Row : Type 0 where
   pub blocks : List Block
   pub timedOut : ℕ
   pub final : ℕ
   pub clash : ℕ
+  pub card : Tally
   pub cells : List Cell
 
 pub record Ledger : Type 0 where
@@ -38,13 +40,27 @@ noCell =
 abbrev pub noBlock : Block
 noBlock = record { number = 0; parentslot = record { 0 = 0 }; parent = 0 }
 
+-- A card by its five numbers, and the card of a slot without votes.
+abbrev pub cardOf : ℕ → ℕ → ℕ → ℕ → ℕ → Tally
+cardOf skip finals skipcert leader weight =
+    record {
+      skip = record { 0 = skip };
+      finals = record { 0 = finals };
+      skipcert = record { 0 = skipcert };
+      leader = leader;
+      weight = record { 0 = weight };
+    }
+
+abbrev pub noCard : Tally
+noCard = cardOf 0 0 0 0 0
+
 -- "up to four announced blocks are kept per slot".
 abbrev pub mostBlocks : ℕ
 mostBlocks = 4
 
 -- A row of so many places with nothing in it; one without a place stands for a slot that has none.
 unfoldable pub blankRow : ℕ → Row
-blankRow places = record { blocks = replicate mostBlocks noBlock; timedOut = 0; final = 0; clash = 0; cells = replicate places noCell }
+blankRow places = record { blocks = replicate mostBlocks noBlock; timedOut = 0; final = 0; clash = 0; card = noCard; cells = replicate places noCell }
 
 unfoldable pub noRow : Row
 noRow = blankRow 0
@@ -113,7 +129,7 @@ isBlock b p x k = not (isFree k) && (hasNumber b k && (eqb (k .parentslot .0) p 
 unfoldable pub keepsBlock : Ledger → ℕ → ℕ → ℕ → ℕ → Bool
 keepsBlock l s b p x = someBlock (isBlock b p x) (blocksAt l s)
 
--- ---- writing: each touches the one place that it names
+-- ---- writing: each touches what it names
 
 abbrev pub putRow : Ledger → ℕ → Row → Ledger
 putRow l s r =
@@ -130,28 +146,39 @@ putRow l s r =
 abbrev pub putCell : Ledger → ℕ → ℕ → Cell → Ledger
 putCell l s n c =
     let r = rowAt l s in
-    putRow l s (record { blocks = r .blocks; timedOut = r .timedOut; final = r .final; clash = r .clash; cells = set (r .cells) n c })
+    putRow l s (record { blocks = r .blocks; timedOut = r .timedOut; final = r .final; clash = r .clash; card = r .card; cells = set (r .cells) n c })
+
+abbrev pub putCard : Ledger → ℕ → Tally → Ledger
+putCard l s t =
+    let r = rowAt l s in
+    putRow l s (record { blocks = r .blocks; timedOut = r .timedOut; final = r .final; clash = r .clash; card = t; cells = r .cells })
+
+-- A node's cell and the slot's card together.
+abbrev pub putVote : Ledger → ℕ → ℕ → Cell → Tally → Ledger
+putVote l s n c t =
+    let r = rowAt l s in
+    putRow l s (record { blocks = r .blocks; timedOut = r .timedOut; final = r .final; clash = r .clash; card = t; cells = set (r .cells) n c })
 
 abbrev pub putBlocks : Ledger → ℕ → List Block → Ledger
 putBlocks l s bs =
     let r = rowAt l s in
-    putRow l s (record { blocks = bs; timedOut = r .timedOut; final = r .final; clash = r .clash; cells = r .cells })
+    putRow l s (record { blocks = bs; timedOut = r .timedOut; final = r .final; clash = r .clash; card = r .card; cells = r .cells })
 
 abbrev pub putTimedOut : Ledger → ℕ → Ledger
 putTimedOut l s =
     let r = rowAt l s in
-    putRow l s (record { blocks = r .blocks; timedOut = 1; final = r .final; clash = r .clash; cells = r .cells })
+    putRow l s (record { blocks = r .blocks; timedOut = 1; final = r .final; clash = r .clash; card = r .card; cells = r .cells })
 
 abbrev pub putFinal : Ledger → ℕ → ℕ → Ledger
 putFinal l s b =
     let r = rowAt l s in
-    putRow l s (record { blocks = r .blocks; timedOut = r .timedOut; final = b; clash = r .clash; cells = r .cells })
+    putRow l s (record { blocks = r .blocks; timedOut = r .timedOut; final = b; clash = r .clash; card = r .card; cells = r .cells })
 
 -- The mark of a slot: another final block was reported.
 abbrev pub putClash : Ledger → ℕ → Ledger
 putClash l s =
     let r = rowAt l s in
-    putRow l s (record { blocks = r .blocks; timedOut = r .timedOut; final = r .final; clash = 1; cells = r .cells })
+    putRow l s (record { blocks = r .blocks; timedOut = r .timedOut; final = r .final; clash = 1; card = r .card; cells = r .cells })
 
 abbrev pub putArmed : Ledger → ℕ → Ledger
 putArmed l s =

@@ -11,7 +11,8 @@ use Rattle.rulebook.specs.declared.Input.{Input}
 use Rattle.rulebook.specs.declared.Refusal.the-variants as refusal
 use Rattle.rulebook.specs.Tools.{given, allTo}
 use Rattle.rulebook.specs.Weights.{placesFor, lastSlot, windows, stakeIn, stakesFit, totalTo}
-use Rattle.rulebook.specs.Ledger.{Ledger, none, places, rowAt, cellAt, ownCell, mostBlocks, blocksAt, allBlocks, isFree}
+use Rattle.rulebook.specs.Ledger.{Ledger, none, places, rowAt, cellAt, ownCell, mostBlocks, blocksAt, allBlocks, isFree, noCard}
+use Rattle.rulebook.specs.Cards.{sameCard, recount}
 use Rattle.rulebook.specs.Rules.{fallbackWeights}
 use Rattle.rulebook.specs.Inputs.{Fed, refusedWith, feed, badParent}
 
@@ -78,6 +79,10 @@ ownFits l s = let c = ownCell l s in backs l s (c .fallback1) && (backs l s (c .
 unfoldable pub rowFits : Ledger → ℕ → Bool
 rowFits l s = blocksFit l s (blocksAt l s) && ((flag (rowAt l s .timedOut) && flag (rowAt l s .clash)) && (cellsFit l s (l .count) && ownFits l s))
 
+-- "A node record whose card disagrees with the recount is 17."
+unfoldable pub cardFits : Ledger → ℕ → Bool
+cardFits l s = sameCard (rowAt l s .card) (recount l s)
+
 -- A place with nothing in it.
 unfoldable pub blockBlank : Block → Bool
 blockBlank b = isFree b && (none (b .parentslot .0) && none (b .parent))
@@ -87,7 +92,7 @@ unfoldable pub rowBlank : Ledger → Bool
 rowBlank l =
     let r = rowAt l 0 in
     allBlocks blockBlank (r .blocks)
-    && ((none (r .timedOut) && (none (r .final) && none (r .clash))) && cellsFit l 0 0)
+    && ((none (r .timedOut) && (none (r .final) && none (r .clash))) && (sameCard (r .card) noCard && cellsFit l 0 0))
 
 -- "node record of wrong length": as many places as the count asks for. Then count, own number, genesis, stakes and "a total that is not
 -- the sum".
@@ -102,7 +107,8 @@ headFits l =
 -- Not 17.
 unfoldable pub wellFormed : Ledger → Bool
 wellFormed l =
-    given (headFits l) false (λ _. given (rowBlank l) false (λ _. allTo lastSlot (λ i. rowFits l (suc i))))
+    given (headFits l) false (λ _. given (rowBlank l) false (λ _. given (allTo lastSlot (λ i. rowFits l (suc i))) false
+    (λ _. allTo lastSlot (λ i. cardFits l (suc i)))))
 
 -- "The outbox must now hold 160 records", "three a record".
 abbrev pub outboxWords : ℕ

@@ -7,7 +7,7 @@ ghost use Rattle.rulebook.specs.Rules.{ruleA, parentFits, ruleB, ruleC};
 ghost use Rattle.record.specs.Layout.{InWindow, ledgerOf};
 ghost use Rattle.voter.specs.Outbox.{stateIn};
 ghost use Rattle.voter.specs.Voting.{Onward};
-ghost use Rattle.candidates.specs.Judging.{Judging};
+ghost use Rattle.pool.specs.Weighing.{Carded};
 ghost use Rattle.fallbacks.specs.UnderWay.{UnderWayAt};
 use own_votes::may_final;
 use pool::held;
@@ -50,7 +50,7 @@ pub fn rule_a(rec: &mut [u64], outbox: &mut [u64], at: usize, s: Slot) -> usize
 
 // Whether the first block's parent lets rule B cast.
 fn parent_fits(rec: &[u64], s: Slot, b: Block) -> bool
-    requires { ⌜ Judging (now rec) (s .0) ⌝ }
+    requires { ⌜ Carded (now rec) (s .0) ⌝ }
     ensures { λ r. ⌜ r ≡ parentFits (ledgerOf (now (rec .entry))) (s .0) (isFirst (s .0)) b ⌝ }
 {
     let p = b.parentslot;

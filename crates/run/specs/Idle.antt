@@ -1,13 +1,21 @@
 -- Slots in which rules have nothing to do, as far as a look tells that weighs nothing.
 use mathlib.Core.Bool.{Bool, not, _&&_, _||_}
-use Prim.Native.Nat.{ℕ, _-_}
+use mathlib.Core.List.{List}
+use Prim.Native.Nat.{ℕ, _-_, _≤_, _<_}
 use lib.Dec.{eqb}
 use Rattle.rulebook.specs.declared.Cell.{Cell}
 use Rattle.rulebook.specs.declared.Who.the-variants as who
 use Rattle.rulebook.specs.Tools.{someTo}
-use Rattle.rulebook.specs.Weights.{isFirst}
+use Rattle.rulebook.specs.Weights.{isFirst, stakeIn}
 use Rattle.rulebook.specs.Ledger.{Ledger, none, rowAt, firstBlock, cellAt, ownCell, noInitial, isArmed}
 use Rattle.rulebook.specs.Pool.{counts}
+use Rattle.record.specs.Layout.{ledgerOf}
+use Rattle.pool.specs.Weighing.{Carded}
+
+-- What a look at a slot asks: its card can be read, and each node has stake.
+pub record Looking (ws : List ℕ) (s : ℕ) : Type 0 where
+  pub carded : Carded ws s
+  pub staked : (n : ℕ) → n < ledgerOf ws .count → 1 ≤ stakeIn (ledgerOf ws .stakes) n
 
 -- What is kept of some node in slot s passes the test.
 unfoldable pub someNode : Ledger → ℕ → (Cell → Bool) → Bool

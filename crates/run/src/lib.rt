@@ -5,26 +5,24 @@ ghost use Rattle.rulebook.specs.declared.Who.the-variants as who;
 ghost use Rattle.rulebook.specs.Pool.{counts};
 ghost use Rattle.rulebook.specs.Run.{firstRule, scan, run};
 ghost use Rattle.record.specs.Layout.{OwnIn, ledgerOf};
-ghost use Rattle.pool.specs.Weighing.{Weighing};
-ghost use Rattle.candidates.specs.Judging.{Judging};
+ghost use Rattle.pool.specs.Weighing.{Carded};
 ghost use Rattle.voter.specs.Outbox.{stateIn};
 ghost use Rattle.voter.specs.Voting.{Onward};
 ghost use Rattle.fallbacks.specs.UnderWay.{UnderWay, UnderWayAt};
-ghost use Rattle.run.specs.Idle.{someNode, supports, seeksParent, isIdle, isDormant};
+ghost use Rattle.run.specs.Idle.{Looking, someNode, supports, seeksParent, isIdle, isDormant};
 use fallbacks::rule_d;
 use fallbacks::rule_e;
 use finality::rule_f;
 use finality::rule_g;
-use pool::counts;
 use record::count;
 use record::final_block;
 use record::load_block;
+use record::load_card;
 use record::load_cell;
 use record::own_cell;
 use rulebook::Cell;
 use rulebook::Node;
 use rulebook::Slot;
-use rulebook::Who;
 use rules::may_arm;
 use rules::rule_a;
 use rules::rule_b;
@@ -40,19 +38,13 @@ fn is_idle(rec: &[u64], s: Slot) -> bool
     no_initial(own_cell(rec, s)) & (b.number == 0)
 }
 
-// Whether a node has a notar vote in a slot.
+// Whether a node has a notar vote in a slot: then one of the blocks leads.
 fn has_notar(rec: &[u64], s: Slot) -> bool
-    requires { ⌜ Weighing (now rec) (s .0) ⌝ }
+    requires { ⌜ Looking (now rec) (s .0) ⌝ }
     ensures { λ r. ⌜ r ≡ someNode (ledgerOf (now (rec .entry))) (s .0) (counts who.AnyNotar) ⌝ }
 {
-    let nodes = count(rec);
-    for n in 0..nodes {
-        let c = load_cell(rec, s, Node(n));
-        if counts(Who::AnyNotar, c) {
-            return true;
-        }
-    }
-    false
+    let card = load_card(rec, s);
+    card.leader != 0
 }
 
 // Whether a cell has a vote that helps to make a parent ready: every vote but a final.
@@ -64,11 +56,16 @@ fn supports(c: Cell) -> bool
         | (((c.fallback1 != 0) | (c.fallback2 != 0)) | ((c.fallback3 != 0) | (c.skipfallback != 0)))
 }
 
-// Whether a node has such a vote in a slot.
+// Whether a node has such a vote in a slot: the card tells of every one but the notar-fallbacks.
 fn has_support(rec: &[u64], s: Slot) -> bool
-    requires { ⌜ Weighing (now rec) (s .0) ⌝ }
+    requires { ⌜ Carded (now rec) (s .0) ⌝ }
     ensures { λ r. ⌜ r ≡ someNode (ledgerOf (now (rec .entry))) (s .0) supports ⌝ }
 {
+    let card = load_card(rec, s);
+    let skips = card.skipcert;
+    if (card.leader != 0) | (skips.0 != 0) {
+        return true;
+    }
     let nodes = count(rec);
     for n in 0..nodes {
         let c = load_cell(rec, s, Node(n));
@@ -81,7 +78,7 @@ fn has_support(rec: &[u64], s: Slot) -> bool
 
 // Whether rule A has a window to arm and may find a parent: genesis in slot 1, else support in the slot before.
 fn seeks_parent(rec: &[u64], s: Slot) -> bool
-    requires { ⌜ Judging (now rec) (s .0) ⌝ }
+    requires { ⌜ Carded (now rec) (s .0) ⌝ }
     ensures { λ r. ⌜ r ≡ seeksParent (ledgerOf (now (rec .entry))) (s .0) ⌝ }
 {
     if !may_arm(rec, s) {
@@ -95,7 +92,7 @@ fn seeks_parent(rec: &[u64], s: Slot) -> bool
 
 // Whether a look that weighs nothing shows that no rule applies in a slot.
 fn is_dormant(rec: &[u64], s: Slot) -> bool
-    requires { ⌜ Judging (now rec) (s .0) ⌝ }
+    requires { ⌜ Looking (now rec) (s .0) ⌝ }
     ensures { λ r. ⌜ r ≡ isDormant (ledgerOf (now (rec .entry))) (s .0) ⌝ }
 {
     if seeks_parent(rec, s) | !is_idle(rec, s) {

@@ -7,12 +7,15 @@ use lib.ListN.{getD}
 use lib.Dec.{eqb, leb, ltb}
 use borrow.Author.Tests.{not-true, leb-true, le-leb, ltb-true, ltb-false, lt-ltb, le-ltb, eqb-true, eq-eqb}
 use Rattle.rulebook.specs.declared.Cell.{Cell}
+use Rattle.rulebook.specs.declared.Tally.{Tally}
 use Rattle.rulebook.specs.Tools.{given, allTo}
 use Rattle.rulebook.specs.Weights.{mostNodes, placesFor, mostStake, lastSlot, windows, stakeIn, stakesFit, totalTo}
 use Rattle.rulebook.specs.Ledger.{Ledger, Row, none, noCell, places, rowAt, cellAt}
-use Rattle.rulebook.specs.WellFormed.{flag, inOrder, cellFits, cellBlank, cellsFit, blocksFit, ownFits, rowFits, rowBlank, headFits, wellFormed}
+use Rattle.rulebook.specs.Cards.{sameCard, recount}
+use Rattle.rulebook.specs.WellFormed.{flag, inOrder, cellFits, cellBlank, cellsFit, blocksFit, ownFits, rowFits, cardFits, rowBlank, headFits, wellFormed}
 use Rattle.rulebook.proofs.ToolLaws.{given-on, given-off, and-both, both-and, or-left, or-right, or-cases, by-test, true-not-false, all-at, all-each}
 use Rattle.rulebook.proofs.PlaceLaws.{nodes-placed}
+use Rattle.recounting.proofs.Using.{same-card, card-same}
 use Rattle.settling.specs.Facts.{CellFacts, RowFacts, HeadFacts, Formed}
 
 -- ---- two tests, the second only where the first passes
@@ -156,6 +159,16 @@ facts-head l f =
 pub count-placed : (l : Ledger) → HeadFacts l → l .count ≤ places l
 count-placed l f = omega (arith, f .room, nodes-placed (l .count) (f .few))
 
+-- ---- the card
+
+card-fact : (l : Ledger) (s : ℕ) → cardFits l s ≡ true → rowAt l s .card ≡ recount l s
+unfolding cardFits
+card-fact l s e = same-card (rowAt l s .card) (recount l s) e
+
+fact-card : (l : Ledger) (s : ℕ) → rowAt l s .card ≡ recount l s → cardFits l s ≡ true
+unfolding cardFits
+fact-card l s e = ap (λ (t : Tally). sameCard t (recount l s)) e ∙ card-same (recount l s)
+
 -- ---- the whole
 
 pub formed : (l : Ledger) → wellFormed l ≡ true → Formed l
@@ -163,15 +176,19 @@ unfolding wellFormed
 formed l e =
     let p = given-both (headFits l) _ e in
     let q = given-both (rowBlank l) _ (p .1) in
+    let r = given-both (allTo lastSlot (λ i. rowFits l (suc i))) _ (q .1) in
     record {
       head = head-facts l (p .0);
       blank = q .0;
       rows = λ s a b.
           let i : suc (s - 1) ≡ s = omega arith in
-          subst (λ (t : ℕ). RowFacts l t (rowAt l t)) i (row-facts l (suc (s - 1)) (all-at lastSlot (s - 1) (λ i. rowFits l (suc i)) (q .1) (omega arith)));
+          subst (λ (t : ℕ). RowFacts l t (rowAt l t)) i (row-facts l (suc (s - 1)) (all-at lastSlot (s - 1) (λ i. rowFits l (suc i)) (r .0) (omega arith)));
       own = λ s a b.
           let i : suc (s - 1) ≡ s = omega arith in
-          subst (λ (t : ℕ). ownFits l t ≡ true) i (row-own l (suc (s - 1)) (all-at lastSlot (s - 1) (λ i. rowFits l (suc i)) (q .1) (omega arith)));
+          subst (λ (t : ℕ). ownFits l t ≡ true) i (row-own l (suc (s - 1)) (all-at lastSlot (s - 1) (λ i. rowFits l (suc i)) (r .0) (omega arith)));
+      cards = λ s a b.
+          let i : suc (s - 1) ≡ s = omega arith in
+          subst (λ (t : ℕ). rowAt l t .card ≡ recount l t) i (card-fact l (suc (s - 1)) (all-at lastSlot (s - 1) (λ i. cardFits l (suc i)) (r .1) (omega arith)));
     }
 
 pub well-formed : (l : Ledger) → Formed l → wellFormed l ≡ true
@@ -179,4 +196,6 @@ unfolding wellFormed
 well-formed l f =
     both-given (headFits l) _ (facts-head l (f .head))
     (both-given (rowBlank l) _ (f .blank)
-    (all-each lastSlot (λ i. rowFits l (suc i)) (λ i h. facts-row l (suc i) (f .rows (suc i) (omega arith) (omega arith)) (f .own (suc i) (omega arith) (omega arith)))))
+    (both-given (allTo lastSlot (λ i. rowFits l (suc i))) _
+    (all-each lastSlot (λ i. rowFits l (suc i)) (λ i h. facts-row l (suc i) (f .rows (suc i) (omega arith) (omega arith)) (f .own (suc i) (omega arith) (omega arith))))
+    (all-each lastSlot (λ i. cardFits l (suc i)) (λ i h. fact-card l (suc i) (f .cards (suc i) (omega arith) (omega arith))))))

@@ -22,6 +22,7 @@ use Rattle.rulebook.specs.Tools.{part}
 use Rattle.rulebook.specs.Weights.{lastSlot}
 use Rattle.rulebook.specs.PaperNumbers.{voteNumber}
 use Rattle.rulebook.specs.Ledger.{Ledger, Row, none, noCell, noInitial, rowAt, cellAt, ownCell, fillBlock, putRow, putTimedOut, fresh}
+use Rattle.rulebook.specs.Cards.{tallied, changeOf}
 use Rattle.rulebook.specs.Votes.{placeOf, withVote, storeVote}
 use Rattle.rulebook.specs.Rules.{Record, State, stateOf, cast, castSkips}
 use Rattle.rulebook.specs.Run.{run}
@@ -63,7 +64,7 @@ module _ (l : Ledger) (h : Placed l) (t : ℕ) (high : t ≤ lastSlot) (k : Vote
   abbrev voted : Row
   voted =
       let r = rowAt l t in
-      record { blocks = r .blocks; timedOut = r .timedOut; final = r .final; clash = r .clash; cells = set (r .cells) (l .own) (withVote (ownCell l t) k b) }
+      record { blocks = r .blocks; timedOut = r .timedOut; final = r .final; clash = r .clash; card = tallied (r .card) (changeOf l t (l .own) k b); cells = set (r .cells) (l .own) (withVote (ownCell l t) k b) }
 
   -- The own cell of its slot has the vote, those of other slots stay.
   own-here : ownCell (storeVote l t (l .own) k b) t ≡ withVote (ownCell l t) k b
@@ -104,9 +105,9 @@ vote-taken s o h t high k b e m =
 
 -- A row with the same cells leaves what is left.
 left-row : (l : Ledger) (s t : ℕ) (bs : List Block) (x f c : ℕ) → t < length (l .rows)
-    → fallbacksLeft (ownCell (putRow l t (record { blocks = bs; timedOut = x; final = f; clash = c; cells = rowAt l t .cells })) s) ≡ fallbacksLeft (ownCell l s)
+    → fallbacksLeft (ownCell (putRow l t (record { blocks = bs; timedOut = x; final = f; clash = c; card = rowAt l t .card; cells = rowAt l t .cells })) s) ≡ fallbacksLeft (ownCell l s)
 left-row l s t bs x f c h =
-    ap (λ (d : Cell). fallbacksLeft d) (row-cells l t (record { blocks = bs; timedOut = x; final = f; clash = c; cells = rowAt l t .cells }) h refl s (l .own))
+    ap (λ (d : Cell). fallbacksLeft d) (row-cells l t (record { blocks = bs; timedOut = x; final = f; clash = c; card = rowAt l t .card; cells = rowAt l t .cells }) h refl s (l .own))
 
 pub taken-lawful : (s left : ℕ) → Lawful (Taken s left)
 unfolding fallbacksTold part

@@ -15,18 +15,21 @@ use Rattle.rulebook.specs.declared.VoteKind.the-variants as vote
 use Rattle.rulebook.specs.declared.Place.the-variants.{Free}
 use Rattle.rulebook.specs.Tools.{given, allTo}
 use Rattle.rulebook.specs.Weights.{lastSlot, windowOf}
-use Rattle.rulebook.specs.Ledger.{Ledger, Row, none, noCell, noInitial, places, rowAt, cellAt, blocksAt, allBlocks, isFree, fillBlock, putRow, putBlocks, putTimedOut, putFinal, putClash, putArmed}
+use Rattle.rulebook.specs.Ledger.{Ledger, Row, none, noCell, noInitial, places, noCard, rowAt, cellAt, blocksAt, allBlocks, isFree, fillBlock, putRow, putBlocks, putTimedOut, putFinal, putClash, putArmed}
 use Rattle.rulebook.specs.Pool.{hasFallback}
 use Rattle.rulebook.specs.Votes.{placeOf, withVote, fillFallback, storeVote}
-use Rattle.rulebook.specs.Inputs.{badParent}
+use Rattle.rulebook.specs.Cards.{tallied, recount, changeOf, sameCard}
+use Rattle.rulebook.specs.Inputs.{badParent, misfits}
 use Rattle.rulebook.specs.WellFormed.{Shaped, inOrder, cellFits, cellBlank, cellsFit, keptFits, blocksApart, blocksFit, blockBlank, ownFits, rowBlank}
 use Rattle.rulebook.proofs.ToolLaws.{given-on, and-both, both-and, or-left, or-right, or-cases, or-none, by-test, true-not-false}
 use Rattle.rulebook.proofs.BlockLaws.{all-mono, fill-all, fill-apart}
 use Rattle.settling.specs.Facts.{CellFacts, RowFacts, Formed}
 use Rattle.settling.specs.Steps.{weighed, BlockFine}
 use Rattle.settling.proofs.Places.{row-else, row-cases, cell-cases, window-low}
-use Rattle.settling.proofs.VoteLaws.{place-free}
+use Rattle.recounting.proofs.Storing.{place-free}
+use Rattle.recounting.proofs.Using.{recount-same}
 use Rattle.settling.proofs.Weighing.{own-cells, own-row, own-stored}
+use Rattle.settling.proofs.CardLaws.{recount-else, recount-row, card-stored}
 use Rattle.settling.proofs.FactLaws.{count-placed, cell-facts, facts-cell}
 
 -- ---- a cell
@@ -171,16 +174,18 @@ abbrev blankOf : ℕ → Row → Bool
 blankOf p r =
     allBlocks blockBlank (r .blocks)
     && ((none (r .timedOut) && (none (r .final) && none (r .clash)))
-    && allTo p (λ n. given (ltb n 0) (cellBlank (getD (r .cells) n noCell)) (λ _. cellFits (getD (r .cells) n noCell))))
+    && (sameCard (r .card) noCard
+    && allTo p (λ n. given (ltb n 0) (cellBlank (getD (r .cells) n noCell)) (λ _. cellFits (getD (r .cells) n noCell)))))
 
 blank-is : (l : Ledger) → rowBlank l ≡ blankOf (places l) (rowAt l 0)
 unfolding rowBlank cellsFit
 blank-is l = refl
 
 module _ (l : Ledger) (h : Shaped (places l) l) (f : Formed l) where
-  -- A row in range written to a slot.
-  pub formed-row : (s : ℕ) (r : Row) → 1 ≤ s → s ≤ lastSlot → RowFacts l s r → ((t : ℕ) → ownFits l t ≡ true → ownFits (putRow l s r) t ≡ true) → Formed (putRow l s r)
-  formed-row s r a b g own =
+  -- A row in range written to a slot, its card recounted.
+  pub formed-row : (s : ℕ) (r : Row) → 1 ≤ s → s ≤ lastSlot → RowFacts l s r → ((t : ℕ) → ownFits l t ≡ true → ownFits (putRow l s r) t ≡ true)
+      → r .card ≡ recount (putRow l s r) s → Formed (putRow l s r)
+  formed-row s r a b g own card =
       let m : Ledger = putRow l s r in
       let d = f .head in
       record {
@@ -202,19 +207,22 @@ module _ (l : Ledger) (h : Shaped (places l) l) (f : Formed l) where
             row-same l m t (rowAt m t) refl refl refl
             (row-cases l s r (RowFacts l) t (omega (arith, h .rows)) g (λ _. f .rows t p q));
         own = λ t p q. own t (f .own t p q);
+        cards = λ t p q.
+            row-cases l s r (λ i x. x .card ≡ recount m i) t (omega (arith, h .rows)) card (λ ne. f .cards t p q ∙ sym (recount-else l s r t ne));
       }
 
   module _ (s : ℕ) (a : 1 ≤ s) (b : s ≤ lastSlot) where
     -- A vote of a node of the table into a free place.
-    pub formed-vote : (n : ℕ) (k : VoteKind) (x : ℕ) → n < l .count → placeOf (cellAt l s n) k x ≡ Free → (n ≡ l .own → weighed l s k x ≡ true) → Formed (storeVote l s n k x)
+    pub formed-vote : (n : ℕ) (k : VoteKind) (x : ℕ) → n < l .count → placeOf (cellAt l s n) k x ≡ Free → misfits k x ≡ false → (n ≡ l .own → weighed l s k x ≡ true)
+        → Formed (storeVote l s n k x)
     unfolding storeVote
-    formed-vote n k x low e w =
+    formed-vote n k x low e m w =
         let r : Row = rowAt l s in
         let c : Cell = withVote (cellAt l s n) k x in
         let g = f .rows s a b in
         let few = count-placed l (f .head) in
         let long : n < length (r .cells) = omega (arith, h .cells s (omega arith)) in
-        formed-row s (record { blocks = r .blocks; timedOut = r .timedOut; final = r .final; clash = r .clash; cells = set (r .cells) n c }) a b
+        formed-row s (record { blocks = r .blocks; timedOut = r .timedOut; final = r .final; clash = r .clash; card = tallied (r .card) (changeOf l s n k x); cells = set (r .cells) n c }) a b
         (record {
           blocks = g .blocks;
           timedOut = g .timedOut;
@@ -227,35 +235,40 @@ module _ (l : Ledger) (h : Shaped (places l) l) (f : Formed l) where
               (sym (getD-set-other (r .cells) n i c noCell (λ z. omega arith))) (g .beyond i p q);
         })
         (own-stored l h s n k x b (omega arith) e w)
+        (card-stored l h s n k x b (omega arith) low (f .head .staked n low) e m (f .cards s a b))
 
     -- Blocks that may be kept.
     pub formed-blocks : (xs : List Block) → blocksFit l s xs ≡ true → Formed (putBlocks l s xs)
     formed-blocks xs e =
         let r : Row = rowAt l s in
         let g = f .rows s a b in
-        formed-row s (record { blocks = xs; timedOut = r .timedOut; final = r .final; clash = r .clash; cells = r .cells }) a b
+        formed-row s (record { blocks = xs; timedOut = r .timedOut; final = r .final; clash = r .clash; card = r .card; cells = r .cells }) a b
         (record { blocks = e; timedOut = g .timedOut; clash = g .clash; cells = g .cells; beyond = g .beyond }) (own-row l s _ (omega (arith, h .rows)) refl)
+        (f .cards s a b ∙ sym (recount-row l s _ (omega (arith, h .rows)) refl))
 
     pub formed-timedOut : Formed (putTimedOut l s)
     formed-timedOut =
         let r : Row = rowAt l s in
         let g = f .rows s a b in
-        formed-row s (record { blocks = r .blocks; timedOut = 1; final = r .final; clash = r .clash; cells = r .cells }) a b
+        formed-row s (record { blocks = r .blocks; timedOut = 1; final = r .final; clash = r .clash; card = r .card; cells = r .cells }) a b
         (record { blocks = g .blocks; timedOut = omega arith; clash = g .clash; cells = g .cells; beyond = g .beyond }) (own-row l s _ (omega (arith, h .rows)) refl)
+        (f .cards s a b ∙ sym (recount-row l s _ (omega (arith, h .rows)) refl))
 
     pub formed-final : (x : ℕ) → Formed (putFinal l s x)
     formed-final x =
         let r : Row = rowAt l s in
         let g = f .rows s a b in
-        formed-row s (record { blocks = r .blocks; timedOut = r .timedOut; final = x; clash = r .clash; cells = r .cells }) a b
+        formed-row s (record { blocks = r .blocks; timedOut = r .timedOut; final = x; clash = r .clash; card = r .card; cells = r .cells }) a b
         (record { blocks = g .blocks; timedOut = g .timedOut; clash = g .clash; cells = g .cells; beyond = g .beyond }) (own-row l s _ (omega (arith, h .rows)) refl)
+        (f .cards s a b ∙ sym (recount-row l s _ (omega (arith, h .rows)) refl))
 
     pub formed-clash : Formed (putClash l s)
     formed-clash =
         let r : Row = rowAt l s in
         let g = f .rows s a b in
-        formed-row s (record { blocks = r .blocks; timedOut = r .timedOut; final = r .final; clash = 1; cells = r .cells }) a b
+        formed-row s (record { blocks = r .blocks; timedOut = r .timedOut; final = r .final; clash = 1; card = r .card; cells = r .cells }) a b
         (record { blocks = g .blocks; timedOut = g .timedOut; clash = omega arith; cells = g .cells; beyond = g .beyond }) (own-row l s _ (omega (arith, h .rows)) refl)
+        (f .cards s a b ∙ sym (recount-row l s _ (omega (arith, h .rows)) refl))
 
     pub formed-armed : Formed (putArmed l s)
     formed-armed =
@@ -282,6 +295,7 @@ module _ (l : Ledger) (h : Shaped (places l) l) (f : Formed l) where
           blank = blank-is m ∙ sym (blank-is l) ∙ f .blank;
           rows = λ t p q. row-same l m t (rowAt l t) refl refl refl (f .rows t p q);
           own = λ t p q. own-cells l m (record { own = refl; count = refl; total = refl; stakes = refl }) t (λ n. refl) (f .own t p q);
+          cards = λ t p q. f .cards t p q ∙ sym (recount-same l m t refl refl (λ n. refl));
         }
 
 -- An accepted block may be kept.

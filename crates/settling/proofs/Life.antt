@@ -62,7 +62,7 @@ module _ (l : Ledger) (h : Sound l) where
       let same : SameNode l m = stored-same l (v .slot .0) (v .node .0) (v .kind) (v .block) in
       record {
         spent = omega (arith, spare-other l (v .slot .0) (sound-placed l h) (f .low) (f .high) (v .node .0) (v .kind) (v .block) (f .outside));
-        sound = sound-vote l h (v .slot .0) (f .low) (f .high) (v .node .0) (v .kind) (v .block) (f .node) (f .free) (λ q. absurd (f .outside q));
+        sound = sound-vote l h (v .slot .0) (f .low) (f .high) (v .node .0) (v .kind) (v .block) (f .node) (f .free) (f .fits) (λ q. absurd (f .outside q));
         same = same;
       }
 

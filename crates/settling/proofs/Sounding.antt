@@ -16,9 +16,10 @@ use Rattle.rulebook.specs.declared.Place.the-variants.{Free}
 use Rattle.rulebook.specs.Weights.{lastSlot, stakeIn, totalTo}
 use Rattle.rulebook.specs.Ledger.{places, Ledger, Row, none, rowAt, cellAt, ownCell, blocksAt, allBlocks, isFree, fillBlock, putTimedOut, putFinal, putClash, putArmed}
 use Rattle.rulebook.specs.Pool.{hasFallback}
+use Rattle.rulebook.specs.Cards.{tallied, changeOf}
 use Rattle.rulebook.specs.Votes.{placeOf, withVote, storeVote}
 use Rattle.rulebook.specs.Rules.{fallbackWeights, findBlock}
-use Rattle.rulebook.specs.Inputs.{badParent, keepBlock}
+use Rattle.rulebook.specs.Inputs.{misfits, badParent, keepBlock}
 use Rattle.rulebook.specs.WellFormed.{Shaped, keptFits, blocksApart, blocksFit}
 use Rattle.rulebook.proofs.ToolLaws.{given-on, and-both, sum-term}
 use Rattle.rulebook.proofs.BlockLaws.{fill-length, find-all}
@@ -37,7 +38,7 @@ unfolding storeVote
 stored-shaped l s n k b h a =
     let r : Row = rowAt l s in
     let c : Cell = withVote (cellAt l s n) k b in
-    shaped-row l s (record { blocks = r .blocks; timedOut = r .timedOut; final = r .final; clash = r .clash; cells = set (r .cells) n c }) h a (h .blocks s (omega arith))
+    shaped-row l s (record { blocks = r .blocks; timedOut = r .timedOut; final = r .final; clash = r .clash; card = tallied (r .card) (changeOf l s n k b); cells = set (r .cells) n c }) h a (h .blocks s (omega arith))
     (length-set (r .cells) n c ∙ h .cells s (omega arith))
 
 module _ (l : Ledger) (h : Placed l) where
@@ -45,13 +46,13 @@ module _ (l : Ledger) (h : Placed l) where
   unfolding keepBlock
   kept-shaped s b a =
       let r : Row = rowAt l s in
-      shaped-row l s (record { blocks = fillBlock b (r .blocks); timedOut = r .timedOut; final = r .final; clash = r .clash; cells = r .cells }) (h .shaped) a
+      shaped-row l s (record { blocks = fillBlock b (r .blocks); timedOut = r .timedOut; final = r .final; clash = r .clash; card = r .card; cells = r .cells }) (h .shaped) a
       (fill-length b (r .blocks) ∙ h .shaped .blocks s (omega arith)) (h .shaped .cells s (omega arith))
 
   pub timedOut-shaped : (s : ℕ) → s ≤ lastSlot → Shaped (places (putTimedOut l s)) (putTimedOut l s)
   timedOut-shaped s a =
       let r : Row = rowAt l s in
-      shaped-row l s (record { blocks = r .blocks; timedOut = 1; final = r .final; clash = r .clash; cells = r .cells }) (h .shaped) a (h .shaped .blocks s (omega arith)) (h .shaped .cells s (omega arith))
+      shaped-row l s (record { blocks = r .blocks; timedOut = 1; final = r .final; clash = r .clash; card = r .card; cells = r .cells }) (h .shaped) a (h .shaped .blocks s (omega arith)) (h .shaped .cells s (omega arith))
 
 -- A sound ledger has a place for the own cells.
 pub sound-placed : (l : Ledger) → Sound l → Placed l
@@ -60,11 +61,11 @@ sound-placed l h = let d = formed l (h .formed) .head in record { shaped = h .sh
 -- ---- each writing
 
 module _ (l : Ledger) (h : Sound l) (s : ℕ) (a : 1 ≤ s) (b : s ≤ lastSlot) where
-  pub sound-vote : (n : ℕ) (k : VoteKind) (x : ℕ) → n < l .count → placeOf (cellAt l s n) k x ≡ Free → (n ≡ l .own → weighed l s k x ≡ true) → Sound (storeVote l s n k x)
-  sound-vote n k x low e w =
+  pub sound-vote : (n : ℕ) (k : VoteKind) (x : ℕ) → n < l .count → placeOf (cellAt l s n) k x ≡ Free → misfits k x ≡ false → (n ≡ l .own → weighed l s k x ≡ true) → Sound (storeVote l s n k x)
+  sound-vote n k x low e m w =
       record {
         shaped = stored-shaped l s n k x (h .shaped) b;
-        formed = well-formed (storeVote l s n k x) (formed-vote l (h .shaped) (formed l (h .formed)) s a b n k x low e w);
+        formed = well-formed (storeVote l s n k x) (formed-vote l (h .shaped) (formed l (h .formed)) s a b n k x low e m w);
       }
 
   pub sound-kept : (x : Block) → BlockFine l s x → Sound (keepBlock l s x)
@@ -86,7 +87,7 @@ module _ (l : Ledger) (h : Sound l) (s : ℕ) (a : 1 ≤ s) (b : s ≤ lastSlot)
   sound-final x =
       let r : Row = rowAt l s in
       record {
-        shaped = shaped-row l s (record { blocks = r .blocks; timedOut = r .timedOut; final = x; clash = r .clash; cells = r .cells }) (h .shaped) b (h .shaped .blocks s (omega arith)) (h .shaped .cells s (omega arith));
+        shaped = shaped-row l s (record { blocks = r .blocks; timedOut = r .timedOut; final = x; clash = r .clash; card = r .card; cells = r .cells }) (h .shaped) b (h .shaped .blocks s (omega arith)) (h .shaped .cells s (omega arith));
         formed = well-formed (putFinal l s x) (formed-final l (h .shaped) (formed l (h .formed)) s a b x);
       }
 
@@ -94,7 +95,7 @@ module _ (l : Ledger) (h : Sound l) (s : ℕ) (a : 1 ≤ s) (b : s ≤ lastSlot)
   sound-clash =
       let r : Row = rowAt l s in
       record {
-        shaped = shaped-row l s (record { blocks = r .blocks; timedOut = r .timedOut; final = r .final; clash = 1; cells = r .cells }) (h .shaped) b (h .shaped .blocks s (omega arith)) (h .shaped .cells s (omega arith));
+        shaped = shaped-row l s (record { blocks = r .blocks; timedOut = r .timedOut; final = r .final; clash = 1; card = r .card; cells = r .cells }) (h .shaped) b (h .shaped .blocks s (omega arith)) (h .shaped .cells s (omega arith));
         formed = well-formed (putClash l s) (formed-clash l (h .shaped) (formed l (h .formed)) s a b);
       }
 

@@ -65,7 +65,7 @@ came-lawful o =
       sound = λ p c. c .sound;
       vote = λ p s k b low high e m w c.
           came-one o p (storeVote (p .ledger) s (p .ledger .own) k b) (voteNumber k) s b c
-          (sound-vote (p .ledger) (c .sound) s low high (p .ledger .own) k b (formed (p .ledger) (c .sound .formed) .head .mine) e (λ _. w))
+          (sound-vote (p .ledger) (c .sound) s low high (p .ledger .own) k b (formed (p .ledger) (c .sound .formed) .head .mine) e m (λ _. w))
           (stored-same (p .ledger) s (p .ledger .own) k b)
           (spare-own (p .ledger) s (sound-placed (p .ledger) (c .sound)) low high k b e m);
       arm = λ p s low high e c.

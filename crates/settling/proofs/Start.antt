@@ -12,12 +12,14 @@ use Rattle.rulebook.specs.declared.Refusal.the-variants as refusal
 use Rattle.rulebook.specs.declared.Verdict.the-variants.{Fine}
 use Rattle.rulebook.specs.Tools.{given, allTo}
 use Rattle.rulebook.specs.Weights.{mostNodes, placesFor, mostStake, lastSlot, windows, stakeIn, stakesFit, totalTo}
-use Rattle.rulebook.specs.Ledger.{Ledger, Row, none, noCell, mostBlocks, blankRow, noRow, places, rowAt, ownCell, allBlocks, fresh}
+use Rattle.rulebook.specs.Ledger.{Ledger, Row, none, noCell, noCard, mostBlocks, blankRow, noRow, places, rowAt, ownCell, allBlocks, fresh}
 use Rattle.rulebook.specs.Run.{mostRecords}
+use Rattle.rulebook.specs.Cards.{sameCard}
 use Rattle.rulebook.specs.Inputs.{startVerdict}
 use Rattle.rulebook.specs.WellFormed.{Shaped, inOrder, cellFits, cellBlank, cellsFit, keptFits, blocksApart, blocksFit, blockBlank, backs, ownFits, rowBlank}
 use Rattle.rulebook.proofs.PlaceLaws.{nodes-placed}
 use Rattle.rulebook.proofs.ToolLaws.{given-off, and-both, or-none, all-at, all-each, sum-same}
+use Rattle.recounting.proofs.Using.{recount-none}
 use Rattle.settling.specs.Facts.{RowFacts, Formed, Sound}
 use Rattle.settling.specs.Steps.{after, life}
 use Rattle.rulebook.proofs.RuleLaws.{refuse-fine}
@@ -46,6 +48,10 @@ blank-four : (p : ℕ) → length (blankRow p .blocks) ≡ mostBlocks
 unfolding blankRow
 blank-four p = refl
 
+blank-card : (p : ℕ) → blankRow p .card ≡ noCard
+unfolding blankRow
+blank-card p = refl
+
 no-cell-fits : cellFits noCell ≡ true
 unfolding cellFits inOrder
 no-cell-fits = refl
@@ -71,7 +77,7 @@ unfolding ownFits backs
 own-blank l s e = rw e
 
 row-zero : (l : Ledger) (p : ℕ) → rowAt l 0 ≡ blankRow p → rowBlank l ≡ true
-unfolding rowBlank cellsFit blankRow allBlocks blockBlank
+unfolding rowBlank cellsFit blankRow allBlocks blockBlank sameCard
 row-zero l p e =
     rw e
     (all-each (places l) (λ n. given (ltb n 0) (cellBlank (getD (blankRow p .cells) n noCell)) (λ _. cellFits (getD (blankRow p .cells) n noCell)))
@@ -130,6 +136,9 @@ module _ (stakes : List ℕ) (own genesis : ℕ) (e : startVerdict stakes own ge
             };
         blank = row-zero l p (getD-replicate (suc lastSlot) 0 (blankRow p) noRow (omega arith));
         own = λ s a b. own-blank l s (ap (λ (r : Row). getD (r .cells) own noCell) (getD-replicate (suc lastSlot) s (blankRow p) noRow (omega arith)) ∙ blank-cell p own);
+        cards = λ s a b.
+            let r : rowAt l s ≡ blankRow p = getD-replicate (suc lastSlot) s (blankRow p) noRow (omega arith) in
+            ap (λ (x : Row). x .card) r ∙ blank-card p ∙ sym (recount-none l s (λ n. ap (λ (x : Row). getD (x .cells) n noCell) r ∙ blank-cell p n));
         rows = λ s a b. subst (RowFacts l s) (sym (getD-replicate (suc lastSlot) s (blankRow p) noRow (omega arith))) (blank-facts l s p);
       }
 

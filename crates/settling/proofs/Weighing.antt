@@ -14,6 +14,7 @@ use Rattle.rulebook.specs.declared.Place.the-variants.{Free}
 use Rattle.rulebook.specs.Weights.{weight, dWeights, lastSlot}
 use Rattle.rulebook.specs.Ledger.{places, Ledger, Row, none, noCell, noInitial, rowAt, cellAt, ownCell, putRow, putArmed}
 use Rattle.rulebook.specs.Pool.{hasFallback, counts, weigh}
+use Rattle.rulebook.specs.Cards.{tallied, changeOf}
 use Rattle.rulebook.specs.Votes.{placeOf, withVote, fillFallback, storeVote}
 use Rattle.rulebook.specs.Rules.{fallbackWeights}
 use Rattle.rulebook.specs.WellFormed.{Shaped, inOrder, backs, ownFits}
@@ -23,7 +24,7 @@ use Rattle.rulebook.proofs.FourthLaws.{weights-more, Counted, Weighty, no-four-
 use Rattle.settling.specs.Facts.{CellFacts, Grown, SameTable}
 use Rattle.settling.specs.Steps.{weighed}
 use Rattle.settling.proofs.Places.{row-cases, cell-cases}
-use Rattle.settling.proofs.VoteLaws.{place-free}
+use Rattle.recounting.proofs.Storing.{place-free}
 
 -- ---- cells grow
 
@@ -173,7 +174,7 @@ module _ (l : Ledger) (h : Shaped (places l) l) (s n : ℕ) (k : VoteKind) (x : 
   stored-cases P p q t i =
       let r : Row = rowAt l s in
       let c : Cell = withVote (cellAt l s n) k x in
-      row-cases l s (record { blocks = r .blocks; timedOut = r .timedOut; final = r .final; clash = r .clash; cells = set (r .cells) n c }) (λ j y. P j i (getD (y .cells) i noCell)) t
+      row-cases l s (record { blocks = r .blocks; timedOut = r .timedOut; final = r .final; clash = r .clash; card = tallied (r .card) (changeOf l s n k x); cells = set (r .cells) n c }) (λ j y. P j i (getD (y .cells) i noCell)) t
       (omega (arith, h .rows))
       (cell-cases (λ j y. P s j y) r n c i (omega (arith, h .cells s (omega arith))) p (λ _. q s i)) (λ _. q t i)
 

@@ -7,6 +7,7 @@ use lib.Dec.{eqb}
 use Rattle.rulebook.specs.declared.Cell.{Cell}
 use Rattle.rulebook.specs.Weights.{mostNodes, placesFor, mostStake, lastSlot, windows, stakeIn, totalTo}
 use Rattle.rulebook.specs.Ledger.{Ledger, Row, none, noCell, places, rowAt}
+use Rattle.rulebook.specs.Cards.{CardsAgree}
 use Rattle.rulebook.specs.WellFormed.{Shaped, inOrder, cellFits, cellBlank, blocksFit, ownFits, rowBlank, wellFormed}
 
 -- A cell in range.
@@ -58,6 +59,7 @@ pub record Formed (l : Ledger) : Type 0 where
   pub blank : rowBlank l ≡ true
   pub rows : (s : ℕ) → 1 ≤ s → s ≤ lastSlot → RowFacts l s (rowAt l s)
   pub own : (s : ℕ) → 1 ≤ s → s ≤ lastSlot → ownFits l s ≡ true
+  pub cards : CardsAgree l
 
 -- A ledger of the right shape that 17 lets pass: what every call finds and leaves.
 pub record Sound (l : Ledger) : Type 0 where

@@ -3,7 +3,6 @@
 ghost use mathlib.Core.Path.{_≡_};
 ghost use Rattle.shown_weights.specs.Weights.{weightShown, heldShown, missingShown, nextFor, percent};
 use kinds::slot_ok;
-use pool::weigh;
 use rulebook::CertificateKind;
 use rulebook::Slot;
 use rulebook::Weight;
@@ -23,7 +22,7 @@ pub fn weight_of(rec: &[u64], s: Slot, who: Who) -> Weight
     if !sound(rec) {
         return Weight(0);
     }
-    weigh(rec, s, who)
+    pool::weight_of(rec, s, who)
 }
 
 // Whether a slot holds a certificate.

@@ -34,6 +34,9 @@ behind-empty : (y : ℕ) → inOrder 0 y ≡ none y
 unfolding inOrder
 behind-empty y = or-end (none y)
 
+pub behind-none : (x y : ℕ) → x ≡ 0 → inOrder x y ≡ true → y ≡ 0
+behind-none x y e t = eqb-true y 0 (sym (ap (λ (z : ℕ). inOrder z y) e ∙ behind-empty y) ∙ t)
+
 module _ (l : Ledger) (s : ℕ) where
   empty-fits : (k : Block) → isFree k ≡ true → keptFits l s k ≡ blockBlank k
   unfolding keptFits blockBlank

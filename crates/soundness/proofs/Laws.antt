@@ -1,34 +1,39 @@
 -- What the 17 test's loops and the stakes of a record come to. Assumes nothing.
-use mathlib.Core.Path.{_≡_, refl, sym, ap, _∙_}
+use mathlib.Core.Path.{_≡_, refl, sym, ap, _∙_, subst}
 use mathlib.Core.Bool.{Bool, true, false, _&&_}
 use mathlib.Core.List.{List}
-use Prim.Native.Nat.{ℕ, suc, _+_, _<_, _≤_}
+use Prim.Native.Nat.{ℕ, suc, _+_, _-_, _<_, _≤_}
 use native.Mathlib.Omega.{arith}
 use lib.ListN.{length, getD, take, List·getD-eq-default}
 use lib.Seq.{getD-take, length-take-le}
-use lib.Dec.{eqb, leb}
-use borrow.Author.Tests.{leb-true, eq-eqb, ne-eqb}
-use Rattle.rulebook.specs.Tools.{allTo, sumTo}
+use lib.Dec.{eqb, leb, ltb}
+use borrow.Author.Tests.{leb-true, eq-eqb, ne-eqb, lt-ltb}
+use Rattle.rulebook.specs.Tools.{given, allTo, sumTo}
 use Rattle.rulebook.specs.Weights.{mostNodes, mostStake, lastSlot, stakeIn, totalTo, stakesFit}
 use Rattle.rulebook.specs.declared.Block.{Block}
 use Rattle.rulebook.specs.declared.Cell.{Cell}
-use Rattle.rulebook.specs.Ledger.{Ledger, noBlock, mostBlocks, places, ownCell, blocksAt, allBlocks}
+use Rattle.rulebook.specs.Ledger.{Ledger, noBlock, mostBlocks, places, cellAt, ownCell, blocksAt, allBlocks, rowAt}
 use Rattle.rulebook.specs.Rules.{fallbackWeights}
-use Rattle.rulebook.specs.WellFormed.{keptFits, blocksFit, backs, ownFits, rowFits, rowBlank, headFits, wellFormed}
-use Rattle.rulebook.proofs.ToolLaws.{given-on, given-off, and-both, by-test, all-at, all-more, all-same, sum-same, sum-term}
+use Rattle.rulebook.specs.Cards.{CardsAgree, recount}
+use Rattle.rulebook.specs.WellFormed.{flag, cellFits, cellBlank, cellsFit, keptFits, blocksFit, backs, ownFits, rowFits, cardFits, rowBlank, headFits, wellFormed}
+use Rattle.rulebook.proofs.ToolLaws.{given-on, given-off, and-both, both-and, by-test, true-not-false, same-test, all-at, all-each, all-more, all-same, sum-same}
+use Rattle.rulebook.proofs.PlaceLaws.{placed-each}
+use Rattle.recounting.proofs.Using.{same-card}
 use Rattle.stakes.specs.declared.StakeTable.{StakeTable}
 use Rattle.stakes.specs.declared.Made.{Made}
 use Rattle.stakes.specs.Table.{tableOf, madeOf}
 use Rattle.stakes.proofs.Laws.{made-fits, made-table}
 use Rattle.settling.specs.Facts.{HeadFacts, Sound}
-use Rattle.settling.proofs.FactLaws.{head-facts, formed, count-placed}
+use Rattle.settling.proofs.FactLaws.{given-both, both-given, cell-facts, head-facts, formed, count-placed}
 use Rattle.record.specs.Layout.{isLong, Long, ledgerOf, Counted}
 use Rattle.record.specs.Tabled.{Tabled}
 use Rattle.record.specs.BlockPlaces.{behind}
 use Rattle.record.proofs.Places.{long-true}
 use Rattle.record.proofs.Reading.{ledger-shaped}
 use Rattle.record.proofs.BlockPlaces.{all-places, both-places}
-use Rattle.soundness.specs.Sound.{soundWords, Headed}
+use Rattle.storing.proofs.Laws.{head-tabled}
+use Rattle.soundness.specs.Sound.{rowStands, soundWords, Headed, Standing, Backing}
+use Rattle.soundness.proofs.Empty.{behind-none}
 
 -- ---- a loop that joins tests
 
@@ -37,6 +42,10 @@ all-step n f ok here a b = (λ i. a i && b i) ∙ sym (all-more n f)
 
 pub all-done : (n m : ℕ) (f : ℕ → Bool) (ok : Bool) → ok ≡ allTo n f → n ≡ m → ok ≡ allTo m f
 all-done n m f ok a e = a ∙ ap (λ (k : ℕ). allTo k f) e
+
+-- One that fails is enough.
+pub all-off : (n m : ℕ) (f : ℕ → Bool) → n < m → f n ≡ false → false ≡ allTo m f
+all-off n m f h e = by-test (allTo m f) (λ t. true-not-false (f n) (all-at m n f t h) e) (λ t. sym t)
 
 -- Such a loop over all of a slot's places for blocks.
 module _ (ws : List ℕ) (s : ℕ) (h : s < suc lastSlot) (n : ℕ) (ok : Bool) (four : n ≡ mostBlocks) where
@@ -120,25 +129,114 @@ module _ (l : Ledger) (s b : ℕ) where
   unfolding backs
   backs-some e = rw (ne-eqb b 0 e)
 
+-- Where the first place of a cell that fits is empty, so are the others: there is nothing to lean on.
+pub own-none : (l : Ledger) (s : ℕ) (c : Cell) → c ≡ ownCell l s → cellFits (ownCell l s) ≡ true → c .fallback1 ≡ 0 → true ≡ ownFits l s
+unfolding ownFits
+own-none l s c e f z =
+    let g = cell-facts (ownCell l s) f in
+    let o = ownCell l s in
+    let x : o .fallback1 ≡ 0 = ap (λ (d : Cell). d .fallback1) (sym e) ∙ z in
+    let y = behind-none (o .fallback1) (o .fallback2) x (g .second) in
+    λ i. backs-none l s (o .fallback1) x i && (backs-none l s (o .fallback2) y i && backs-none l s (o .fallback3) (behind-none (o .fallback2) (o .fallback3) y (g .third)) i)
+
 pub own-joined : (l : Ledger) (s : ℕ) (c : Cell) (x y z : Bool) → c ≡ ownCell l s → x ≡ backs l s (c .fallback1) → y ≡ backs l s (c .fallback2)
     → z ≡ backs l s (c .fallback3) → (x && (y && z)) ≡ ownFits l s
 unfolding ownFits
 own-joined l s c x y z e f g h =
     (λ i. f i && (g i && h i)) ∙ ap (λ (d : Cell). backs l s (d .fallback1) && (backs l s (d .fallback2) && backs l s (d .fallback3))) e
 
--- ---- the table of stakes
+-- ---- the rows by themselves, then what own fallbacks lean on
 
--- A ledger whose head is in range has one.
-pub head-tabled : (l : Ledger) → HeadFacts l → Tabled l
-unfolding totalTo
-head-tabled l d =
-    record {
-      few = count-placed l d;
-      own = omega (arith, d .mine, count-placed l d);
-      sum = d .sum;
-      some = omega (arith, d .staked 0 (d .some), sum-term (l .count) 0 (stakeIn (l .stakes)) (d .some), d .sum);
-      light = d .small;
-    }
+abbrev pub standing : Ledger → Bool
+standing l = allTo lastSlot (λ i. rowStands l (suc i))
+
+abbrev pub owned : Ledger → Bool
+owned l = allTo lastSlot (λ i. ownFits l (suc i))
+
+-- Cells and card are asked together, the own fallbacks last.
+own-last : (k m c d o : Bool) → ((k && (m && (c && o))) && d) ≡ ((k && (m && (c && d))) && o)
+own-last false m c d o = refl
+own-last true false c d o = refl
+own-last true true false d o = refl
+own-last true true true true true = refl
+own-last true true true true false = refl
+own-last true true true false true = refl
+own-last true true true false false = refl
+
+and-more : (a b c : Bool) → (a && (b && c)) ≡ ((a && b) && c)
+and-more true b c = refl
+and-more false b c = refl
+
+-- A row by its blocks and marks, then its votes.
+module _ (l : Ledger) (s : ℕ) (kept : Bool) (x y : ℕ) (ek : kept ≡ blocksFit l s (blocksAt l s)) (ex : x ≡ rowAt l s .timedOut) (ey : y ≡ rowAt l s .clash) where
+  abbrev voted : Bool
+  voted = cellsFit l s (l .count) && cardFits l s
+
+  row-is : rowStands l s ≡ ((kept && (flag x && flag y)) && voted)
+  unfolding rowStands
+  row-is = (λ i. sym ek i && ((flag (sym ex i) && flag (sym ey i)) && voted)) ∙ and-more kept (flag x && flag y) voted
+
+  pub row-off : (kept && (flag x && flag y)) ≡ false → false ≡ rowStands l s
+  row-off e = sym (row-is ∙ ap (λ (t : Bool). t && voted) e)
+
+  pub row-on : (kept && (flag x && flag y)) ≡ true → voted ≡ rowStands l s
+  row-on e = sym (row-is ∙ ap (λ (t : Bool). t && voted) e)
+
+row-split : (l : Ledger) (s : ℕ) → (rowFits l s && cardFits l s) ≡ (rowStands l s && ownFits l s)
+unfolding rowFits rowStands
+row-split l s =
+    own-last (blocksFit l s (blocksAt l s)) (flag (rowAt l s .timedOut) && flag (rowAt l s .clash)) (cellsFit l s (l .count)) (cardFits l s) (ownFits l s)
+
+rows-split : (l : Ledger) → given (allTo lastSlot (λ i. rowFits l (suc i))) false (λ _. allTo lastSlot (λ i. cardFits l (suc i))) ≡ (standing l && owned l)
+rows-split l =
+    same-test (given (allTo lastSlot (λ i. rowFits l (suc i))) false (λ _. allTo lastSlot (λ i. cardFits l (suc i)))) (standing l && owned l)
+    (λ e.
+    let p = given-both (allTo lastSlot (λ i. rowFits l (suc i))) _ e in
+    let each : (i : ℕ) → i < lastSlot → (rowStands l (suc i) ≡ true) × (ownFits l (suc i) ≡ true) =
+    (λ i h. and-both (rowStands l (suc i)) (ownFits l (suc i)) (sym (row-split l (suc i)) ∙ both-and (rowFits l (suc i)) (cardFits l (suc i)) (all-at lastSlot i (λ i. rowFits l (suc i)) (p .0) h) (all-at lastSlot i (λ i. cardFits l (suc i)) (p .1) h))) in
+    both-and (standing l) (owned l) (all-each lastSlot (λ i. rowStands l (suc i)) (λ i h. each i h .0)) (all-each lastSlot (λ i. ownFits l (suc i)) (λ i h. each i h .1)))
+    (λ e.
+    let p = and-both (standing l) (owned l) e in
+    let each : (i : ℕ) → i < lastSlot → (rowFits l (suc i) ≡ true) × (cardFits l (suc i) ≡ true) =
+    (λ i h. and-both (rowFits l (suc i)) (cardFits l (suc i)) (row-split l (suc i) ∙ both-and (rowStands l (suc i)) (ownFits l (suc i)) (all-at lastSlot i (λ i. rowStands l (suc i)) (p .0) h) (all-at lastSlot i (λ i. ownFits l (suc i)) (p .1) h))) in
+    both-given (allTo lastSlot (λ i. rowFits l (suc i))) _ (all-each lastSlot (λ i. rowFits l (suc i)) (λ i h. each i h .0)) (all-each lastSlot (λ i. cardFits l (suc i)) (λ i h. each i h .1)))
+
+-- What a row that stands says of its cells and card.
+row-votes : (l : Ledger) (s : ℕ) → rowStands l s ≡ true → (cellsFit l s (l .count) ≡ true) × (cardFits l s ≡ true)
+unfolding rowStands
+row-votes l s e =
+    let p = and-both (blocksFit l s (blocksAt l s)) _ e in
+    let q = and-both (flag (rowAt l s .timedOut) && flag (rowAt l s .clash)) _ (p .1) in
+    and-both (cellsFit l s (l .count)) (cardFits l s) (q .1)
+
+module _ (ws : List ℕ) (h : Standing ws) where
+  abbrev ledger : Ledger
+  ledger = ledgerOf ws
+
+  stands : (s : ℕ) → 1 ≤ s → s ≤ lastSlot → (cellsFit ledger s (ledger .count) ≡ true) × (cardFits ledger s ≡ true)
+  stands s a b =
+      let i : suc (s - 1) ≡ s = omega arith in
+      row-votes ledger s (subst (λ (t : ℕ). rowStands ledger t ≡ true) i (all-at lastSlot (s - 1) (λ i. rowStands ledger (suc i)) (h .rows) (omega arith)))
+
+  agree : CardsAgree ledger
+  unfolding cardFits
+  agree s a b = same-card (rowAt ledger s .card) (recount ledger s) (stands s a b .1)
+
+  own-cell-fits : (s : ℕ) → 1 ≤ s → s ≤ lastSlot → cellFits (ownCell ledger s) ≡ true
+  unfolding cellsFit
+  own-cell-fits s a b =
+      let n = ledger .own in
+      let t = h .headed .table in
+      sym (given-on (ltb n (ledger .count)) (cellBlank (cellAt ledger s n)) (λ _. cellFits (cellAt ledger s n)) (lt-ltb n (ledger .count) (omega (arith, t .own, h .headed .full))))
+      ∙ all-at (places ledger) n (λ i. given (ltb i (ledger .count)) (cellBlank (cellAt ledger s i)) (λ _. cellFits (cellAt ledger s i))) (stands s a b .0) (t .own)
+
+  -- So the own fallbacks can be asked of the cards.
+  pub standing-backs : (s : ℕ) → 1 ≤ s → s ≤ lastSlot → Backing ws s
+  standing-backs s a b =
+      record {
+        carded = record { weighing = record { long = h .headed .long; slot = omega arith; table = h .headed .table }; later = a; cards = agree };
+        cell = own-cell-fits s a b;
+      }
 
 -- ---- the ways through the test
 
@@ -161,11 +259,22 @@ module _ (ws : List ℕ) (long : isLong ws ≡ true) where
 
   -- The rows are looked at only where the head is in range.
   pub rows-headed : headFits (ledgerOf ws) ≡ true → Headed ws
-  rows-headed h = record { long = long-true ws long; table = head-tabled (ledgerOf ws) (head-facts (ledgerOf ws) h) }
+  rows-headed h =
+      let f = head-facts (ledgerOf ws) h in
+      record { long = long-true ws long; table = head-tabled (ledgerOf ws) f; full = f .room ∙ placed-each (ledgerOf ws .count) (f .few) }
 
-  pub rows-decide : (r : Bool) → headFits (ledgerOf ws) ≡ true → rowBlank (ledgerOf ws) ≡ true → r ≡ allTo lastSlot (λ i. rowFits (ledgerOf ws) (suc i)) → r ≡ soundWords ws
+  pub rows-unsound : headFits (ledgerOf ws) ≡ true → rowBlank (ledgerOf ws) ≡ true → standing (ledgerOf ws) ≡ false → false ≡ soundWords ws
   unfolding wellFormed
-  rows-decide r h b d = d ∙ sym (test-whole ∙ given-on (headFits (ledgerOf ws)) false _ h ∙ given-on (rowBlank (ledgerOf ws)) false _ b)
+  rows-unsound h b r =
+      sym (test-whole ∙ given-on (headFits (ledgerOf ws)) false _ h ∙ given-on (rowBlank (ledgerOf ws)) false _ b
+      ∙ rows-split (ledgerOf ws) ∙ ap (λ (t : Bool). t && owned (ledgerOf ws)) r)
+
+  pub owns-decide : (r : Bool) → headFits (ledgerOf ws) ≡ true → rowBlank (ledgerOf ws) ≡ true → standing (ledgerOf ws) ≡ true
+      → r ≡ owned (ledgerOf ws) → r ≡ soundWords ws
+  unfolding wellFormed
+  owns-decide r h b f d =
+      d ∙ sym (test-whole ∙ given-on (headFits (ledgerOf ws)) false _ h ∙ given-on (rowBlank (ledgerOf ws)) false _ b
+      ∙ rows-split (ledgerOf ws) ∙ ap (λ (t : Bool). t && owned (ledgerOf ws)) f)
 
 -- ---- sound words
 
@@ -184,6 +293,14 @@ sound-ledger ws e = record { shaped = ledger-shaped ws; formed = sound-formed ws
 -- Count, own number, stakes, total and genesis of sound words.
 pub sound-head : (ws : List ℕ) → soundWords ws ≡ true → HeadFacts (ledgerOf ws)
 sound-head ws e = formed (ledgerOf ws) (sound-formed ws e) .head
+
+-- "At every moment it equals what a recount of the stored votes gives": in sound words, as start, step and tray leave them.
+pub sound-cards : (ws : List ℕ) → soundWords ws ≡ true → CardsAgree (ledgerOf ws)
+sound-cards ws e = formed (ledgerOf ws) (sound-formed ws e) .cards
+
+-- "A node record whose card disagrees with the recount is 17."
+pub disagreeing-unsound : (ws : List ℕ) (s : ℕ) → 1 ≤ s → s ≤ lastSlot → (rowAt (ledgerOf ws) s .card ≡ recount (ledgerOf ws) s → ⊥) → soundWords ws ≡ false
+disagreeing-unsound ws s a b ne = by-test (soundWords ws) (λ t. absurd (ne (sound-cards ws t s a b))) (λ t. t)
 
 -- Every node of a sound record has a place.
 pub sound-placed : (ws : List ℕ) → soundWords ws ≡ true → ledgerOf ws .count ≤ places (ledgerOf ws)

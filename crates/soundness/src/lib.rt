@@ -4,16 +4,21 @@ ghost use mathlib.Core.Bool.{_&&_, _||_};
 ghost use Prim.Native.Nat.{suc};
 ghost use lib.ListN.{length, getD};
 ghost use lib.Dec.{eqb, ltb};
-ghost use Rattle.rulebook.specs.Tools.{given, allTo};
+ghost use Rattle.rulebook.specs.Tools.{allTo};
 ghost use Rattle.rulebook.specs.Weights.{lastSlot, windows, stakeIn, stakesFit, totalTo};
 ghost use Rattle.rulebook.specs.Ledger.{none, places, blocksAt, allBlocks, fresh};
 ghost use Rattle.rulebook.specs.Inputs.{badParent};
-ghost use Rattle.rulebook.specs.WellFormed.{flag, inOrder, cellFits, cellBlank, cellsFit, keptFits, blocksFit, backs, ownFits, rowFits, blockBlank, rowBlank, headFits};
+ghost use Rattle.rulebook.specs.WellFormed.{flag, keptFits, blocksFit, backs, ownFits, blockBlank, rowBlank, headFits};
 ghost use Rattle.record.specs.Layout.{Long, InSlot, InBlocks, ledgerOf};
 ghost use Rattle.record.specs.BlockPlaces.{behind};
-ghost use Rattle.pool.specs.Weighing.{Weighing};
-ghost use Rattle.soundness.specs.Sound.{Headed, soundWords};
+ghost use Rattle.audit.specs.Summing.{Auditing};
+ghost use Rattle.pool.specs.Weighing.{Carded};
+ghost use Rattle.soundness.specs.Sound.{rowStands, soundWords, Headed, Standing, Backing};
 ghost use Rattle.soundness.specs.Starting.{SetUp, StartOf};
+use audit::card_blank;
+use audit::cells_blank;
+use audit::in_order;
+use audit::votes_fit;
 use candidates::fallback_weights;
 use record::LAST_SLOT;
 use record::MOST_BLOCKS;
@@ -26,7 +31,7 @@ use record::final_block;
 use record::genesis;
 use record::is_long;
 use record::load_block;
-use record::load_cell;
+use record::load_card;
 use record::own;
 use record::own_cell;
 use record::places_for;
@@ -39,63 +44,12 @@ use record::stakes_of;
 use record::timeout_word;
 use record::total;
 use rulebook::Block;
-use rulebook::Cell;
 use rulebook::Node;
 use rulebook::Refusal;
 use rulebook::Slot;
 use rulebook::StartAnswer;
 use rulebook::Weight;
 use stakes::make_table;
-
-// Two places for blocks: the later is filled only after the earlier, and not with the same number.
-fn in_order(x: u64, y: u64) -> bool
-    ensures { λ r. ⌜ r ≡ inOrder x y ⌝ }
-{
-    (y == 0) | ((x != 0) & (x != y))
-}
-
-// Flags, one initial vote, fallback blocks from the front and none twice.
-fn cell_fits(c: Cell) -> bool
-    ensures { λ r. ⌜ r ≡ cellFits c ⌝ }
-{
-    let flags = (c.skip <= 1) & ((c.skipfallback <= 1) & (c.finalvote <= 1));
-    let one = (c.notar == 0) | (c.skip == 0);
-    let second = in_order(c.fallback1, c.fallback2);
-    let third = in_order(c.fallback2, c.fallback3);
-    let apart = (c.fallback3 == 0) | (c.fallback1 != c.fallback3);
-    flags & (one & (second & (third & apart)))
-}
-
-// Nothing in it.
-fn cell_blank(c: Cell) -> bool
-    ensures { λ r. ⌜ r ≡ cellBlank c ⌝ }
-{
-    let initial = (c.notar == 0) & (c.skip == 0);
-    let fallbacks = (c.fallback1 == 0) & ((c.fallback2 == 0) & (c.fallback3 == 0));
-    initial & (fallbacks & ((c.skipfallback == 0) & (c.finalvote == 0)))
-}
-
-// A used cell in range, an unused one blank.
-fn place_fits(c: Cell, used: bool) -> bool
-    ensures { λ r. ⌜ r ≡ given used (cellBlank c) (λ _. cellFits c) ⌝ }
-{
-    if used { cell_fits(c) } else { cell_blank(c) }
-}
-
-// The cells of a row, of which so many are used.
-fn cells_fit(rec: &[u64], s: Slot, used: usize) -> bool
-    requires { ⌜ InSlot (now rec) (s .0) ⌝ }
-    ensures { λ r. ⌜ r ≡ cellsFit (ledgerOf (now (rec .entry))) (s .0) used ⌝ }
-{
-    let places = places_in(rec);
-    let mut ok = true;
-    for n in 0..places {
-        let c = load_cell(rec, s, Node(n));
-        let here = place_fits(c, n < used);
-        ok = ok & here;
-    }
-    ok
-}
 
 // 11: the parent's slot is not below the slot, or it is slot 0 and the parent is not genesis.
 pub fn bad_parent(rec: &[u64], s: Slot, b: Block) -> bool
@@ -155,39 +109,17 @@ fn blocks_fit(rec: &[u64], s: Slot) -> bool
     ok
 }
 
-// No block, or one that reaches rule D's weights.
-fn backs(rec: &[u64], s: Slot, b: u64) -> bool
-    requires { ⌜ Weighing (now rec) (s .0) ⌝ }
-    ensures { λ r. ⌜ r ≡ backs (ledgerOf (now (rec .entry))) (s .0) b ⌝ }
-{
-    if b == 0 {
-        return true;
-    }
-    fallback_weights(rec, s, b)
-}
-
-// The own fallbacks of a slot, each by the votes stored there. Nothing is weighed where there is none.
-fn own_fits(rec: &[u64], s: Slot) -> bool
-    requires { ⌜ Weighing (now rec) (s .0) ⌝ }
-    ensures { λ r. ⌜ r ≡ ownFits (ledgerOf (now (rec .entry))) (s .0) ⌝ }
-{
-    let c = own_cell(rec, s);
-    let first = backs(rec, s, c.fallback1);
-    let second = backs(rec, s, c.fallback2);
-    let third = backs(rec, s, c.fallback3);
-    first & (second & third)
-}
-
-// The row of one of the slots 1 to 16.
+// The row of one of the slots 1 to 16, but for what its own fallbacks lean on.
 fn row_fits(rec: &[u64], s: Slot) -> bool
-    requires { ⌜ Weighing (now rec) (s .0) ⌝ }
-    ensures { λ r. ⌜ r ≡ rowFits (ledgerOf (now (rec .entry))) (s .0) ⌝ }
+    requires { ⌜ Auditing (now rec) (s .0) ⌝ }
+    ensures { λ r. ⌜ r ≡ rowStands (ledgerOf (now (rec .entry))) (s .0) ⌝ }
 {
     let kept = blocks_fit(rec, s);
     let marked = (timeout_word(rec, s) <= 1) & (clash_word(rec, s) <= 1);
-    let cells = cells_fit(rec, s, count(rec));
-    let own = own_fits(rec, s);
-    kept & (marked & (cells & own))
+    if !(kept & marked) {
+        return false;
+    }
+    votes_fit(rec, s)
 }
 
 // A place with nothing in it.
@@ -219,21 +151,61 @@ fn row_blank(rec: &[u64]) -> bool
     let kept = blocks_blank(rec, Slot(0));
     let told = (final_block(rec, Slot(0)) == 0) & (clash_word(rec, Slot(0)) == 0);
     let marks = (timeout_word(rec, Slot(0)) == 0) & told;
-    let cells = cells_fit(rec, Slot(0), 0);
-    kept & (marks & cells)
+    let card = card_blank(load_card(rec, Slot(0)));
+    let cells = cells_blank(rec, Slot(0));
+    kept & (marks & (card & cells))
 }
 
-// The rows of slots 1 to 16.
+// The rows of slots 1 to 16, each by itself.
 fn rows_fit(rec: &[u64]) -> bool
     requires { ⌜ Headed (now rec) ⌝ }
-    ensures { λ r. ⌜ r ≡ allTo lastSlot (λ i. rowFits (ledgerOf (now (rec .entry))) (suc i)) ⌝ }
+    ensures { λ r. ⌜ r ≡ allTo lastSlot (λ i. rowStands (ledgerOf (now (rec .entry))) (suc i)) ⌝ }
 {
-    let mut ok = true;
     for i in 0..LAST_SLOT {
-        let here = row_fits(rec, Slot(i + 1));
-        ok = ok & here;
+        if !row_fits(rec, Slot(i + 1)) {
+            return false;
+        }
     }
-    ok
+    true
+}
+
+// No block, or one that reaches rule D's weights.
+fn backs(rec: &[u64], s: Slot, b: u64) -> bool
+    requires { ⌜ Carded (now rec) (s .0) ⌝ }
+    ensures { λ r. ⌜ r ≡ backs (ledgerOf (now (rec .entry))) (s .0) b ⌝ }
+{
+    if b == 0 {
+        return true;
+    }
+    fallback_weights(rec, s, b)
+}
+
+// The own fallbacks of a slot, each by the votes stored there. Where the first place is empty there is none.
+fn own_fits(rec: &[u64], s: Slot) -> bool
+    requires { ⌜ Backing (now rec) (s .0) ⌝ }
+    ensures { λ r. ⌜ r ≡ ownFits (ledgerOf (now (rec .entry))) (s .0) ⌝ }
+{
+    let c = own_cell(rec, s);
+    if c.fallback1 == 0 {
+        return true;
+    }
+    let first = backs(rec, s, c.fallback1);
+    let second = backs(rec, s, c.fallback2);
+    let third = backs(rec, s, c.fallback3);
+    first & (second & third)
+}
+
+// What the own fallbacks of slots 1 to 16 lean on, asked of rows whose cards are known to be right.
+fn owns_fit(rec: &[u64]) -> bool
+    requires { ⌜ Standing (now rec) ⌝ }
+    ensures { λ r. ⌜ r ≡ allTo lastSlot (λ i. ownFits (ledgerOf (now (rec .entry))) (suc i)) ⌝ }
+{
+    for i in 0..LAST_SLOT {
+        if !own_fits(rec, Slot(i + 1)) {
+            return false;
+        }
+    }
+    true
 }
 
 // The stakes fit, and their sum is the total.
@@ -305,7 +277,10 @@ pub fn sound(rec: &[u64]) -> bool
     if !row_blank(rec) {
         return false;
     }
-    rows_fit(rec)
+    if !rows_fit(rec) {
+        return false;
+    }
+    owns_fit(rec)
 }
 
 // A fresh node's words, whatever stood there.

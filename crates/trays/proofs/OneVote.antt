@@ -14,15 +14,16 @@ use Rattle.rulebook.specs.Votes.{storeVote}
 use Rattle.rulebook.specs.Rules.{Record, State, stateOf}
 use Rattle.rulebook.specs.Run.{run}
 use Rattle.rulebook.specs.Inputs.{Fed, voteVerdict, verdict, intake, fedWith, refusedWith}
-use Rattle.record.specs.Layout.{Counted, Placed, ledgerOf}
+use Rattle.record.specs.Layout.{Counted, ledgerOf}
 use Rattle.record.proofs.Places.{long-same}
-use Rattle.soundness.proofs.Laws.{sound-placed, sound-counted, sound-tabled}
+use Rattle.soundness.proofs.Laws.{sound-counted, sound-tabled}
 use Rattle.settling.specs.Facts.{Sound}
 use Rattle.settling.specs.Spare.{spare}
 use Rattle.settling.specs.Steps.{SameNode, Paid, VoteFine}
 use Rattle.settling.proofs.Verdicts.{vote-fine}
 use Rattle.settling.proofs.Life.{vote-paid}
 use Rattle.settling.proofs.FeedLaws.{feed-fine, feed-refused}
+use Rattle.storing.specs.Storing.{Storing}
 use Rattle.voter.specs.Outbox.{recordsIn, stateIn}
 use Rattle.voter.specs.Voting.{Onward}
 use Rattle.voter.proofs.LiveLaws.{onward-none, onward-is, onward-then}
@@ -39,13 +40,9 @@ module _ {ws out : List ℕ} {made : ℕ} {v : Vote} (k : Taking ws out made v) 
   fits : VoteFine (ledgerOf ws) v
   fits = vote-fine (ledgerOf ws) v (k .fine)
 
-  pub vote-place : Placed ws (v .slot .0) (v .node .0)
-  vote-place =
-      record {
-        long = k .serving .live .long;
-        slot = omega (arith, fits .high);
-        node = omega (arith, fits .node, sound-placed ws (k .serving .sound));
-      }
+  pub vote-storing : Storing ws (v .slot .0) (v .node .0)
+  vote-storing =
+      record { long = k .serving .live .long; sound = k .serving .live .sound; low = fits .low; high = fits .high; node = fits .node }
 
   module _ (ws' : List ℕ) (long : length ws' ≡ length ws) (is : ledgerOf ws' ≡ withVote (ledgerOf ws) v) where
     paid : Paid (ledgerOf ws) (withVote (ledgerOf ws) v) 0

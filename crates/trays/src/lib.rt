@@ -12,13 +12,13 @@ ghost use Rattle.voter.specs.Voting.{Onward};
 ghost use Rattle.trays.specs.Lent.{TrayOf, Serving, Taking, VoteServed, Ready, AllServed};
 use inputs::vote_of;
 use kinds::refusal_number;
-use record::store_vote;
 use rulebook::Refusal;
 use rulebook::StepAnswer;
 use rulebook::Verdict;
 use rulebook::Vote;
 use run::settle;
 use soundness::sound;
+use storing::store_vote;
 use verdicts::vote_verdict;
 
 // The least number of words of an outbox: 160 records of three words.

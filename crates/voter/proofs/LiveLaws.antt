@@ -11,8 +11,10 @@ use Rattle.record.proofs.Places.{long-same}
 use Rattle.settling.specs.Facts.{Sound}
 use Rattle.settling.specs.Spare.{spare}
 use Rattle.settling.specs.Steps.{SameNode, Came}
+use Rattle.settling.proofs.FactLaws.{formed}
 use Rattle.settling.proofs.Sounding.{sound-placed}
 use Rattle.settling.proofs.Spending.{same-node}
+use Rattle.storing.specs.Storing.{Storing}
 use Rattle.voter.specs.Outbox.{stateIn, Moved}
 use Rattle.voter.specs.Voting.{Castable, Live, LiveAt, Onward}
 use Rattle.voter.proofs.OutboxLaws.{made-in, moved-none, moved-is, moved-then}
@@ -35,12 +37,14 @@ live-own {ws = ws} v = sound-placed (ledgerOf ws) (v .sound) .mine
 pub live-owned : {ws out : List ℕ} {at s : ℕ} → LiveAt ws out at s → OwnIn ws s
 live-owned v = record { long = v .live .long; slot = omega (arith, v .high); own = live-own (v .live) }
 
+-- A vote of any node of the table can be stored.
+pub live-storing : {ws out : List ℕ} {at s n : ℕ} → LiveAt ws out at s → n < ledgerOf ws .count → Storing ws s n
+live-storing v h = record { long = v .live .long; sound = v .live .sound; low = v .low; high = v .high; node = h }
+
 pub live-castable : {ws out : List ℕ} {at s : ℕ} → LiveAt ws out at s → Castable ws out at s
 live-castable v =
     record {
-      long = v .live .long;
-      slot = omega (arith, v .high);
-      own = live-own (v .live);
+      storing = live-storing v (formed _ (v .live .sound .formed) .head .mine);
       room = omega (arith, v .live .budget, v .live .room);
     }
 

@@ -1,10 +1,8 @@
 -- What casting asks of the lent memory, and what it leaves.
-use mathlib.Core.Path.{_≡_}
 use mathlib.Core.List.{List}
-use Prim.Native.Nat.{ℕ, suc, _+_, _*_, _≤_, _<_}
+use Prim.Native.Nat.{ℕ, _+_, _*_, _≤_, _<_}
 use lib.ListN.{length}
 use Rattle.rulebook.specs.Weights.{lastSlot}
-use Rattle.rulebook.specs.Ledger.{places}
 use Rattle.rulebook.specs.Rules.{State}
 use Rattle.rulebook.specs.Run.{mostRecords}
 use Rattle.rulebook.specs.WellFormed.{outboxWords}
@@ -12,13 +10,12 @@ use Rattle.record.specs.Layout.{Long, ledgerOf}
 use Rattle.settling.specs.Facts.{Sound}
 use Rattle.settling.specs.Spare.{spare}
 use Rattle.settling.specs.Steps.{SameNode}
+use Rattle.storing.specs.Storing.{Storing}
 use Rattle.voter.specs.Outbox.{Moved}
 
--- An own vote can be cast in slot s: it has a cell, and its record has room.
+-- An own vote can be cast in slot s: it can be stored, and its record has room.
 pub record Castable (ws out : List ℕ) (at s : ℕ) : Type 0 where
-  pub long : Long ws
-  pub slot : s < suc lastSlot
-  pub own : ledgerOf ws .own < places (ledgerOf ws)
+  pub storing : Storing ws s (ledgerOf ws .own)
   pub room : 3 * at + 2 < length out
 
 -- A call is under way: the words hold a sound ledger, and the outbox has room for all that can still be told.

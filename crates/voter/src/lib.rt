@@ -9,10 +9,10 @@ ghost use Rattle.voter.specs.Voting.{Castable, LiveAt, Onward};
 use kinds::vote_number;
 use record::own;
 use record::own_cell;
-use record::store_vote;
 use rulebook::Cell;
 use rulebook::Slot;
 use rulebook::VoteKind;
+use storing::store_vote;
 
 // Writes one record behind the first `at`; answers how many there are then.
 pub fn tell(outbox: &mut [u64], at: usize, kind: u64, s: Slot, block: u64) -> usize

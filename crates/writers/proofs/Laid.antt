@@ -14,7 +14,7 @@ use Rattle.rulebook.specs.declared.Refusal.the-variants as refusal
 use Rattle.rulebook.specs.declared.Verdict.{Verdict}
 use Rattle.rulebook.specs.declared.Verdict.the-variants.{Refused}
 use Rattle.rulebook.specs.declared.WriteAnswer.the-variants as write
-use Rattle.rulebook.specs.Weights.{lastSlot}
+use Rattle.rulebook.specs.Weights.{lastSlot, slotOk}
 use Rattle.rulebook.specs.Ledger.{Ledger}
 use Rattle.rulebook.specs.Pool.{held}
 use Rattle.rulebook.specs.PaperNumbers.{kindIn, numberIn}
@@ -30,9 +30,11 @@ use Rattle.numbers.specs.Written.{Room, Written}
 use Rattle.numbers.proofs.Stores.{after}
 use Rattle.record.specs.Layout.{ledgerOf}
 use Rattle.soundness.specs.Sound.{soundWords}
-use Rattle.soundness.proofs.Laws.{sound-long, sound-head, sound-placed, sound-tabled}
-use Rattle.pool.specs.Weighing.{Weighing}
+use Rattle.settling.proofs.Verdicts.{slot-range}
+use Rattle.soundness.proofs.Laws.{sound-long, sound-head, sound-placed, sound-tabled, sound-cards}
+use Rattle.pool.specs.Weighing.{Weighing, Carded}
 use Rattle.signers.specs.Masks.{Naming}
+use Rattle.writers.proofs.Verdicts.{slot-row}
 use Rattle.writers.specs.Writing.{unsound, kindOn, certificateOn, proofOn}
 
 -- ---- what the inner functions ask
@@ -63,6 +65,15 @@ naming ws s a b k w e h o n p q =
 
 pub weighing : (ws : List ℕ) (s : ℕ) → soundWords ws ≡ true → s < suc lastSlot → Weighing ws s
 weighing ws s e h = record { long = sound-long ws e; slot = h; table = sound-tabled ws e }
+
+-- Every card of sound words is the recount, so that what is held is read off it.
+pub carded : (ws : List ℕ) (s : ℕ) → soundWords ws ≡ true → slotOk s ≡ true → Carded ws s
+carded ws s e h =
+    record {
+      weighing = weighing ws s e (slot-row s h);
+      later = slot-range s h .0;
+      cards = sound-cards ws e;
+    }
 
 -- ---- lengths
 

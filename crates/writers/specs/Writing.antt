@@ -8,7 +8,7 @@ use Rattle.rulebook.specs.declared.CertificateKind.{CertificateKind}
 use Rattle.rulebook.specs.declared.Refusal.the-variants as refusal
 use Rattle.rulebook.specs.declared.WriteAnswer.the-variants as write
 use Rattle.rulebook.specs.Tools.{given}
-use Rattle.rulebook.specs.Weights.{lastSlot}
+use Rattle.rulebook.specs.Weights.{lastSlot, slotOk}
 use Rattle.rulebook.specs.Packets.{certificateBytes}
 use Rattle.rulebook.specs.Checker.{isOtherKind}
 use Rattle.rulebook.specs.PaperNumbers.{kindIn}
@@ -39,8 +39,8 @@ pub record Laying (ws buffer : List ℕ) (at : ℕ) (k : CertificateKind) (s b :
   pub slot : s < suc lastSlot
   pub room : Room buffer at (certificateBytes (certificateFor (ledgerOf ws) k s b))
 
--- The words are sound, the slot has a row, and the buffer has room for a proof.
+-- The words are sound, the slot is one of 1 to 16, and the buffer has room for a proof.
 pub record Proving (ws buffer : List ℕ) (s : ℕ) : Type 0 where
   pub sound : soundWords ws ≡ true
-  pub slot : s < suc lastSlot
+  pub slot : slotOk s ≡ true
   pub room : proofRoom (ledgerOf ws .count) ≤ length buffer

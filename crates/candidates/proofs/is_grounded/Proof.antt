@@ -37,7 +37,7 @@ loop-holds c =
 
 load-block-requires : tie.Need-load-block-requires Inv-loop μ-loop
 load-block-requires c κs =
-    let a = c .before .before .before .before .before .pre in record { long = a .long; slot = a .slot; place = omega arith }
+    let a = c .before .before .before .before .before .pre in record { long = a .weighing .long; slot = a .weighing .slot; place = omega arith }
 
 is-backed-requires : tie.Need-is-backed-requires Inv-loop μ-loop
 is-backed-requires c κs = search needs
@@ -46,7 +46,7 @@ returns-2 : tie.Need-returns-2 Inv-loop μ-loop
 returns-2 c =
     let a = c .before .before .before .before .before .before .before .before in
     let l = ledgerOf (a .args .rec .now) in
-    sym (grounded-at l (a .args .s .0) (a .args .b) 4 (c .before .before .before .before .loop .n) (ledger-shaped (a .args .rec .now) .blocks (a .args .s .0) (a .pre .slot))
+    sym (grounded-at l (a .args .s .0) (a .args .b) 4 (c .before .before .before .before .loop .n) (ledger-shaped (a .args .rec .now) .blocks (a .args .s .0) (a .pre .weighing .slot))
     (sym (c .before .before .before .before .before .before .is-first .ensures) ∙ c .before .before .before .before .before .if1 .left) (omega arith)
     (ap (λ (k : Block). isBacked l (a .args .s .0) (a .args .b) k) (sym (c .before .before .load-block .ensures)) ∙ sym (c .before .is-backed .ensures) ∙ c .if2 .taken))
 
@@ -69,7 +69,7 @@ returns-3 c =
     let a = c .before .before .before .before .before in
     let l = ledgerOf (a .args .rec .now) in
     let k = c .before .loop in
-    sym (grounded-later l (a .args .s .0) (a .args .b) (k .n) (ledger-shaped (a .args .rec .now) .blocks (a .args .s .0) (a .pre .slot) ∙ omega arith) (sym (c .before .before .before .is-first .ensures) ∙ c .before .before .if1 .left) ∙ k .inv .1)
+    sym (grounded-later l (a .args .s .0) (a .args .b) (k .n) (ledger-shaped (a .args .rec .now) .blocks (a .args .s .0) (a .pre .weighing .slot) ∙ omega arith) (sym (c .before .before .before .is-first .ensures) ∙ c .before .before .if1 .left) ∙ k .inv .1)
 
 pub is-grounded-spec : {M : Type 1} → statement M
 is-grounded-spec =

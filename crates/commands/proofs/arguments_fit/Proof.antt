@@ -74,20 +74,20 @@ exactly-requires-7 c κs = search needs
 enum-told-12 : tie.Need-enum-told-12
 enum-told-12 c = search needs
 
-count-and-message-requires : tie.Need-count-and-message-requires
-count-and-message-requires c κs = search needs
+exactly-requires-8 : tie.Need-exactly-requires-8
+exactly-requires-8 c κs = search needs
 
 enum-told-13 : tie.Need-enum-told-13
 enum-told-13 c = search needs
 
-packet-and-stakes-requires-3 : tie.Need-packet-and-stakes-requires-3
-packet-and-stakes-requires-3 c κs = search needs
+count-and-message-requires : tie.Need-count-and-message-requires
+count-and-message-requires c κs = search needs
 
 enum-told-14 : tie.Need-enum-told-14
 enum-told-14 c = search needs
 
-exactly-requires-8 : tie.Need-exactly-requires-8
-exactly-requires-8 c κs = search needs
+packet-and-stakes-requires-3 : tie.Need-packet-and-stakes-requires-3
+packet-and-stakes-requires-3 c κs = search needs
 
 enum-told-15 : tie.Need-enum-told-15
 enum-told-15 c = search needs
@@ -104,14 +104,17 @@ exactly-requires-10 c κs = search needs
 enum-told-17 : tie.Need-enum-told-17
 enum-told-17 c = search needs
 
-one-word-requires : tie.Need-one-word-requires
-one-word-requires c κs = search needs
+exactly-requires-11 : tie.Need-exactly-requires-11
+exactly-requires-11 c κs = search needs
 
 enum-told-18 : tie.Need-enum-told-18
 enum-told-18 c = search needs
 
-exactly-requires-11 : tie.Need-exactly-requires-11
-exactly-requires-11 c κs = search needs
+one-word-requires : tie.Need-one-word-requires
+one-word-requires c κs = search needs
+
+enum-told-19 : tie.Need-enum-told-19
+enum-told-19 c = search needs
 
 exactly-requires-12 : tie.Need-exactly-requires-12
 exactly-requires-12 c κs = search needs
@@ -119,17 +122,14 @@ exactly-requires-12 c κs = search needs
 exactly-requires-13 : tie.Need-exactly-requires-13
 exactly-requires-13 c κs = search needs
 
-enum-told-19 : tie.Need-enum-told-19
-enum-told-19 c = search needs
-
 exactly-requires-14 : tie.Need-exactly-requires-14
 exactly-requires-14 c κs = search needs
 
-exactly-requires-15 : tie.Need-exactly-requires-15
-exactly-requires-15 c κs = search needs
-
 enum-told-20 : tie.Need-enum-told-20
 enum-told-20 c = search needs
+
+exactly-requires-15 : tie.Need-exactly-requires-15
+exactly-requires-15 c κs = search needs
 
 exactly-requires-16 : tie.Need-exactly-requires-16
 exactly-requires-16 c κs = search needs
@@ -148,6 +148,12 @@ exactly-requires-18 c κs = search needs
 
 enum-told-23 : tie.Need-enum-told-23
 enum-told-23 c = search needs
+
+exactly-requires-19 : tie.Need-exactly-requires-19
+exactly-requires-19 c κs = search needs
+
+enum-told-24 : tie.Need-enum-told-24
+enum-told-24 c = search needs
 
 returns : tie.Need-returns
 unfolding argumentsFit
@@ -207,17 +213,17 @@ returns-11 c =
 returns-12 : tie.Need-returns-12
 unfolding argumentsFit
 returns-12 c =
-    simp (c .before .enum-told12 .given .1, c .count-and-message .ensures)
+    simp (c .before .enum-told12 .given .1, c .exactly8 .ensures)
 
 returns-13 : tie.Need-returns-13
 unfolding argumentsFit
 returns-13 c =
-    simp (c .before .enum-told13 .given .1, c .packet-and-stakes3 .ensures)
+    simp (c .before .enum-told13 .given .1, c .count-and-message .ensures)
 
 returns-14 : tie.Need-returns-14
 unfolding argumentsFit
 returns-14 c =
-    simp (c .before .enum-told14 .given .1, c .exactly8 .ensures)
+    simp (c .before .enum-told14 .given .1, c .packet-and-stakes3 .ensures)
 
 returns-15 : tie.Need-returns-15
 unfolding argumentsFit
@@ -232,22 +238,22 @@ returns-16 c =
 returns-17 : tie.Need-returns-17
 unfolding argumentsFit
 returns-17 c =
-    simp (c .before .enum-told17 .given .1, c .one-word .ensures)
+    simp (c .before .enum-told17 .given .1, c .exactly11 .ensures)
 
 returns-18 : tie.Need-returns-18
 unfolding argumentsFit
 returns-18 c =
-    simp (c .before .before .before .enum-told18 .given .1, c .before .before .exactly11 .ensures, c .before .exactly12 .ensures, c .exactly13 .ensures)
+    simp (c .before .enum-told18 .given .1, c .one-word .ensures)
 
 returns-19 : tie.Need-returns-19
 unfolding argumentsFit
 returns-19 c =
-    simp (c .before .before .enum-told19 .given .1, c .before .exactly14 .ensures, c .exactly15 .ensures)
+    simp (c .before .before .before .enum-told19 .given .1, c .before .before .exactly12 .ensures, c .before .exactly13 .ensures, c .exactly14 .ensures)
 
 returns-20 : tie.Need-returns-20
 unfolding argumentsFit
 returns-20 c =
-    simp (c .before .enum-told20 .given .1, c .exactly16 .ensures)
+    simp (c .before .before .enum-told20 .given .1, c .before .exactly15 .ensures, c .exactly16 .ensures)
 
 returns-21 : tie.Need-returns-21
 unfolding argumentsFit
@@ -262,7 +268,12 @@ returns-22 c =
 returns-23 : tie.Need-returns-23
 unfolding argumentsFit
 returns-23 c =
-    simp (c .enum-told23 .given .1)
+    simp (c .before .enum-told23 .given .1, c .exactly19 .ensures)
+
+returns-24 : tie.Need-returns-24
+unfolding argumentsFit
+returns-24 c =
+    simp (c .enum-told24 .given .1)
 
 pub arguments-fit-spec : {M : Type 1} → statement M
 arguments-fit-spec =
@@ -291,31 +302,33 @@ arguments-fit-spec =
     enum-told-11
     exactly-requires-7
     enum-told-12
-    count-and-message-requires
-    enum-told-13
-    packet-and-stakes-requires-3
-    enum-told-14
     exactly-requires-8
+    enum-told-13
+    count-and-message-requires
+    enum-told-14
+    packet-and-stakes-requires-3
     enum-told-15
     exactly-requires-9
     enum-told-16
     exactly-requires-10
     enum-told-17
-    one-word-requires
-    enum-told-18
     exactly-requires-11
+    enum-told-18
+    one-word-requires
+    enum-told-19
     exactly-requires-12
     exactly-requires-13
-    enum-told-19
     exactly-requires-14
-    exactly-requires-15
     enum-told-20
+    exactly-requires-15
     exactly-requires-16
     enum-told-21
     exactly-requires-17
     enum-told-22
     exactly-requires-18
     enum-told-23
+    exactly-requires-19
+    enum-told-24
     returns
     returns-2
     returns-3
@@ -338,4 +351,5 @@ arguments-fit-spec =
     returns-20
     returns-21
     returns-22
-    returns-23)
+    returns-23
+    returns-24)

@@ -51,13 +51,24 @@ unfolding questionOf
 returns-4 c =
     sym (choose-off _ _ _ (sym (c .before .before .before .before .before .before .before .before .before .before .same .ensures) ∙ c .before .before .before .before .before .before .before .before .before .if1 .left) ∙ choose-off _ _ _ (sym (c .before .before .before .before .before .before .before .same2 .ensures) ∙ c .before .before .before .before .before .before .if2 .left) ∙ choose-off _ _ _ (sym (c .before .before .before .before .same3 .ensures) ∙ c .before .before .before .if3 .left) ∙ choose-on _ _ _ (sym (c .before .same4 .ensures) ∙ c .if4 .taken))
 
-message-of-requires : tie.Need-message-of-requires
-message-of-requires c κs = search needs
+slice-aggregate-same-5 : tie.Need-slice-aggregate-same-5
+slice-aggregate-same-5 c = search needs
+
+same-requires-5 : tie.Need-same-requires-5
+same-requires-5 c κs = search needs
 
 returns-5 : tie.Need-returns-5
 unfolding questionOf
 returns-5 c =
-    c .message-of .ensures ∙ sym (choose-off _ _ _ (sym (c .before .before .before .before .before .before .before .before .before .before .before .same .ensures) ∙ c .before .before .before .before .before .before .before .before .before .before .if1 .left) ∙ choose-off _ _ _ (sym (c .before .before .before .before .before .before .before .before .same2 .ensures) ∙ c .before .before .before .before .before .before .before .if2 .left) ∙ choose-off _ _ _ (sym (c .before .before .before .before .before .same3 .ensures) ∙ c .before .before .before .before .if3 .left) ∙ choose-off _ _ _ (sym (c .before .before .same4 .ensures) ∙ c .before .if4 .left))
+    sym (choose-off _ _ _ (sym (c .before .before .before .before .before .before .before .before .before .before .before .before .before .same .ensures) ∙ c .before .before .before .before .before .before .before .before .before .before .before .before .if1 .left) ∙ choose-off _ _ _ (sym (c .before .before .before .before .before .before .before .before .before .before .same2 .ensures) ∙ c .before .before .before .before .before .before .before .before .before .if2 .left) ∙ choose-off _ _ _ (sym (c .before .before .before .before .before .before .before .same3 .ensures) ∙ c .before .before .before .before .before .before .if3 .left) ∙ choose-off _ _ _ (sym (c .before .before .before .before .same4 .ensures) ∙ c .before .before .before .if4 .left) ∙ choose-on _ _ _ (sym (c .before .same5 .ensures) ∙ c .if5 .taken))
+
+message-of-requires : tie.Need-message-of-requires
+message-of-requires c κs = search needs
+
+returns-6 : tie.Need-returns-6
+unfolding questionOf
+returns-6 c =
+    c .message-of .ensures ∙ sym (choose-off _ _ _ (sym (c .before .before .before .before .before .before .before .before .before .before .before .before .before .before .same .ensures) ∙ c .before .before .before .before .before .before .before .before .before .before .before .before .before .if1 .left) ∙ choose-off _ _ _ (sym (c .before .before .before .before .before .before .before .before .before .before .before .same2 .ensures) ∙ c .before .before .before .before .before .before .before .before .before .before .if2 .left) ∙ choose-off _ _ _ (sym (c .before .before .before .before .before .before .before .before .same3 .ensures) ∙ c .before .before .before .before .before .before .before .if3 .left) ∙ choose-off _ _ _ (sym (c .before .before .before .before .before .same4 .ensures) ∙ c .before .before .before .before .if4 .left) ∙ choose-off _ _ _ (sym (c .before .before .same5 .ensures) ∙ c .before .if5 .left))
 
 pub question-of-spec : {M : Type 1} → statement M
 question-of-spec =
@@ -75,5 +86,8 @@ question-of-spec =
     slice-aggregate-same-4
     same-requires-4
     returns-4
+    slice-aggregate-same-5
+    same-requires-5
+    returns-5
     message-of-requires
-    returns-5)
+    returns-6)

@@ -7,11 +7,12 @@ use Rattle.rulebook.specs.Rules.{State, tellFinal}
 use Rattle.voter.proofs.LiveLaws.{onward-none, onward-is}
 use Rattle.voter.specs.Outbox.{stateIn}
 use Rattle.finality.proofs.FinalLaws.{F-on, F-off}
+use Rattle.fallbacks.proofs.UnderLaws.{under-carded}
 use Rattle.finality.proofs.rule_f.Statement.{statement}
 use Rattle.finality.proofs.rule_f.Tie as tie
 
 newcomer-requires : tie.Need-newcomer-requires
-newcomer-requires c κs = search needs
+newcomer-requires c κs = search (needs, under-carded)
 
 same-length : tie.Need-same-length
 same-length c = search needs

@@ -24,7 +24,7 @@ add-result c =
 returns : tie.Need-returns
 returns c =
     let ws = c .before .before .args .rec .now in
-    let e : 263 + 120 * c .places-in .result ≡ recordWords (placesIn ws) = omega (arith, c .places-in .ensures, places-words (placesIn ws) ws, record-long (placesIn ws)) in
+    let e : 348 + 120 * c .places-in .result ≡ recordWords (placesIn ws) = omega (arith, c .places-in .ensures, places-words (placesIn ws) ws, record-long (placesIn ws)) in
     ap (eqb (length ws)) e
 
 pub is-long-spec : {M : Type 1} → statement M

@@ -9,11 +9,12 @@ use Rattle.rulebook.specs.Rules.{State, cast, parentFits}
 use Rattle.rulebook.specs.declared.VoteKind.the-variants as vote
 use Rattle.rulebook.specs.declared.Block.{Block}
 use Rattle.record.specs.Layout.{ledgerOf}
-use Rattle.voter.proofs.LiveLaws.{onward, onward-none}
+use Rattle.voter.proofs.LiveLaws.{live-castable, onward, onward-none}
 use Rattle.voter.proofs.OutboxLaws.{moved-is}
 use Rattle.voter.specs.Outbox.{stateIn}
 use Rattle.settling.proofs.Spending.{B-comes}
 use Rattle.rules.proofs.RuleLaws.{B-on, B-none, B-off, may-notar}
+use Rattle.fallbacks.proofs.UnderLaws.{under-carded}
 use Rattle.rules.proofs.rule_b.Statement.{statement}
 use Rattle.rules.proofs.rule_b.Tie as tie
 
@@ -27,10 +28,11 @@ no-initial-requires : tie.Need-no-initial-requires
 no-initial-requires c κs = search needs
 
 parent-fits-requires : tie.Need-parent-fits-requires
-parent-fits-requires c κs = search needs
+parent-fits-requires c κs = search (needs, under-carded)
 
 cast-vote-requires : tie.Need-cast-vote-requires
-cast-vote-requires c κs = search needs
+cast-vote-requires c κs =
+    live-castable (c .before .before .before .before .before .before .before .before .before .before .before .before .before .before .pre .live)
 
 same-length : tie.Need-same-length
 same-length c = search needs

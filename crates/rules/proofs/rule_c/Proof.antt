@@ -7,11 +7,12 @@ use Rattle.rulebook.specs.Rules.{State, mayFinal}
 use Rattle.rulebook.specs.declared.CertificateKind.the-variants as certificate
 use Rattle.rulebook.specs.declared.Cell.{Cell}
 use Rattle.record.specs.Layout.{ledgerOf}
-use Rattle.voter.proofs.LiveLaws.{onward, onward-none}
+use Rattle.voter.proofs.LiveLaws.{live-castable, onward, onward-none}
 use Rattle.voter.proofs.OutboxLaws.{moved-is}
 use Rattle.voter.specs.Outbox.{stateIn}
 use Rattle.settling.proofs.Spending.{C-comes}
 use Rattle.rules.proofs.RuleLaws.{C-on, C-none, C-off}
+use Rattle.fallbacks.proofs.UnderLaws.{under-carded}
 use Rattle.rules.proofs.rule_c.Statement.{statement}
 use Rattle.rules.proofs.rule_c.Tie as tie
 
@@ -22,10 +23,11 @@ may-final-requires : tie.Need-may-final-requires
 may-final-requires c κs = search needs
 
 held-requires : tie.Need-held-requires
-held-requires c κs = search needs
+held-requires c κs = search (needs, under-carded)
 
 cast-vote-requires : tie.Need-cast-vote-requires
-cast-vote-requires c κs = search needs
+cast-vote-requires c κs =
+    live-castable (c .before .before .before .before .before .before .before .before .before .before .before .pre .live)
 
 same-length : tie.Need-same-length
 same-length c = search needs

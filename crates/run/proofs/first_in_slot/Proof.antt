@@ -4,13 +4,13 @@ use Prim.Native.Nat.{ℕ}
 use borrow.Author.Needs.{needs}
 use Rattle.voter.proofs.LiveLaws.{onward-none, onward-is}
 use Rattle.run.proofs.SlotLaws.{only-A}
-use Rattle.run.proofs.DormantLaws.{dormant-quiet}
+use Rattle.run.proofs.DormantLaws.{dormant-quiet, under-looking}
 use Rattle.run.proofs.ScanLaws.{still-under-way, going-start, going-more, going-found, going-last}
 use Rattle.run.proofs.first_in_slot.Statement.{statement}
 use Rattle.run.proofs.first_in_slot.Tie as tie
 
 is-dormant-requires : tie.Need-is-dormant-requires
-is-dormant-requires c κs = search needs
+is-dormant-requires c κs = search (needs, under-looking)
 
 same-length : tie.Need-same-length
 same-length c = search needs
@@ -18,7 +18,7 @@ same-length c = search needs
 returns : tie.Need-returns
 returns c =
     let p = c .before .before .before .before .before .pre in let s : ℕ = c .before .before .before .before .before .args .s .0 in
-    onward-none (p .live .live) (sym (dormant-quiet _ s (p .live .low) (p .table .some) (sym (c .before .is-dormant .ensures) ∙ c .if1 .taken)))
+    onward-none (p .live .live) (sym (dormant-quiet _ s (p .live .low) (p .table) (sym (c .before .is-dormant .ensures) ∙ c .if1 .taken)))
 
 rule-a-requires : tie.Need-rule-a-requires
 rule-a-requires c κs = search needs

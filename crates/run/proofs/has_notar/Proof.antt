@@ -1,72 +1,18 @@
--- No node passed so far has a notar vote.
-use mathlib.Core.Path.{_≡_, _∙_, sym}
-use mathlib.Core.Bool.{false}
-use Prim.Native.Nat.{ℕ, _-_, _≤_}
-use native.Mathlib.Omega.{arith}
+-- A leader is there exactly where a notar vote is.
 use borrow.Author.Needs.{needs}
-use Rattle.rulebook.specs.declared.Who.the-variants as who
-use Rattle.rulebook.specs.Pool.{counts}
 use Rattle.record.specs.Layout.{ledgerOf}
-use Rattle.run.proofs.DormantLaws.{passedTo, nodes-start, nodes-more, nodes-found, nodes-end}
+use Rattle.pool.proofs.CardLaws.{card-is}
+use Rattle.run.proofs.DormantLaws.{votes-by-card}
 use Rattle.run.proofs.has_notar.Statement.{statement}
 use Rattle.run.proofs.has_notar.Tie as tie
 
-abbrev Inv-loop : tie.InvT-loop
-Inv-loop rec s nodes n₀ n =
-    (n ≤ nodes) × (passedTo (counts who.AnyNotar) (ledgerOf rec) (s .0) n ≡ false)
+load-card-requires : tie.Need-load-card-requires
+load-card-requires c κs = search needs
 
-abbrev μ-loop : tie.MeasureT-loop
-μ-loop rec s nodes n₀ n =
-    nodes - n
-
-count-requires : tie.Need-count-requires Inv-loop μ-loop
-count-requires c κs = search needs
-
-loop-holds : tie.Need-loop-holds Inv-loop μ-loop
-loop-holds c =
-    let l = ledgerOf (c .before .before .args .rec .now) in let s : ℕ = c .before .before .args .s .0 in
-    (omega arith, nodes-start (counts who.AnyNotar) l s)
-
-load-cell-requires : tie.Need-load-cell-requires Inv-loop μ-loop
-load-cell-requires c κs =
-    omega (arith, c .before .before .before .before .pre .table .few, c .before .before .count .ensures)
-
-counts-requires : tie.Need-counts-requires Inv-loop μ-loop
-counts-requires c κs = search needs
-
-returns : tie.Need-returns Inv-loop μ-loop
+returns : tie.Need-returns
 returns c =
-    let l = ledgerOf (c .before .before .before .before .before .before .before .args .rec .now) in let s : ℕ = c .before .before .before .before .before .before .before .args .s .0 in
-    nodes-found (counts who.AnyNotar) l s (c .before .before .before .before .loop .n) (c .before .before .load-cell .result) (c .before .before .load-cell .ensures) (omega (arith, c .before .before .before .before .before .count .ensures)) (sym (c .before .counts .ensures) ∙ c .if1 .taken)
-
-add-n : tie.Need-add-n Inv-loop μ-loop
-add-n c = search needs
-
-loop-less : tie.Need-loop-less Inv-loop μ-loop
-loop-less c = search needs
-
-loop-again : tie.Need-loop-again Inv-loop μ-loop
-loop-again c =
-    let l = ledgerOf (c .before .before .before .before .before .before .before .args .rec .now) in let s : ℕ = c .before .before .before .before .before .before .before .args .s .0 in
-    (omega arith, nodes-more (counts who.AnyNotar) l s (c .before .before .before .before .loop .n) (c .before .before .load-cell .result) (c .before .before .load-cell .ensures) (sym (c .before .counts .ensures) ∙ c .if1 .left) (c .before .before .before .before .loop .inv .1))
-
-returns-2 : tie.Need-returns-2 Inv-loop μ-loop
-returns-2 c =
-    let l = ledgerOf (c .before .before .before .before .args .rec .now) in let s : ℕ = c .before .before .before .before .args .s .0 in
-    nodes-end (counts who.AnyNotar) l s (c .before .loop .n) (omega (arith, c .before .before .count .ensures, c .before .loop .inv .0)) (c .before .loop .inv .1)
+    let a = c .before .before .before in
+    votes-by-card (ledgerOf (a .args .rec .now)) (a .args .s .0) (a .pre .carded .weighing .table) _ (card-is (a .pre .carded) _ (c .before .load-card .ensures)) (a .pre .staked)
 
 pub has-notar-spec : {M : Type 1} → statement M
-has-notar-spec =
-    tie.close
-    (tie.spec
-    Inv-loop
-    μ-loop
-    count-requires
-    loop-holds
-    load-cell-requires
-    counts-requires
-    returns
-    add-n
-    loop-less
-    loop-again
-    returns-2)
+has-notar-spec = tie.close (tie.spec load-card-requires returns)

@@ -1,12 +1,13 @@
--- No node passed so far has such a vote.
+-- The card first; then no node passed so far has such a vote.
 use mathlib.Core.Path.{_≡_, _∙_, sym}
 use mathlib.Core.Bool.{false}
-use Prim.Native.Nat.{ℕ, _-_, _≤_}
+use Prim.Native.Nat.{_-_, _≤_}
 use native.Mathlib.Omega.{arith}
 use borrow.Author.Needs.{needs}
 use Rattle.run.specs.Idle.{supports}
 use Rattle.record.specs.Layout.{ledgerOf}
-use Rattle.run.proofs.DormantLaws.{passedTo, nodes-start, nodes-more, nodes-found, nodes-end}
+use Rattle.pool.proofs.CardLaws.{card-is}
+use Rattle.run.proofs.DormantLaws.{support-by-card, passedTo, nodes-start, nodes-more, nodes-found, nodes-end}
 use Rattle.run.proofs.has_support.Statement.{statement}
 use Rattle.run.proofs.has_support.Tie as tie
 
@@ -18,25 +19,32 @@ abbrev μ-loop : tie.MeasureT-loop
 μ-loop rec s nodes n₀ n =
     nodes - n
 
+load-card-requires : tie.Need-load-card-requires Inv-loop μ-loop
+load-card-requires c κs = search needs
+
+returns : tie.Need-returns Inv-loop μ-loop
+returns c =
+    let a = c .before .before .before .before .before .before in
+    support-by-card (ledgerOf (a .args .rec .now)) (a .args .s .0) (a .pre .weighing .table) _ (card-is (a .pre) _ (c .before .before .before .before .load-card .ensures)) (c .if1 .taken)
+
 count-requires : tie.Need-count-requires Inv-loop μ-loop
 count-requires c κs = search needs
 
 loop-holds : tie.Need-loop-holds Inv-loop μ-loop
 loop-holds c =
-    let l = ledgerOf (c .before .before .args .rec .now) in let s : ℕ = c .before .before .args .s .0 in
-    (omega arith, nodes-start supports l s)
+    let a = c .before .before .before .before .before .before .before .args in (omega arith, nodes-start supports (ledgerOf (a .rec .now)) (a .s .0))
 
 load-cell-requires : tie.Need-load-cell-requires Inv-loop μ-loop
 load-cell-requires c κs =
-    omega (arith, c .before .before .before .before .pre .table .few, c .before .before .count .ensures)
+    omega (arith, c .before .before .before .before .before .before .before .before .before .pre .weighing .table .few, c .before .before .count .ensures)
 
 supports-requires : tie.Need-supports-requires Inv-loop μ-loop
 supports-requires c κs = search needs
 
-returns : tie.Need-returns Inv-loop μ-loop
-returns c =
-    let l = ledgerOf (c .before .before .before .before .before .before .before .args .rec .now) in let s : ℕ = c .before .before .before .before .before .before .before .args .s .0 in
-    nodes-found supports l s (c .before .before .before .before .loop .n) (c .before .before .load-cell .result) (c .before .before .load-cell .ensures) (omega (arith, c .before .before .before .before .before .count .ensures)) (sym (c .before .supports .ensures) ∙ c .if1 .taken)
+returns-2 : tie.Need-returns-2 Inv-loop μ-loop
+returns-2 c =
+    let a = c .before .before .before .before .before .before .before .before .before .before .before .before .args in
+    nodes-found supports (ledgerOf (a .rec .now)) (a .s .0) (c .before .before .before .before .loop .n) (c .before .before .load-cell .result) (c .before .before .load-cell .ensures) (omega (arith, c .before .before .before .before .before .count .ensures)) (sym (c .before .supports .ensures) ∙ c .if2 .taken)
 
 add-n : tie.Need-add-n Inv-loop μ-loop
 add-n c = search needs
@@ -46,13 +54,13 @@ loop-less c = search needs
 
 loop-again : tie.Need-loop-again Inv-loop μ-loop
 loop-again c =
-    let l = ledgerOf (c .before .before .before .before .before .before .before .args .rec .now) in let s : ℕ = c .before .before .before .before .before .before .before .args .s .0 in
-    (omega arith, nodes-more supports l s (c .before .before .before .before .loop .n) (c .before .before .load-cell .result) (c .before .before .load-cell .ensures) (sym (c .before .supports .ensures) ∙ c .if1 .left) (c .before .before .before .before .loop .inv .1))
+    let a = c .before .before .before .before .before .before .before .before .before .before .before .before .args in
+    (omega arith, nodes-more supports (ledgerOf (a .rec .now)) (a .s .0) (c .before .before .before .before .loop .n) (c .before .before .load-cell .result) (c .before .before .load-cell .ensures) (sym (c .before .supports .ensures) ∙ c .if2 .left) (c .before .before .before .before .loop .inv .1))
 
-returns-2 : tie.Need-returns-2 Inv-loop μ-loop
-returns-2 c =
-    let l = ledgerOf (c .before .before .before .before .args .rec .now) in let s : ℕ = c .before .before .before .before .args .s .0 in
-    nodes-end supports l s (c .before .loop .n) (omega (arith, c .before .before .count .ensures, c .before .loop .inv .0)) (c .before .loop .inv .1)
+returns-3 : tie.Need-returns-3 Inv-loop μ-loop
+returns-3 c =
+    let a = c .before .before .before .before .before .before .before .before .before .args in
+    nodes-end supports (ledgerOf (a .rec .now)) (a .s .0) (c .before .loop .n) (omega (arith, c .before .before .count .ensures, c .before .loop .inv .0)) (c .before .loop .inv .1)
 
 pub has-support-spec : {M : Type 1} → statement M
 has-support-spec =
@@ -60,12 +68,14 @@ has-support-spec =
     (tie.spec
     Inv-loop
     μ-loop
+    load-card-requires
+    returns
     count-requires
     loop-holds
     load-cell-requires
     supports-requires
-    returns
+    returns-2
     add-n
     loop-less
     loop-again
-    returns-2)
+    returns-3)

@@ -27,7 +27,7 @@ sub-t5 c =
 
 has-support-requires : tie.Need-has-support-requires
 has-support-requires c κs =
-    let p = c .before .before .before .before .before .before .pre in record { long = p .long; slot = omega (arith, p .slot); table = p .table }
+    let p = c .before .before .before .before .before .before .pre in record { weighing = record { long = p .weighing .long; slot = omega (arith, p .weighing .slot); table = p .weighing .table }; later = omega (arith, p .later); cards = p .cards }
 
 returns-3 : tie.Need-returns-3
 returns-3 c =

@@ -8,9 +8,9 @@ use Rattle.rulebook.specs.Pool.{held}
 use Rattle.rulebook.specs.Weights.{slotOk}
 use Rattle.record.specs.Layout.{ledgerOf}
 use Rattle.soundness.specs.Sound.{soundWords}
-use Rattle.writers.proofs.Laid.{weighing}
+use Rattle.writers.proofs.Laid.{carded}
 use Rattle.shown_weights.specs.Weights.{heldShown}
-use Rattle.shown.proofs.Laws.{first-off, second-off, both-on, slot-small}
+use Rattle.shown.proofs.Laws.{first-off, second-off, both-on}
 use Rattle.shown_weights.proofs.held_in.Statement.{statement}
 use Rattle.shown_weights.proofs.held_in.Tie as tie
 
@@ -32,7 +32,7 @@ returns-2 c =
 
 held-requires : tie.Need-held-requires
 held-requires c κs =
-    weighing _ _ (sym (c .before .sound .ensures) ∙ not-false _ (c .if2 .left)) (slot-small _ (sym (c .before .before .before .slot-ok .ensures) ∙ not-false _ (c .before .before .if1 .left)))
+    carded _ _ (sym (c .before .sound .ensures) ∙ not-false _ (c .if2 .left)) (sym (c .before .before .before .slot-ok .ensures) ∙ not-false _ (c .before .before .if1 .left))
 
 returns-3 : tie.Need-returns-3
 unfolding heldShown

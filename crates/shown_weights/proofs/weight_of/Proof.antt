@@ -1,4 +1,4 @@
--- The record is sound, so its votes can be weighed.
+-- The record is sound, so its cards are the recount.
 use mathlib.Core.Path.{_∙_, sym}
 use Prim.Native.Nat.{_-_}
 use borrow.Author.Tests.{not-true, not-false}
@@ -7,9 +7,9 @@ use Rattle.rulebook.specs.Pool.{weigh}
 use Rattle.rulebook.specs.Weights.{slotOk}
 use Rattle.record.specs.Layout.{ledgerOf}
 use Rattle.soundness.specs.Sound.{soundWords}
-use Rattle.writers.proofs.Laid.{weighing}
+use Rattle.writers.proofs.Laid.{carded}
 use Rattle.shown_weights.specs.Weights.{weightShown}
-use Rattle.shown.proofs.Laws.{first-off, second-off, both-on, slot-small}
+use Rattle.shown.proofs.Laws.{first-off, second-off, both-on}
 use Rattle.shown_weights.proofs.weight_of.Statement.{statement}
 use Rattle.shown_weights.proofs.weight_of.Tie as tie
 
@@ -29,14 +29,14 @@ unfolding weightShown
 returns-2 c =
     second-off (slotOk (c .before .before .before .before .before .args .s .0)) (soundWords (c .before .before .before .before .before .args .rec .now)) 0 (λ _. weigh (ledgerOf (c .before .before .before .before .before .args .rec .now)) (c .before .before .before .before .before .args .s .0) (c .before .before .before .before .before .args .who)) (sym (c .before .sound .ensures) ∙ not-true _ (c .if2 .taken))
 
-weigh-requires : tie.Need-weigh-requires
-weigh-requires c κs =
-    weighing _ _ (sym (c .before .sound .ensures) ∙ not-false _ (c .if2 .left)) (slot-small _ (sym (c .before .before .before .slot-ok .ensures) ∙ not-false _ (c .before .before .if1 .left)))
+weight-of-requires : tie.Need-weight-of-requires
+weight-of-requires c κs =
+    carded _ _ (sym (c .before .sound .ensures) ∙ not-false _ (c .if2 .left)) (sym (c .before .before .before .slot-ok .ensures) ∙ not-false _ (c .before .before .if1 .left))
 
 returns-3 : tie.Need-returns-3
 unfolding weightShown
 returns-3 c =
-    c .weigh .ensures ∙ both-on (slotOk (c .before .before .before .before .before .before .args .s .0)) (soundWords (c .before .before .before .before .before .before .args .rec .now)) 0 (λ _. weigh (ledgerOf (c .before .before .before .before .before .before .args .rec .now)) (c .before .before .before .before .before .before .args .s .0) (c .before .before .before .before .before .before .args .who)) (sym (c .before .before .before .before .slot-ok .ensures) ∙ not-false _ (c .before .before .before .if1 .left)) (sym (c .before .before .sound .ensures) ∙ not-false _ (c .before .if2 .left))
+    c .weight-of .ensures ∙ both-on (slotOk (c .before .before .before .before .before .before .args .s .0)) (soundWords (c .before .before .before .before .before .before .args .rec .now)) 0 (λ _. weigh (ledgerOf (c .before .before .before .before .before .before .args .rec .now)) (c .before .before .before .before .before .before .args .s .0) (c .before .before .before .before .before .before .args .who)) (sym (c .before .before .before .before .slot-ok .ensures) ∙ not-false _ (c .before .before .before .if1 .left)) (sym (c .before .before .sound .ensures) ∙ not-false _ (c .before .if2 .left))
 
 pub weight-of-spec : {M : Type 1} → statement M
 weight-of-spec =
@@ -46,5 +46,5 @@ weight-of-spec =
     returns
     sound-requires
     returns-2
-    weigh-requires
+    weight-of-requires
     returns-3)

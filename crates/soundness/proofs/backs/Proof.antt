@@ -1,6 +1,5 @@
 -- A place without a block leans on nothing; any other on the weights.
 use mathlib.Core.Path.{_∙_}
-use borrow.Author.Needs.{needs}
 use Rattle.record.specs.Layout.{ledgerOf}
 use Rattle.soundness.proofs.Laws.{backs-none, backs-some}
 use Rattle.soundness.proofs.backs.Statement.{statement}
@@ -11,7 +10,7 @@ returns c =
     let a = c .before .before .args in backs-none (ledgerOf (a .rec .now)) (a .s .0) (a .b) (c .if1 .taken)
 
 fallback-weights-requires : tie.Need-fallback-weights-requires
-fallback-weights-requires c κs = search needs
+fallback-weights-requires c κs = c .before .before .pre
 
 returns-2 : tie.Need-returns-2
 returns-2 c =

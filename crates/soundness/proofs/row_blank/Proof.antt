@@ -1,5 +1,6 @@
 -- The tests of row 0.
 use native.Mathlib.Omega.{arith}
+use borrow.Author.Needs.{needs}
 use Rattle.rulebook.specs.WellFormed.{rowBlank}
 use Rattle.soundness.proofs.row_blank.Statement.{statement}
 use Rattle.soundness.proofs.row_blank.Tie as tie
@@ -20,14 +21,21 @@ timeout-word-requires : tie.Need-timeout-word-requires
 timeout-word-requires c κs =
     record { long = c .before .before .before .before .pre; slot = omega arith }
 
-cells-fit-requires : tie.Need-cells-fit-requires
-cells-fit-requires c κs =
+load-card-requires : tie.Need-load-card-requires
+load-card-requires c κs =
     record { long = c .before .before .before .before .before .pre; slot = omega arith }
+
+card-blank-requires : tie.Need-card-blank-requires
+card-blank-requires c κs = search needs
+
+cells-blank-requires : tie.Need-cells-blank-requires
+cells-blank-requires c κs =
+    record { long = c .before .before .before .before .before .before .before .pre; slot = omega arith }
 
 returns : tie.Need-returns
 unfolding rowBlank
 returns c =
-    simp (c .cells-fit .ensures, c .before .timeout-word .ensures, c .before .before .clash-word .ensures, c .before .before .before .final-block .ensures, c .before .before .before .before .blocks-blank .ensures)
+    simp (c .cells-blank .ensures, c .before .card-blank .ensures, c .before .before .load-card .ensures, c .before .before .before .timeout-word .ensures, c .before .before .before .before .clash-word .ensures, c .before .before .before .before .before .final-block .ensures, c .before .before .before .before .before .before .blocks-blank .ensures)
 
 pub row-blank-spec : {M : Type 1} → statement M
 row-blank-spec =
@@ -37,5 +45,7 @@ row-blank-spec =
     final-block-requires
     clash-word-requires
     timeout-word-requires
-    cells-fit-requires
+    load-card-requires
+    card-blank-requires
+    cells-blank-requires
     returns)

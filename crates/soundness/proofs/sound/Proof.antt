@@ -1,9 +1,9 @@
--- The length, the head, row 0 and the other rows, in that order.
+-- The length, the head, row 0, the other rows by themselves, and what own fallbacks lean on, in that order.
 use mathlib.Core.Path.{_∙_, sym}
 use borrow.Author.Tests.{not-true, not-false}
 use borrow.Author.Needs.{needs}
 use Rattle.record.proofs.Places.{long-true}
-use Rattle.soundness.proofs.Laws.{short-unsound, head-unsound, blank-unsound, rows-headed, rows-decide}
+use Rattle.soundness.proofs.Laws.{short-unsound, head-unsound, blank-unsound, rows-headed, rows-unsound, owns-decide}
 use Rattle.soundness.proofs.sound.Statement.{statement}
 use Rattle.soundness.proofs.sound.Tie as tie
 
@@ -28,7 +28,8 @@ row-blank-requires c κs =
 
 returns-3 : tie.Need-returns-3
 returns-3 c =
-    blank-unsound (c .before .before .before .before .before .before .before .args .rec .now) (sym (c .before .before .before .before .before .is-long .ensures) ∙ not-false _ (c .before .before .before .before .if1 .left)) (sym (c .before .before .before .head-fits .ensures) ∙ not-false _ (c .before .before .if2 .left)) (sym (c .before .row-blank .ensures) ∙ not-true _ (c .if3 .taken))
+    blank-unsound (c .before .before .before .before .before .before .before .args .rec .now) (sym (c .before .before .before .before .before .is-long .ensures) ∙ not-false _ (c .before .before .before .before .if1 .left))
+    (sym (c .before .before .before .head-fits .ensures) ∙ not-false _ (c .before .before .if2 .left)) (sym (c .before .row-blank .ensures) ∙ not-true _ (c .if3 .taken))
 
 rows-fit-requires : tie.Need-rows-fit-requires
 rows-fit-requires c κs =
@@ -36,7 +37,22 @@ rows-fit-requires c κs =
 
 returns-4 : tie.Need-returns-4
 returns-4 c =
-    rows-decide (c .before .before .before .before .before .before .before .before .args .rec .now) (sym (c .before .before .before .before .before .before .is-long .ensures) ∙ not-false _ (c .before .before .before .before .before .if1 .left)) _ (sym (c .before .before .before .before .head-fits .ensures) ∙ not-false _ (c .before .before .before .if2 .left)) (sym (c .before .before .row-blank .ensures) ∙ not-false _ (c .before .if3 .left)) (c .rows-fit .ensures)
+    rows-unsound (c .before .before .before .before .before .before .before .before .before .args .rec .now) (sym (c .before .before .before .before .before .before .before .is-long .ensures) ∙ not-false _ (c .before .before .before .before .before .before .if1 .left))
+    (sym (c .before .before .before .before .before .head-fits .ensures) ∙ not-false _ (c .before .before .before .before .if2 .left)) (sym (c .before .before .before .row-blank .ensures) ∙ not-false _ (c .before .before .if3 .left))
+    (sym (c .before .rows-fit .ensures) ∙ not-true _ (c .if4 .taken))
+
+owns-fit-requires : tie.Need-owns-fit-requires
+owns-fit-requires c κs =
+    record {
+      headed = rows-headed _ (sym (c .before .before .before .before .before .before .before .is-long .ensures) ∙ not-false _ (c .before .before .before .before .before .before .if1 .left)) (sym (c .before .before .before .before .before .head-fits .ensures) ∙ not-false _ (c .before .before .before .before .if2 .left));
+      rows = sym (c .before .rows-fit .ensures) ∙ not-false _ (c .if4 .left);
+    }
+
+returns-5 : tie.Need-returns-5
+returns-5 c =
+    owns-decide (c .before .before .before .before .before .before .before .before .before .before .args .rec .now) (sym (c .before .before .before .before .before .before .before .before .is-long .ensures) ∙ not-false _ (c .before .before .before .before .before .before .before .if1 .left)) _
+    (sym (c .before .before .before .before .before .before .head-fits .ensures) ∙ not-false _ (c .before .before .before .before .before .if2 .left)) (sym (c .before .before .before .before .row-blank .ensures) ∙ not-false _ (c .before .before .before .if3 .left))
+    (sym (c .before .before .rows-fit .ensures) ∙ not-false _ (c .before .if4 .left)) (c .owns-fit .ensures)
 
 pub sound-spec : {M : Type 1} → statement M
 sound-spec =
@@ -49,4 +65,6 @@ sound-spec =
     row-blank-requires
     returns-3
     rows-fit-requires
-    returns-4)
+    returns-4
+    owns-fit-requires
+    returns-5)

@@ -1,11 +1,11 @@
 -- The vote stored, then the rules run.
 use borrow.Author.Needs.{needs}
-use Rattle.trays.proofs.OneVote.{vote-place, vote-way, vote-run}
+use Rattle.trays.proofs.OneVote.{vote-storing, vote-way, vote-run}
 use Rattle.trays.proofs.take_vote.Statement.{statement}
 use Rattle.trays.proofs.take_vote.Tie as tie
 
 store-vote-requires : tie.Need-store-vote-requires
-store-vote-requires c κs = vote-place (c .before .before .before .before .before .pre)
+store-vote-requires c κs = vote-storing (c .before .before .before .before .before .pre)
 
 settle-requires : tie.Need-settle-requires
 settle-requires c κs = vote-way (c .before .before .before .before .before .before .before .before .before .before .pre) _ (c .before .before .before .before .store-vote .kept .0) (c .before .before .before .before .store-vote .ensures)

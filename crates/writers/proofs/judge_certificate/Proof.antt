@@ -5,8 +5,8 @@ use borrow.Author.Tests.{not-true, not-false}
 use Rattle.rulebook.specs.Writers.{certificateRoom}
 use Rattle.record.specs.Layout.{ledgerOf}
 use Rattle.soundness.proofs.Laws.{sound-long}
-use Rattle.writers.proofs.Verdicts.{certificate-room, certificate-kind, certificate-slot, certificate-block, certificate-held, certificate-passed, slot-row}
-use Rattle.writers.proofs.Laid.{weighing}
+use Rattle.writers.proofs.Verdicts.{certificate-room, certificate-kind, certificate-slot, certificate-block, certificate-held, certificate-passed}
+use Rattle.writers.proofs.Laid.{carded}
 use borrow.Author.Needs.{needs}
 use Rattle.writers.proofs.judge_certificate.Statement.{statement}
 use Rattle.writers.proofs.judge_certificate.Tie as tie
@@ -49,8 +49,7 @@ returns-4 c =
 held-requires : tie.Need-held-requires
 held-requires c κs =
     let a = c .before .before .before .before .before .before .before .before .before .before in
-    weighing (a .args .rec .now) (a .args .s .0) (a .pre)
-    (slot-row (a .args .s .0) (sym (c .before .before .before .slot-ok .ensures) ∙ not-false _ (c .before .before .if3 .left)))
+    carded (a .args .rec .now) (a .args .s .0) (a .pre) (sym (c .before .before .before .slot-ok .ensures) ∙ not-false _ (c .before .before .if3 .left))
 
 returns-5 : tie.Need-returns-5
 returns-5 c =

@@ -5,8 +5,8 @@ use borrow.Author.Tests.{not-true, not-false}
 use Rattle.rulebook.specs.Writers.{proofRoom}
 use Rattle.record.specs.Layout.{ledgerOf}
 use Rattle.soundness.proofs.Laws.{sound-long}
-use Rattle.writers.proofs.Verdicts.{proof-room, proof-slot, proof-block, proof-final, proof-passed, slot-row}
-use Rattle.writers.proofs.Laid.{weighing}
+use Rattle.writers.proofs.Verdicts.{proof-room, proof-slot, proof-block, proof-final, proof-passed}
+use Rattle.writers.proofs.Laid.{carded}
 use borrow.Author.Needs.{needs}
 use Rattle.writers.proofs.judge_proof.Statement.{statement}
 use Rattle.writers.proofs.judge_proof.Tie as tie
@@ -38,8 +38,7 @@ returns-3 c =
 is-final-requires : tie.Need-is-final-requires
 is-final-requires c κs =
     let a = c .before .before .before .before .before .before .before in
-    weighing (a .args .rec .now) (a .args .s .0) (a .pre)
-    (slot-row (a .args .s .0) (sym (c .before .before .slot-ok .ensures) ∙ not-false _ (c .before .if2 .left)))
+    carded (a .args .rec .now) (a .args .s .0) (a .pre) (sym (c .before .before .slot-ok .ensures) ∙ not-false _ (c .before .if2 .left))
 
 returns-4 : tie.Need-returns-4
 returns-4 c =

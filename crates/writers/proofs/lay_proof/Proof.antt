@@ -5,22 +5,23 @@ use borrow.Author.Needs.{needs}
 use Rattle.rulebook.specs.declared.CertificateKind.the-variants as certificate
 use Rattle.rulebook.specs.Checker.{isOtherKind}
 use Rattle.record.specs.Layout.{ledgerOf}
-use Rattle.writers.proofs.Laid.{weighing, room-front, room-either, room-next, laid-fast, laid-slow}
+use Rattle.writers.proofs.Verdicts.{slot-row}
+use Rattle.writers.proofs.Laid.{carded, room-front, room-either, room-next, laid-fast, laid-slow}
 use Rattle.writers.proofs.lay_proof.Statement.{statement}
 use Rattle.writers.proofs.lay_proof.Tie as tie
 
 held-requires : tie.Need-held-requires
 held-requires c κs =
     let start = c .before .before in
-    weighing (now (start .args .rec)) (start .args .s .0) (start .pre .sound) (start .pre .slot)
+    carded (now (start .args .rec)) (start .args .s .0) (start .pre .sound) (start .pre .slot)
 
 lay-certificate-requires : tie.Need-lay-certificate-requires
 unfolding isOtherKind
 lay-certificate-requires c κs =
     let start = c .before .before .before .before .before in
     let s = start .args in
-    let room = room-front (ledgerOf (now (s .rec))) certificate.FastFinal (s .s .0) (s .b) (now (s .buffer)) (start .pre .slot) (room-either _ _ (start .pre .room)) in
-    record { sound = start .pre .sound; kind = refl; slot = start .pre .slot; room = room }
+    let room = room-front (ledgerOf (now (s .rec))) certificate.FastFinal (s .s .0) (s .b) (now (s .buffer)) (slot-row _ (start .pre .slot)) (room-either _ _ (start .pre .room)) in
+    record { sound = start .pre .sound; kind = refl; slot = slot-row _ (start .pre .slot); room = room }
 
 same-length : tie.Need-same-length
 same-length c = search needs
@@ -36,8 +37,8 @@ unfolding isOtherKind
 lay-certificate-requires-2 c κs =
     let start = c .before .before .before .before .before in
     let s = start .args in
-    let room = room-front (ledgerOf (now (s .rec))) certificate.Notar (s .s .0) (s .b) (now (s .buffer)) (start .pre .slot) (room-either _ _ (start .pre .room)) in
-    record { sound = start .pre .sound; kind = refl; slot = start .pre .slot; room = room }
+    let room = room-front (ledgerOf (now (s .rec))) certificate.Notar (s .s .0) (s .b) (now (s .buffer)) (slot-row _ (start .pre .slot)) (room-either _ _ (start .pre .room)) in
+    record { sound = start .pre .sound; kind = refl; slot = slot-row _ (start .pre .slot); room = room }
 
 lay-certificate-requires-3 : tie.Need-lay-certificate-requires-3
 unfolding isOtherKind
@@ -45,8 +46,8 @@ lay-certificate-requires-3 c κs =
     let start = c .before .before .before .before .before .before .before .before .before in
     let s = start .args in
     let first = c .before .before .before .lay-certificate2 in
-    let room = room-next (ledgerOf (now (s .rec))) (s .s .0) (s .b) (now (s .buffer)) _ _ (start .pre .slot) (start .pre .room) (first .kept .1 .0) (first .ensures) in
-    record { sound = start .pre .sound; kind = refl; slot = start .pre .slot; room = room }
+    let room = room-next (ledgerOf (now (s .rec))) (s .s .0) (s .b) (now (s .buffer)) _ _ (slot-row _ (start .pre .slot)) (start .pre .room) (first .kept .1 .0) (first .ensures) in
+    record { sound = start .pre .sound; kind = refl; slot = slot-row _ (start .pre .slot); room = room }
 
 same-length-2 : tie.Need-same-length-2
 same-length-2 c = search needs
@@ -55,7 +56,7 @@ returns-2 : tie.Need-returns-2
 returns-2 c =
     let start = c .before .before .before .before .before .before .before .before .before .before .before .before in
     let s = start .args in
-    laid-slow (ledgerOf (now (s .rec))) (s .s .0) (s .b) (sym (c .before .before .before .before .before .before .before .before .before .held .ensures) ∙ c .before .before .before .before .before .before .before .before .if1 .left) (start .pre .slot) (start .pre .room)
+    laid-slow (ledgerOf (now (s .rec))) (s .s .0) (s .b) (sym (c .before .before .before .before .before .before .before .before .before .held .ensures) ∙ c .before .before .before .before .before .before .before .before .if1 .left) (slot-row _ (start .pre .slot)) (start .pre .room)
     (c .before .before .before .before .before .before .lay-certificate2 .ensures) (c .before .before .lay-certificate3 .ensures)
 
 pub lay-proof-spec : {M : Type 1} → statement M

@@ -4,7 +4,7 @@ use lib.ListN.{length}
 use borrow.Author.Tests.{not-true, not-false}
 use Rattle.rulebook.specs.declared.Verdict.the-variants.{Fine}
 use Rattle.record.specs.Layout.{ledgerOf}
-use Rattle.writers.proofs.Verdicts.{proof-fine, slot-row}
+use Rattle.writers.proofs.Verdicts.{proof-fine}
 use Rattle.numbers.proofs.Stores.{writes-refused, writes-laid}
 use Rattle.writers.proofs.Laid.{writes-unsound, proof-unsound, proof-judged}
 use borrow.Author.Needs.{needs}
@@ -33,7 +33,7 @@ lay-proof-requires : tie.Need-lay-proof-requires
 lay-proof-requires c κs =
     let a = c .before .before .before .before .before .before .before .before in
     let f = (proof-fine (ledgerOf (a .args .rec .now)) (length (a .args .buffer .now)) (a .args .slot .0) (a .args .block) (sym (c .before .before .before .judge-proof .ensures) ∙ c .before .enum-told .given .1)) in
-    record { sound = (sym (c .before .before .before .before .before .sound .ensures) ∙ not-false _ (c .before .before .before .before .if1 .left)); slot = slot-row _ (f .slot); room = f .room }
+    record { sound = (sym (c .before .before .before .before .before .sound .ensures) ∙ not-false _ (c .before .before .before .before .if1 .left)); slot = f .slot; room = f .room }
 
 returns-2 : tie.Need-returns-2
 returns-2 c =

@@ -1,0 +1,44 @@
+-- A blank cell adds nothing; any other is added.
+use mathlib.Core.Path.{_∙_, sym}
+use native.Mathlib.Omega.{arith}
+use borrow.Author.Needs.{needs}
+use Rattle.audit.specs.Summing.{withCell}
+use Rattle.audit.proofs.Summing.{blank-adds}
+use Rattle.audit.proofs.with_node.Statement.{statement}
+use Rattle.audit.proofs.with_node.Tie as tie
+
+load-cell-requires : tie.Need-load-cell-requires
+load-cell-requires c κs =
+    let a = c .before .pre in record { long = a .weighing .long; slot = a .weighing .slot; node = omega (arith, a .node, a .weighing .table .few) }
+
+cell-blank-requires : tie.Need-cell-blank-requires
+cell-blank-requires c κs = search needs
+
+returns : tie.Need-returns
+returns c =
+    let a = c .before .before .before .before .before .before .before .args in
+    blank-adds (a .sums) (c .before .before .before .before .before .load-cell .result) _ _ (a .b) (c .before .before .before .before .before .load-cell .ensures) (sym (c .before .cell-blank .ensures) ∙ c .if2 .taken)
+
+stake-requires : tie.Need-stake-requires
+stake-requires c κs =
+    let a = c .before .before .before .before .before .pre in record { long = a .weighing .long; node = omega (arith, a .node, a .weighing .table .few) }
+
+with-cell-requires : tie.Need-with-cell-requires
+with-cell-requires c κs =
+    let a = c .before .before .before .before .before .before .pre in rw (c .stake .ensures) (a .room)
+
+returns-2 : tie.Need-returns-2
+returns-2 c =
+    let a = c .before .before .before .before .before .before .before .args in
+    c .with-cell .ensures ∙ (λ i. withCell (a .sums) (c .before .before .before .before .before .load-cell .ensures i) (c .before .stake .ensures i) (a .b))
+
+pub with-node-spec : {M : Type 1} → statement M
+with-node-spec =
+    tie.close
+    (tie.spec
+    load-cell-requires
+    cell-blank-requires
+    returns
+    stake-requires
+    with-cell-requires
+    returns-2)

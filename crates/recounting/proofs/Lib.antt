@@ -1,0 +1,4 @@
+pub mod Leading
+pub mod Storing
+pub mod Using
+pub mod Scanning
