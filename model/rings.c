@@ -1,30 +1,40 @@
 /* One operation on a ring of so many nodes of stake 1, through the C face, for its cost.
-   rings NODES RECORD OPERATION ROUNDS: RECORD is empty, or a file with a record's words. Each round begins with that record.
-   OPERATION is
-     none   nothing, for what comes before
-     copy   nothing but the record copied anew, which comes before each vote or tray
-     test   a vote of kind 9, refused right after the 17 test
-     look   the rules, with nothing to do
-     vote   a vote: an initial one on an empty record, else a notar-fallback
-     tray   500 such votes, in every slot in turn, in one call
-     write  the notar-fallback certificate of slot 16, signed by all but the own (a full record)
-     check  that certificate checked
-     light  one that three nodes signed (in a ring of three, one), refused with 15
-     full   makes the file: every node but the own has an initial vote for one of five blocks, two notar-fallbacks and a final
-            in every slot
-     many   makes the file: every node but the own has an initial vote in slot 1, each for another block */
+   rings NODES RECORD OPERATION ROUNDS [OTHER]: RECORD is empty, or a file with a record's words (model record), and OTHER one of
+   another record of the ring. Each round begins with RECORD. ROUNDS is their number, or time: then as many as a time takes, which
+   is printed in nanoseconds a round. OPERATION is
+     test     a vote of kind 9, refused right after the 17 test
+     look     the rules, with nothing to do
+     vote     a vote: an initial one on an empty record, else a notar-fallback
+     tray     500 such votes, in every slot in turn, in one call
+     write    the notar-fallback certificate of slot 16, signed by all but the own (a full record)
+     check    that certificate checked
+     check3   a certificate checked that three nodes signed, with nearly all of the stake
+     check64  one that 64 nodes signed, or all where there are fewer, with nearly all of the stake
+     light    one that three nodes signed (in a ring of three, one), with stakes of 1, refused with 15
+     differ   RECORD compared with OTHER
+     five     makes the file RECORD, by the library alone: every node but the own has an initial vote for one of five blocks, two
+              notar-fallbacks and a final in every slot */
+#define _POSIX_C_SOURCE 199309L
 #include <stdint.h>
 #include <stdio.h>
 #include <stdlib.h>
 #include <string.h>
+#include <time.h>
 
 #include "quointrowel.h"
 
-enum { VOTES = 500, FALLBACK = 20, TRAY = 1000 };
-static uint64_t record[QR_RECORD_WORDS(QR_MOST_NODES)], kept[QR_RECORD_WORDS(QR_MOST_NODES)], stakes[QR_MOST_NODES];
-static uint64_t outbox[QR_OUTBOX_WORDS], votes[4 * TRAY], answers[TRAY];
-static uint8_t packet[QR_LARGE_CERTIFICATE_BYTES], light[67];
-static size_t nodes, words, made, written;
+enum { VOTES = 500, FALLBACK = 20, TRAY = 1000, HEAVY = 1000000, SMALL_MASKS = 2, LARGE_MASKS = 64 };
+enum { BATCHES = 15, LEAST_BATCHES = 3 };
+static const double BATCH_SECONDS = 0.01, SECONDS = 2.0;
+
+typedef uint64_t words_of_a_record[QR_RECORD_WORDS(QR_MOST_NODES)];
+static words_of_a_record record, kept, other;
+static size_t changed[QR_RECORD_WORDS(QR_MOST_NODES)], changed_count;
+static int is_dirty, knows_changed;
+static uint64_t stakes[QR_MOST_NODES], heavy_stakes[QR_MOST_NODES];
+static uint64_t outbox[QR_OUTBOX_WORDS], votes[4 * TRAY], answers[TRAY], *list;
+static uint8_t packet[QR_LARGE_CERTIFICATE_BYTES], signed_packet[QR_LARGE_CERTIFICATE_BYTES];
+static size_t nodes, words, made, written, signed_bytes, list_words;
 
 static void put_vote(size_t at, uint64_t kind, size_t node, size_t slot, uint64_t block)
 {
@@ -37,31 +47,34 @@ static uint64_t give_tray(size_t count)
     return qr_tray(record, words, outbox, QR_OUTBOX_WORDS, &made, votes, 4 * count, answers, count);
 }
 
-/* One vote by every node but the own in every slot up to the last: for the block, and so many blocks from it on in turn. */
-static void everyone(uint64_t kind, size_t last, uint64_t block, size_t blocks)
+/* One vote by every node but the own in every slot: for the block, and so many blocks from it on in turn. */
+static void everyone(uint64_t kind, uint64_t block, size_t blocks)
 {
     size_t count = 0;
-    for (size_t slot = 1; slot <= last; slot++)
+    for (size_t slot = 1; slot <= QR_LAST_SLOT; slot++)
         for (size_t node = 1; node < nodes; node++) {
             put_vote(count++, kind, node, slot, block + node % blocks);
-            if (count == TRAY || (slot == last && node == nodes - 1)) {
+            if (count == TRAY || (slot == QR_LAST_SLOT && node == nodes - 1)) {
                 give_tray(count);
                 count = 0;
             }
         }
 }
 
-/* The initial votes come last: before them there is no block to weigh, which is quick. */
-static int fill(const char *name, int full)
+static int make_five(const char *name)
 {
-    if (full) {
-        everyone(QR_VOTE_NOTAR_FALLBACK, QR_LAST_SLOT, FALLBACK, 1);
-        everyone(QR_VOTE_NOTAR_FALLBACK, QR_LAST_SLOT, FALLBACK + 1, 1);
-        everyone(QR_VOTE_FINAL, QR_LAST_SLOT, 0, 1);
-    }
-    everyone(QR_VOTE_NOTAR, full ? QR_LAST_SLOT : 1, 100, full ? 5 : QR_MOST_NODES);
+    everyone(QR_VOTE_NOTAR_FALLBACK, FALLBACK, 1);
+    everyone(QR_VOTE_NOTAR_FALLBACK, FALLBACK + 1, 1);
+    everyone(QR_VOTE_FINAL, 0, 1);
+    everyone(QR_VOTE_NOTAR, 100, 5);
     FILE *file = fopen(name, "wb");
     return !file || fwrite(record, sizeof *record, words, file) != words || fclose(file) != 0;
+}
+
+static int read_record(const char *name, uint64_t *place)
+{
+    FILE *file = fopen(name, "rb");
+    return !file || fread(place, sizeof *place, words, file) != words || fclose(file) != 0;
 }
 
 static uint64_t write_certificate(void)
@@ -70,22 +83,41 @@ static uint64_t write_certificate(void)
     return qr_write_certificate(record, words, packet, sizeof packet, &written, kind, QR_LAST_SLOT, FALLBACK);
 }
 
-enum operation { NONE, COPY, TEST, LOOK, VOTE, TRAY_OF_VOTES, WRITE, CHECK, LIGHT, OPERATIONS };
+static void put_number(uint64_t number)
+{
+    for (; number > 0x7F; number >>= 7)
+        signed_packet[signed_bytes++] = number | 0x80;
+    signed_packet[signed_bytes++] = number;
+}
 
-/* All names are looked at, so that each costs the same. */
+/* A notar certificate of slot 1 that the first nodes signed. */
+static void sign(size_t signers)
+{
+    int is_large = nodes > QR_MOST_SMALL;
+    put_number(QR_CERTIFICATE_NOTAR + (is_large ? QR_LARGE_KINDS : 0));
+    put_number(1);
+    put_number(7);
+    put_number(UINT64_MAX >> (64 - signers));
+    for (int i = 1; i < (is_large ? LARGE_MASKS : SMALL_MASKS); i++)
+        put_number(0);
+}
+
+enum operation { TEST, LOOK, VOTE, TRAY_OF_VOTES, WRITE, CHECK, CHECK_3, CHECK_64, LIGHT, DIFFER, OPERATIONS };
+
 static enum operation named(const char *name)
 {
-    static const char *const names[OPERATIONS] = {"none", "copy", "test", "look", "vote", "tray", "write", "check", "light"};
-    enum operation found = OPERATIONS;
-    for (int i = 0; i < OPERATIONS; i++)
-        if (!strcmp(names[i], name))
-            found = i;
-    return found;
+    static const char *const names[OPERATIONS] = {"test",  "look",   "vote",    "tray",  "write",
+                                                  "check", "check3", "check64", "light", "differ"};
+    enum operation operation = 0;
+    while (operation < OPERATIONS && strcmp(names[operation], name))
+        operation++;
+    return operation;
 }
 
 static uint64_t operate(enum operation operation)
 {
     uint64_t values[5], missing;
+    size_t lines;
     switch (operation) {
     case TEST: return qr_vote(record, words, outbox, QR_OUTBOX_WORDS, &made, 9, 1, 1, 7) != QR_BAD_KIND;
     case LOOK: return qr_look(record, words, outbox, QR_OUTBOX_WORDS, &made);
@@ -93,32 +125,99 @@ static uint64_t operate(enum operation operation)
     case TRAY_OF_VOTES: return give_tray(VOTES);
     case WRITE: return write_certificate();
     case CHECK: return qr_check_certificate(stakes, nodes, packet, written, values, &missing);
-    case LIGHT: return qr_check_certificate(stakes, nodes, light, nodes > QR_MOST_SMALL ? 67 : 5, values, &missing) != QR_TOO_LIGHT;
-    default: return operation == OPERATIONS;
+    case CHECK_3:
+    case CHECK_64: return qr_check_certificate(heavy_stakes, nodes, signed_packet, signed_bytes, values, &missing);
+    case LIGHT: return qr_check_certificate(stakes, nodes, signed_packet, signed_bytes, values, &missing) != QR_TOO_LIGHT;
+    case DIFFER: return qr_differ(record, words, other, words, list, list_words, &lines);
+    default: return 1;
     }
 }
 
-/* The record that every round begins with, and what the operations need. */
-static int prepare(const char *name)
+/* Puts back what the operation changed, and no more, so that the rest of the record stays where a host's would stay, near. */
+static void renew(void)
 {
-    int empty = !strcmp(name, "empty");
-    FILE *file = empty ? NULL : fopen(name, "rb");
-    if (!empty && (!file || fread(record, sizeof *record, words, file) != words || fclose(file) != 0))
+    if (!is_dirty)
+        return;
+    if (!knows_changed)
+        for (size_t i = 0; i < words; i++)
+            if (record[i] != kept[i])
+                changed[changed_count++] = i;
+    knows_changed = 1;
+    for (size_t i = 0; i < changed_count; i++)
+        record[changed[i]] = kept[changed[i]];
+}
+
+static int rounds(enum operation operation, unsigned long count)
+{
+    for (; count > 0; count--) {
+        renew();
+        if (operate(operation) != 0)
+            return 1;
+        is_dirty = operation == VOTE || operation == TRAY_OF_VOTES;
+    }
+    return 0;
+}
+
+static double seconds(void)
+{
+    struct timespec now;
+    clock_gettime(CLOCK_MONOTONIC, &now);
+    return now.tv_sec + now.tv_nsec / 1e9;
+}
+
+/* The least of so many batches, each at least so long; fewer where they take longer than all of them should. */
+static int tell_time(enum operation operation)
+{
+    double least = 0, begun, took = 0;
+    unsigned long count = 1;
+    if (rounds(operation, 1))
+        return 1;
+    for (; took < BATCH_SECONDS; count *= took < BATCH_SECONDS ? 2 : 1) {
+        begun = seconds();
+        rounds(operation, count);
+        took = seconds() - begun;
+    }
+    double all = seconds();
+    for (int done = 0; done < BATCHES && (done < LEAST_BATCHES || seconds() - all < SECONDS); done++) {
+        begun = seconds();
+        rounds(operation, count);
+        took = seconds() - begun;
+        if (done == 0 || took < least)
+            least = took;
+    }
+    printf("%.1f\n", least / count * 1e9);
+    return 0;
+}
+
+/* The record that every round begins with, and what the operations need. */
+static int prepare(const char *name, enum operation operation, const char *other_name)
+{
+    int is_empty = !strcmp(name, "empty");
+    if (!is_empty && read_record(name, record))
         return 1;
     for (size_t i = 0; i < VOTES; i++) {
         size_t node = 1 + i / QR_LAST_SLOT % (nodes - 1);
-        put_vote(i, empty ? QR_VOTE_NOTAR : QR_VOTE_NOTAR_FALLBACK, node, 1 + i % QR_LAST_SLOT, empty ? 100 + node % 5 : 22);
+        put_vote(i, is_empty ? QR_VOTE_NOTAR : QR_VOTE_NOTAR_FALLBACK, node, 1 + i % QR_LAST_SLOT, is_empty ? 100 + node % 5 : 22);
     }
-    light[0] = QR_CERTIFICATE_SKIP + (nodes > QR_MOST_SMALL ? QR_LARGE_KINDS : 0);
-    light[1] = 1;
-    light[3] = nodes > 3 ? 7 : 1;
+    size_t signers = operation == CHECK_64 && nodes > 64 ? 64 : operation == CHECK_64 ? nodes : nodes > 3 || operation == CHECK_3 ? 3 : 1;
+    for (size_t i = 0; i < nodes; i++)
+        heavy_stakes[i] = i < signers ? HEAVY : 1;
+    sign(signers);
+    if (operation == DIFFER) {
+        list_words = QR_LINE_WORDS * 8 * QR_LAST_SLOT * nodes;
+        list = malloc(list_words * sizeof *list);
+        if (!list || read_record(other_name, other))
+            return 1;
+    }
     write_certificate();
-    return qr_look(record, words, outbox, QR_OUTBOX_WORDS, &made) != QR_DONE;
+    uint64_t number = qr_look(record, words, outbox, QR_OUTBOX_WORDS, &made);
+    memcpy(kept, record, words * sizeof *record);
+    return number != QR_DONE;
 }
 
 int main(int count, char **word)
 {
-    if (count != 5)
+    if (count < 5)
         return 1;
     nodes = strtoul(word[1], NULL, 10);
     for (size_t i = 0; i < QR_MOST_NODES; i++)
@@ -126,18 +225,10 @@ int main(int count, char **word)
     words = qr_record_words(nodes);
     if (nodes < 2 || qr_start(record, words, stakes, nodes, 0, 1) != QR_DONE)
         return 1;
-    if (!strcmp(word[3], "full") || !strcmp(word[3], "many"))
-        return fill(word[2], !strcmp(word[3], "full"));
-    if (prepare(word[2]))
-        return 1;
-    memcpy(kept, record, words * sizeof *record);
+    if (!strcmp(word[3], "five"))
+        return make_five(word[2]);
     enum operation operation = named(word[3]);
-    int changes = operation == COPY || operation == VOTE || operation == TRAY_OF_VOTES;
-    for (unsigned long round = strtoul(word[4], NULL, 10); round > 0; round--) {
-        if (changes)
-            memcpy(record, kept, words * sizeof *record);
-        if (operate(operation) != 0)
-            return 1;
-    }
-    return 0;
+    if (prepare(word[2], operation, count > 5 ? word[5] : ""))
+        return 1;
+    return !strcmp(word[4], "time") ? tell_time(operation) : rounds(operation, strtoul(word[4], NULL, 10));
 }

@@ -14,6 +14,7 @@ mod refusal;
 mod stakes;
 #[cfg(test)]
 mod tests;
+mod tuned;
 
 use panel::Answer;
 use std::io::{self, BufWriter, Read, Write};
@@ -25,8 +26,9 @@ const USAGE: &str = "usage:
   model compare SEED COUNT [SECONDS LEAST] -- PROGRAM [WORD..]
                                             runs PROGRAM beside the model
   model cover SEED COUNT                    counts what those scripts reach
-  model measure NODES RECORD OPERATION ROUNDS
-                                            one operation, for its cost";
+  model measure SIDE NODES RECORD OPERATION ROUNDS
+                                            one operation, for its cost
+  model record NODES RECORD                 the words of that record";
 
 fn main() -> ExitCode {
     let words: Vec<String> = std::env::args().skip(1).collect();
@@ -56,15 +58,24 @@ fn obey(words: &[&str]) -> Option<io::Result<bool>> {
             let cover = cover::cover(seed.parse().ok()?, count.parse().ok()?);
             Some(cover.show(&mut io::stdout().lock()).map(|()| true))
         }
-        ["measure", nodes, record, operation, rounds] => {
-            let (nodes, rounds) = (nodes.parse().ok()?, rounds.parse().ok()?);
-            let (record, operation) = (record.to_string(), operation.to_string());
-            let task = measure::Task { nodes, record, operation, rounds };
-            measure::measure(&task).map(|()| Ok(true))
+        ["measure", "model", rest @ ..] => measure::by_model(&measure_task(rest)?).map(|()| Ok(true)),
+        ["measure", "tuned", rest @ ..] => measure::by_tuned(&measure_task(rest)?).map(|()| Ok(true)),
+        ["record", nodes, record] => {
+            let words = measure::record(&measure_task(&[nodes, record, "none", "0"])?)?;
+            let bytes: Vec<u8> = words.iter().flat_map(|word| word.to_le_bytes()).collect();
+            Some(io::stdout().lock().write_all(&bytes).map(|()| true))
         }
         ["compare", rest @ ..] => Some(Ok(compare::compare(&compare_task(rest)?))),
         _ => None,
     }
+}
+
+/// A ring has another node than the own.
+fn measure_task(words: &[&str]) -> Option<measure::Task> {
+    let [nodes, record, operation, rounds] = <[&str; 4]>::try_from(words).ok()?;
+    let nodes = nodes.parse().ok().filter(|nodes| (2..=stakes::MOST_NODES).contains(nodes))?;
+    let (record, operation) = (record.to_string(), operation.to_string());
+    Some(measure::Task { nodes, record, operation, rounds: measure::Rounds::parse(rounds)? })
 }
 
 fn compare_task(words: &[&str]) -> Option<compare::Task> {

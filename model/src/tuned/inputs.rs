@@ -1,0 +1,214 @@
+//! The inputs, each with its refusals in the document's order.
+
+#[cfg(test)]
+use super::card::Card;
+use super::layout::*;
+use super::rules::Call;
+use super::sound::{sound, Found};
+
+const BAD_RECORD: u64 = 17;
+const NO_ROOM: u64 = 9;
+
+/// Makes the words a fresh node.
+pub fn start(words: &mut [u64], stakes: &[u64], own: u64, genesis: u64) -> u64 {
+    if words.len() != record_words(stakes.len().min(MOST_NODES)) {
+        return BAD_RECORD;
+    }
+    let total = match total_of(stakes) {
+        Some(total) if own < stakes.len() as u64 && genesis != 0 => total,
+        _ => return 1,
+    };
+    words.fill(0);
+    words[..ARMED].copy_from_slice(&[stakes.len() as u64, total, own, genesis]);
+    words[STAKES..STAKES + stakes.len()].copy_from_slice(stakes);
+    0
+}
+
+/// 17, 9.
+fn open(words: &[u64], outbox: &[u64]) -> Result<Found, u64> {
+    let found = sound(words).ok_or(BAD_RECORD)?;
+    if outbox.len() < OUTBOX_WORDS {
+        return Err(NO_ROOM);
+    }
+    Ok(found)
+}
+
+/// Works on a record, with a table of blocks that fits its ring; answers how
+/// many records were made.
+macro_rules! call {
+    ($words:expr, $outbox:expr, $found:expr, $work:expr) => {
+        match $found.nodes {
+            0..=8 => call!(16, $words, $outbox, $found, $work),
+            9..=64 => call!(128, $words, $outbox, $found, $work),
+            _ => call!(4096, $words, $outbox, $found, $work),
+        }
+    };
+    ($places:literal, $words:expr, $outbox:expr, $found:expr, $work:expr) => {{
+        let mut call = Call::<$places>::new($words, $outbox, $found);
+        $work(&mut call);
+        call.made
+    }};
+}
+
+/// The number, 0 or a refusal's, and how many records were made.
+type Answer = (u64, usize);
+
+fn answer(done: Result<usize, u64>) -> Answer {
+    match done {
+        Ok(made) => (0, made),
+        Err(number) => (number, 0),
+    }
+}
+
+// ---- votes ----
+
+pub fn vote(words: &mut [u64], outbox: &mut [u64], vote: [u64; 4]) -> Answer {
+    answer(open(words, outbox).and_then(|found| {
+        let (head, rows) = words.split_at(STAKES + found.nodes);
+        judge(head, rows, vote)?;
+        Ok(call!(words, outbox, found, |call: &mut Call<'_, _>| take(call, vote)))
+    }))
+}
+
+/// 4, 3, 2, 6, 5, 7, 8.
+fn judge(head: &[u64], rows: &[u64], [kind, node, slot, block]: [u64; 4]) -> Result<(), u64> {
+    if !(1..=5).contains(&kind) {
+        return Err(4);
+    }
+    if slot < 1 || slot > LAST_SLOT as u64 {
+        return Err(3);
+    }
+    if node >= head[COUNT] {
+        return Err(2);
+    }
+    if node == head[OWN] {
+        return Err(6);
+    }
+    if (kind <= 2) != (block != 0) {
+        return Err(5);
+    }
+    let at = slot as usize * row_words(head[COUNT] as usize) + ROW_HEAD + node as usize * CELL;
+    let cell = cell(&rows[at..at + CELL]);
+    let (is_kept, has_place) = match kind {
+        1 => (cell[NOTAR] == block, no_initial(cell)),
+        2 => (cell[FALLBACKS].contains(&block), cell[FALLBACKS.end - 1] == 0),
+        3 => (cell[SKIP] != 0, no_initial(cell)),
+        4 => (cell[SKIP_FALLBACK] != 0, true),
+        _ => (cell[FINAL_VOTE] != 0, true),
+    };
+    if is_kept {
+        return Err(7);
+    }
+    if has_place {
+        Ok(())
+    } else {
+        Err(8)
+    }
+}
+
+fn take<const PLACES: usize>(call: &mut Call<'_, PLACES>, [kind, node, slot, block]: [u64; 4]) {
+    call.store(kind, node as usize, slot as usize, block);
+    call.settle();
+}
+
+/// What was weighed for a vote stays for the votes after it.
+pub fn tray(words: &mut [u64], outbox: &mut [u64], votes: &[u64], answers: &mut [u64]) -> Answer {
+    answer(open(words, outbox).and_then(|found| {
+        if answers.len() < votes.len() / 4 {
+            return Err(NO_ROOM);
+        }
+        if votes.len() % 4 != 0 {
+            return Err(12);
+        }
+        Ok(call!(words, outbox, found, |call: &mut Call<'_, _>| {
+            for (vote, answer) in votes.chunks_exact(4).zip(answers.iter_mut()) {
+                let vote = vote.try_into().expect("four words");
+                let (head, rows) = call.words();
+                *answer = judge(head, rows, vote).map_or_else(|number| number, |()| 0);
+                if *answer == 0 {
+                    take(call, vote);
+                }
+            }
+        }))
+    }))
+}
+
+/// A vote stored and no rule run, to fill a record; it has a place.
+pub fn store_vote(words: &mut [u64], kind: u64, node: usize, slot: usize, block: u64) {
+    let found = Found { nodes: words[COUNT] as usize, voted: 0 };
+    Call::<1>::new(words, &mut [], found).store(kind, node, slot, block);
+}
+
+// ---- the other inputs ----
+
+pub fn look(words: &mut [u64], outbox: &mut [u64]) -> Answer {
+    answer(
+        open(words, outbox).map(|found| call!(words, outbox, found, |call: &mut Call<'_, _>| call.settle())),
+    )
+}
+
+/// 17, 3; the card's words beside it.
+#[cfg(test)]
+pub fn card(words: &[u64], slot: u64) -> (u64, [u64; CARD_WORDS]) {
+    match sound(words) {
+        None => (BAD_RECORD, [0; CARD_WORDS]),
+        Some(_) if slot < 1 || slot > LAST_SLOT as u64 => (3, [0; CARD_WORDS]),
+        Some(found) => {
+            let row = &words[STAKES + found.nodes + slot as usize * row_words(found.nodes)..];
+            (0, Card::of(row).words())
+        }
+    }
+}
+
+/// 3, 5, 11, 7, 8; then the block is kept and the rules are run.
+#[cfg(test)]
+pub fn block(words: &mut [u64], outbox: &mut [u64], block: [u64; 4]) -> Answer {
+    answer(open(words, outbox).and_then(|found| {
+        let [slot, number, parent_slot, parent] = block;
+        if slot < 1 || slot > LAST_SLOT as u64 {
+            return Err(3);
+        }
+        if number == 0 || parent == 0 {
+            return Err(5);
+        }
+        if parent_slot >= slot || (parent_slot == 0 && parent != words[GENESIS]) {
+            return Err(11);
+        }
+        let places = &mut words[STAKES + found.nodes + slot as usize * row_words(found.nodes)..][..BLOCKS];
+        let kept: Vec<&[u64]> = places.chunks_exact(BLOCK).take_while(|kept| kept[0] != 0).collect();
+        if kept.contains(&&block[1..]) {
+            return Err(7);
+        }
+        let free = kept.len() * BLOCK;
+        if free == BLOCKS || kept.iter().any(|kept| kept[0] == number) {
+            return Err(8);
+        }
+        places[free..free + BLOCK].copy_from_slice(&block[1..]);
+        Ok(call!(words, outbox, found, |call: &mut Call<'_, _>| call.settle()))
+    }))
+}
+
+/// 3, 10, 7; then the window's skips are cast and the rules are run.
+#[cfg(test)]
+pub fn timeout(words: &mut [u64], outbox: &mut [u64], slot: u64) -> Answer {
+    answer(open(words, outbox).and_then(|found| {
+        if slot < 1 || slot > LAST_SLOT as u64 {
+            return Err(3);
+        }
+        let slot = slot as usize;
+        if words[ARMED + window_of(slot)] == 0 {
+            return Err(10);
+        }
+        let row = &mut words[STAKES + found.nodes + slot * row_words(found.nodes)..];
+        if row[TIMED_OUT] != 0 {
+            return Err(7);
+        }
+        row[TIMED_OUT] = 1;
+        Ok(call!(words, outbox, found, |call: &mut Call<'_, _>| {
+            if call.has_no_initial(slot) {
+                call.cast_skips(slot);
+            }
+            call.settle();
+        }))
+    }))
+}

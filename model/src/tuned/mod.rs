@@ -1,0 +1,33 @@
+//! The node's operations once more, tuned as a good programmer would tune them
+//! by hand, for `measure`: a column that says what the work itself costs. It
+//! takes a record in lent words, as the product does, tests it at every call
+//! and trusts nothing in it.
+//!
+//! What makes it quick is plain. A row without votes is found by or-ing its
+//! words. A card is recounted in the pass that tests the cells, and rules read
+//! it. Where it does not tell, the votes of a slot are weighed in one pass, by a
+//! small table of blocks; what was weighed is kept for the rest of the call.
+//! Masks are stepped through from signer to signer.
+//!
+//! Block numbers that were chosen to fall on one place of that table make it
+//! slow, up to blocks times blocks. The product has no such table.
+
+mod card;
+mod checker;
+mod inputs;
+mod layout;
+mod rules;
+mod sound;
+#[cfg(test)]
+mod tests;
+mod weights;
+mod writer;
+
+pub use checker::check_certificate;
+#[cfg(test)]
+pub use checker::{check_proof, Check};
+#[cfg(test)]
+pub use inputs::{block, card, timeout};
+pub use inputs::{look, start, store_vote, tray, vote};
+pub use layout::{record_words, OUTBOX_WORDS};
+pub use writer::write_certificate;

@@ -1,0 +1,354 @@
+//! The rules A to G, run until none applies.
+
+use super::card::Card;
+use super::layout::*;
+use super::sound::Found;
+use super::weights::{behind, Blocks, Weights};
+
+const ROWS: usize = LAST_SLOT + 1;
+
+const TOLD_FINAL: u64 = 6;
+const TOLD_ARMED: u64 = 7;
+const TOLD_CONFLICT: u64 = 8;
+
+/// A call under way on a record that passed its test. The table of blocks has
+/// twice as many places as the ring has nodes, or more.
+pub struct Call<'a, const PLACES: usize> {
+    head: &'a mut [u64],
+    rows: &'a mut [u64],
+    outbox: &'a mut [u64],
+    pub made: usize,
+    nodes: usize,
+    total: u64,
+    own: usize,
+    /// Bit s: slot s has votes.
+    voted: u32,
+    /// Bit s: slot s was weighed, and no block was voted for in it since.
+    weighed: u32,
+    weights: [Weights; ROWS],
+    blocks: Blocks<PLACES>,
+}
+
+impl<'a, const PLACES: usize> Call<'a, PLACES> {
+    #[inline(always)]
+    pub fn new(words: &'a mut [u64], outbox: &'a mut [u64], found: Found) -> Self {
+        let (head, rows) = words.split_at_mut(STAKES + found.nodes);
+        Call {
+            nodes: found.nodes,
+            total: head[TOTAL],
+            own: head[OWN] as usize,
+            voted: found.voted,
+            head,
+            rows,
+            outbox,
+            made: 0,
+            weighed: 0,
+            weights: [Weights::default(); ROWS],
+            blocks: Blocks::new(),
+        }
+    }
+
+    // ---- reading ----
+
+    pub fn words(&self) -> (&[u64], &[u64]) {
+        (self.head, self.rows)
+    }
+
+    fn row(&self, slot: usize) -> &[u64] {
+        &self.rows[slot * row_words(self.nodes)..][..row_words(self.nodes)]
+    }
+
+    fn cells(&self, slot: usize) -> &[u64] {
+        &self.row(slot)[ROW_HEAD..]
+    }
+
+    fn card(&self, slot: usize) -> Card {
+        Card::of(self.row(slot))
+    }
+
+    fn stakes(&self) -> &[u64] {
+        &self.head[STAKES..]
+    }
+
+    fn own_cell(&self, slot: usize) -> &Cell {
+        cell(&self.cells(slot)[self.own * CELL..][..CELL])
+    }
+
+    pub fn has_no_initial(&self, slot: usize) -> bool {
+        no_initial(self.own_cell(slot))
+    }
+
+    fn is_armed(&self, slot: usize) -> bool {
+        self.head[ARMED + window_of(slot)] != 0
+    }
+
+    /// The parent that a block of a slot is kept with.
+    fn kept(&self, slot: usize, number: u64) -> Option<(usize, u64)> {
+        let mut kept = self.row(slot)[..BLOCKS].chunks_exact(BLOCK).take_while(|block| block[0] != 0);
+        kept.find(|block| block[0] == number).map(|block| (block[1] as usize, block[2]))
+    }
+
+    fn has_votes(&self, slot: usize) -> bool {
+        self.voted >> slot & 1 == 1
+    }
+
+    fn weights(&mut self, slot: usize) -> &Weights {
+        if self.weighed >> slot & 1 == 0 {
+            self.weighed |= 1 << slot;
+            self.weights[slot] = Weights::default();
+            if self.has_votes(slot) {
+                let cells = &self.rows[slot * row_words(self.nodes)..][ROW_HEAD..row_words(self.nodes)];
+                self.weights[slot] = Weights::of(cells, &self.head[STAKES..], self.total, &mut self.blocks);
+            }
+        }
+        &self.weights[slot]
+    }
+
+    fn holds_skip(&self, slot: usize) -> bool {
+        reaches(self.card(slot).skip_certificate, 3, self.total)
+    }
+
+    /// Kind 3 for one block; kind 2 is held only where 3 is.
+    fn holds_block(&self, slot: usize, block: u64) -> bool {
+        let card = self.card(slot);
+        (card.leader == block && card.is_notarized(self.total))
+            || reaches(behind(block, self.cells(slot), self.stakes()), 3, self.total)
+    }
+
+    fn holds_some_block(&mut self, slot: usize) -> bool {
+        if self.card(slot).is_notarized(self.total) {
+            return true;
+        }
+        self.weights(slot);
+        let cells = &self.rows[slot * row_words(self.nodes)..][ROW_HEAD..row_words(self.nodes)];
+        self.weights[slot].certify(cells, &self.head[STAKES..], self.total)
+    }
+
+    // ---- writing ----
+
+    fn tell(&mut self, kind: u64, slot: usize, block: u64) {
+        self.outbox[3 * self.made..3 * self.made + 3].copy_from_slice(&[kind, slot as u64, block]);
+        self.made += 1;
+    }
+
+    /// The vote has a place in that cell.
+    pub fn store(&mut self, kind: u64, node: usize, slot: usize, block: u64) {
+        let mut card = self.card(slot);
+        card.add(kind, node, block, self.cells(slot), self.stakes());
+        let row = slot * row_words(self.nodes);
+        self.rows[row + CARD..row + ROW_HEAD].copy_from_slice(&card.words());
+        let cell = &mut self.rows[row + ROW_HEAD + node * CELL..][..CELL];
+        match kind {
+            1 => cell[NOTAR] = block,
+            2 => *cell[FALLBACKS].iter_mut().find(|place| **place == 0).expect("a free place") = block,
+            3 => cell[SKIP] = 1,
+            4 => cell[SKIP_FALLBACK] = 1,
+            _ => cell[FINAL_VOTE] = 1,
+        }
+        self.voted |= 1 << slot;
+        if kind <= 2 {
+            self.weighed &= !(1 << slot);
+        }
+    }
+
+    fn cast(&mut self, kind: u64, slot: usize, block: u64) {
+        self.store(kind, self.own, slot, block);
+        self.tell(kind, slot, block);
+    }
+
+    pub fn cast_skips(&mut self, slot: usize) -> bool {
+        let before = self.made;
+        let first = window_of(slot) * WINDOW + 1;
+        for slot in first..first + WINDOW {
+            if self.has_no_initial(slot) {
+                self.cast(3, slot, 0);
+            }
+        }
+        self.made > before
+    }
+
+    // ---- rules ----
+
+    /// From slot 1 again after each rule that applies.
+    pub fn settle(&mut self) {
+        while (1..=LAST_SLOT).any(|slot| self.apply(slot)) {}
+    }
+
+    fn apply(&mut self, slot: usize) -> bool {
+        self.arm(slot)
+            || self.vote_in(slot)
+            || self.finalize(slot)
+            || (self.row(slot)[FINAL] != 0 && self.walk(slot))
+    }
+
+    /// A.
+    fn arm(&mut self, slot: usize) -> bool {
+        let applies = is_first(slot) && !self.is_armed(slot) && self.some_parent_ready(slot);
+        if applies {
+            self.head[ARMED + window_of(slot)] = 1;
+            self.tell(TOLD_ARMED, slot, 0);
+        }
+        applies
+    }
+
+    fn some_parent_ready(&mut self, slot: usize) -> bool {
+        for below in (1..slot).rev() {
+            if self.holds_some_block(below) {
+                return true;
+            }
+            if !self.holds_skip(below) {
+                return false;
+            }
+        }
+        true
+    }
+
+    fn is_ready(&mut self, slot: usize, parent_slot: usize, parent: u64) -> bool {
+        let held = match parent_slot {
+            0 => parent == self.head[GENESIS],
+            below => self.holds_block(below, parent),
+        };
+        held && (parent_slot + 1..slot).all(|between| self.holds_skip(between))
+    }
+
+    /// B without an own initial vote, C, D and E with one.
+    fn vote_in(&mut self, slot: usize) -> bool {
+        let own = *self.own_cell(slot);
+        if no_initial(&own) {
+            self.notarize(slot)
+        } else {
+            self.vote_final(slot, &own) || self.fall_back(slot, &own) || self.fall_back_to_skip(slot, &own)
+        }
+    }
+
+    /// B.
+    fn notarize(&mut self, slot: usize) -> bool {
+        let &[number, parent_slot, parent] =
+            <&[u64; BLOCK]>::try_from(&self.row(slot)[..BLOCK]).expect("three words");
+        let parent_slot = parent_slot as usize;
+        let applies = number != 0
+            && if is_first(slot) {
+                self.is_ready(slot, parent_slot, parent)
+            } else {
+                parent_slot == slot - 1 && self.own_cell(slot - 1)[NOTAR] == parent
+            };
+        if applies {
+            self.cast(1, slot, number);
+        }
+        applies
+    }
+
+    /// C.
+    fn vote_final(&mut self, slot: usize, own: &Cell) -> bool {
+        let card = self.card(slot);
+        let applies = own[NOTAR] != 0
+            && own[FALLBACKS.start] | own[SKIP_FALLBACK] | own[FINAL_VOTE] == 0
+            && card.leader == own[NOTAR]
+            && card.is_notarized(self.total);
+        if applies {
+            self.cast(5, slot, 0);
+        }
+        applies
+    }
+
+    /// D.
+    fn fall_back(&mut self, slot: usize, own: &Cell) -> bool {
+        let (card, total) = (self.card(slot), self.total);
+        if !card.backs(card.weight, total) {
+            return false;
+        }
+        let weights = *self.weights(slot);
+        for &(block, weight) in weights.heavy() {
+            if block == own[NOTAR]
+                || !card.backs(weight, total)
+                || !(is_first(slot) || self.is_kept_upon_certified(slot, block))
+            {
+                continue;
+            }
+            let skipped = self.cast_skips(slot);
+            let falls_back = own[FINAL_VOTE] == 0 && !own[FALLBACKS].contains(&block);
+            if falls_back {
+                self.cast(2, slot, block);
+            }
+            if skipped || falls_back {
+                return true;
+            }
+        }
+        false
+    }
+
+    /// Genesis's row has no votes, so nothing is held there.
+    fn is_kept_upon_certified(&self, slot: usize, block: u64) -> bool {
+        let kept = self.kept(slot, block);
+        kept.map_or(false, |(below, parent)| self.holds_block(below, parent))
+    }
+
+    /// E.
+    fn fall_back_to_skip(&mut self, slot: usize, own: &Cell) -> bool {
+        if own[NOTAR] == 0 || !self.is_scattered(slot) {
+            return false;
+        }
+        let skipped = self.cast_skips(slot);
+        let falls_back = own[FINAL_VOTE] | own[SKIP_FALLBACK] == 0;
+        if falls_back {
+            self.cast(4, slot, 0);
+        }
+        skipped || falls_back
+    }
+
+    /// Skip votes and those for all blocks but the leading one have 40 percent.
+    /// Nobody has both, so with the leading one they are at most all.
+    fn is_scattered(&mut self, slot: usize) -> bool {
+        let (card, total) = (self.card(slot), self.total);
+        if reaches(card.skip, 2, total) {
+            return true;
+        }
+        reaches(total - card.weight, 2, total)
+            && reaches(card.skip + self.weights(slot).notar - card.weight, 2, total)
+    }
+
+    /// F.
+    fn finalize(&mut self, slot: usize) -> bool {
+        let card = self.card(slot);
+        card.is_final(self.total)
+            && card.leader != self.row(slot)[FINAL]
+            && self.tell_final(slot, card.leader)
+    }
+
+    fn row_word(&mut self, slot: usize, place: usize) -> &mut u64 {
+        &mut self.rows[slot * row_words(self.nodes) + place]
+    }
+
+    /// A block is final: told where the slot has none, and once where it has another.
+    fn tell_final(&mut self, slot: usize, block: u64) -> bool {
+        if self.row(slot)[FINAL] == 0 {
+            *self.row_word(slot, FINAL) = block;
+            self.tell(TOLD_FINAL, slot, block);
+            return true;
+        }
+        let applies = self.row(slot)[CLASH] == 0;
+        if applies {
+            *self.row_word(slot, CLASH) = 1;
+            self.tell(TOLD_CONFLICT, slot, block);
+        }
+        applies
+    }
+
+    /// G.
+    fn walk(&mut self, slot: usize) -> bool {
+        let (before, mut slot) = (self.made, slot);
+        while let Some((below, parent)) = self.kept(slot, self.row(slot)[FINAL]) {
+            if below == 0 {
+                break;
+            }
+            if self.row(below)[FINAL] != parent {
+                self.tell_final(below, parent);
+            }
+            if self.row(below)[FINAL] != parent {
+                break;
+            }
+            slot = below;
+        }
+        self.made > before
+    }
+}

@@ -1,0 +1,159 @@
+//! The test of a record, refusal 17.
+
+use super::card::Card;
+use super::layout::*;
+use super::weights::{Blocks, Weights};
+
+/// What the test found on the way.
+#[derive(Clone, Copy)]
+pub struct Found {
+    pub nodes: usize,
+    /// Bit s: slot s has votes.
+    pub voted: u32,
+}
+
+/// None is 17.
+pub fn sound(words: &[u64]) -> Option<Found> {
+    match nodes_of(words.len())? {
+        nodes @ 0..=8 => rows_fit::<16>(words, nodes),
+        nodes @ 9..=64 => rows_fit::<128>(words, nodes),
+        nodes => rows_fit::<4096>(words, nodes),
+    }
+}
+
+/// One table of blocks for all rows, made where one asks for it.
+fn rows_fit<const PLACES: usize>(words: &[u64], nodes: usize) -> Option<Found> {
+    let (head, rows) = words.split_at(STAKES + nodes);
+    if !head_fits(head, nodes) {
+        return None;
+    }
+    let (mut voted, mut blocks) = (0, None::<Blocks<PLACES>>);
+    for (slot, row) in rows.chunks_exact(row_words(nodes)).enumerate() {
+        if is_blank(row) {
+            continue;
+        }
+        if slot == 0 || !row_fits(slot, row, head, &mut blocks) {
+            return None;
+        }
+        voted |= 1 << slot;
+    }
+    Some(Found { nodes, voted })
+}
+
+/// Or-ing a few words at a time, so that a row with votes is left at its front.
+fn is_blank(words: &[u64]) -> bool {
+    let parts = words.chunks_exact(32);
+    let or = |part: &[u64]| part.iter().fold(0, |all, word| all | word);
+    let rest = or(parts.remainder());
+    rest == 0 && parts.into_iter().all(|part| or(part) == 0)
+}
+
+fn head_fits(head: &[u64], nodes: usize) -> bool {
+    head[COUNT] == nodes as u64
+        && head[OWN] < nodes as u64
+        && head[GENESIS] != 0
+        && head[ARMED..ARMED + WINDOWS].iter().all(|&flag| flag <= 1)
+        && total_of(&head[STAKES..]) == Some(head[TOTAL])
+}
+
+fn row_fits<const PLACES: usize>(
+    slot: usize,
+    row: &[u64],
+    head: &[u64],
+    blocks: &mut Option<Blocks<PLACES>>,
+) -> bool {
+    let (row_head, cells) = row.split_at(ROW_HEAD);
+    row_head[TIMED_OUT] <= 1
+        && row_head[CLASH] <= 1
+        && blocks_fit(slot, &row_head[..BLOCKS], head[GENESIS])
+        && votes_fit(&Card::of(row_head), cells, head, blocks)
+}
+
+/// Filled from the front, no number twice, each with a parent that 5 and 11 let
+/// pass.
+fn blocks_fit(slot: usize, blocks: &[u64], genesis: u64) -> bool {
+    let used = blocks.chunks_exact(BLOCK).take_while(|block| block[0] != 0).count();
+    let (kept, free) = blocks.split_at(used * BLOCK);
+    free.iter().fold(0, |all, word| all | word) == 0
+        && kept.chunks_exact(BLOCK).enumerate().all(|(place, block)| {
+            let &[number, parent_slot, parent] = <&[u64; BLOCK]>::try_from(block).expect("three words");
+            parent != 0
+                && parent_slot < slot as u64
+                && (parent_slot != 0 || parent == genesis)
+                && kept.chunks_exact(BLOCK).take(place).all(|earlier| earlier[0] != number)
+        })
+}
+
+fn cell_fits(cell: &Cell) -> bool {
+    let &[notar, skip, first, second, third, skip_fallback, final_vote] = cell;
+    (skip | skip_fallback | final_vote) <= 1
+        && (notar == 0 || skip == 0)
+        && (second == 0 || (first != 0 && second != first))
+        && (third == 0 || (second != 0 && third != second && third != first))
+}
+
+/// Every cell, the card by a recount, and own fallbacks.
+fn votes_fit<const PLACES: usize>(
+    card: &Card,
+    cells: &[u64],
+    head: &[u64],
+    blocks: &mut Option<Blocks<PLACES>>,
+) -> bool {
+    let (stakes, total) = (&head[STAKES..], head[TOTAL]);
+    let sums = match sum(cells, stakes, card.leader) {
+        Some(sums) if sums.agree(card) => sums,
+        _ => return false,
+    };
+    let own = cell(&cells[CELL * head[OWN] as usize..][..CELL]);
+    if sums.has_majority() && own[FALLBACKS.start] == 0 {
+        return true;
+    }
+    let weights = Weights::of(cells, stakes, total, blocks.get_or_insert_with(Blocks::new));
+    let backs = |&block: &u64| block == 0 || card.backs(weights.heavy_of(block), total);
+    weights.leader == card.leader && own[FALLBACKS].iter().all(backs)
+}
+
+/// What the votes of a slot weigh, in one pass; the card's own block is weighed
+/// in it.
+#[derive(Default)]
+struct Sums {
+    skip: u64,
+    final_votes: u64,
+    skip_certificate: u64,
+    notar: u64,
+    leader: u64,
+}
+
+/// None where a cell is out of range.
+fn sum(cells: &[u64], stakes: &[u64], leader: u64) -> Option<Sums> {
+    let mut sums = Sums::default();
+    for (words, &stake) in cells.chunks_exact(CELL).zip(stakes) {
+        let cell = cell(words);
+        if !cell_fits(cell) {
+            return None;
+        }
+        // Flags are 0 or 1.
+        sums.skip += stake * cell[SKIP];
+        sums.final_votes += stake * cell[FINAL_VOTE];
+        sums.skip_certificate += stake * (cell[SKIP] | cell[SKIP_FALLBACK]);
+        if cell[NOTAR] != 0 {
+            sums.notar += stake;
+            sums.leader += if cell[NOTAR] == leader { stake } else { 0 };
+        }
+    }
+    Some(sums)
+}
+
+impl Sums {
+    /// All but that no other block leads.
+    fn agree(&self, card: &Card) -> bool {
+        let Sums { skip, final_votes, skip_certificate, leader: weight, .. } = *self;
+        *card == Card { skip, final_votes, skip_certificate, leader: card.leader, weight }
+            && (card.leader == 0) == (self.notar == 0)
+    }
+
+    /// No other block can lead, or there is none.
+    fn has_majority(&self) -> bool {
+        2 * self.leader > self.notar || self.notar == 0
+    }
+}
