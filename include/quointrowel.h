@@ -37,8 +37,9 @@ enum qr_number {
     QR_BAD_KIND = 4,      /* kind not 1 to 5; of a certificate with a large table, not 11 to 15 */
     QR_BAD_BLOCK = 5,     /* block 0 where one is needed, or not 0 where none is */
     QR_OWN_NAME = 6,      /* vote in the own node's name from outside */
-    QR_ALREADY_KEPT = 7,  /* that very vote, block with parent, or timeout is kept */
-    QR_OTHER_STANDS = 8,  /* another stands in its place; a fifth block of a slot, or a kept block with another parent */
+    QR_ALREADY_KEPT = 7,  /* that very vote, block with parent, or timeout is kept; a certificate of that kind, slot and block is */
+    QR_OTHER_STANDS = 8,  /* another stands in its place; a fifth block of a slot, or a kept block with another parent; a tenth
+                             certificate of kind 3 */
     QR_NO_ROOM = 9,       /* outbox below 480 words; buffer below its bytes (enum qr_size); too few places for a tray's answers;
                              a list too short for all lines of a comparison */
     QR_NOT_ARMED = 10,    /* timeout for a window that is not armed */
@@ -104,8 +105,11 @@ enum qr_size {
     QR_LAST_SLOT = 16
 };
 
-/* Words of a record of a ring of so many nodes, 1 to QR_MOST_NODES, exactly: 708 for three nodes, 246,108 for 2,048. */
-#define QR_RECORD_WORDS(nodes) (348 + 120 * (size_t)(nodes))
+/*
+ * Words of a record of a ring of so many nodes, 1 to QR_MOST_NODES, exactly: 1,371 for three nodes, 260,473 for 2,048. With a
+ * large table the signers of each kept certificate take 64 words, else two.
+ */
+#define QR_RECORD_WORDS(nodes) (((size_t)(nodes) > QR_MOST_SMALL ? 14713 : 1011) + 120 * (size_t)(nodes))
 
 /*
  * The same of the library that is linked, which a host compares with those of this header. qr_record_words: by the number
@@ -128,7 +132,7 @@ uint64_t qr_start(uint64_t *record, size_t record_words, const uint64_t *stakes,
                   uint64_t genesis);
 
 /*
- * The four inputs of a node. Each changes the record, writes the records that it makes to the outbox from its front,
+ * The inputs of a node. Each changes the record, writes the records that it makes to the outbox from its front,
  * three words each (kind, slot, block; enum qr_record_kind), and puts their number into *made; words of the outbox past
  * them stay. The host sends the votes out, and an armed window's timeouts begin.
  */
@@ -152,6 +156,17 @@ uint64_t qr_timeout(uint64_t *record, size_t record_words, uint64_t *outbox, siz
 uint64_t qr_look(uint64_t *record, size_t record_words, uint64_t *outbox, size_t outbox_words, size_t *made);
 
 /*
+ * A certificate that another node wrote, as its packet, its signatures verified by the host. It is checked in full against the
+ * record's stakes, as qr_check_certificate does, and kept with its signers: of a slot one each of kinds 1, 2, 4 and 5 and up to
+ * nine of kind 3; with a large table 11, 12, 14, 15 and 13. A certificate is held where the stored votes reach it or where it is
+ * kept, and a held kind 1 counts as 2, a held 2 as 3. The weights of votes do not change; the own node among the signers stores
+ * no own vote. Refusals: 17, 9; the checker's 12, 13, 4, 3, 5, 14, 15 and 12 for leftover bytes; 7 where one of that kind, slot
+ * and block is kept, whoever signed it; 8 where one for another block is kept in its place, and for a tenth of kind 3.
+ */
+uint64_t qr_take(uint64_t *record, size_t record_words, uint64_t *outbox, size_t outbox_words, size_t *made,
+                 const uint8_t *packet, size_t packet_bytes);
+
+/*
  * A run of other nodes' votes in one call, four words a vote: kind, node, slot, block. answers gets one number for each
  * vote, as qr_vote would answer it, from its front; numbers past them stay. The record, the outbox's records in order and
  * the answers are those of as many calls of qr_vote, a refused vote among them included; *made gets the number of records
@@ -164,8 +179,9 @@ uint64_t qr_tray(uint64_t *record, size_t record_words, uint64_t *outbox, size_t
 
 /*
  * Write a packet to the buffer's front and put the number of its bytes into *written; bytes past them and the record
- * stay. A certificate's buffer has at least 32 bytes, a proof's 64; with a large table 768 and 1,536. Refusals: 17, 9, 4, 3,
- * 5, 18, those that apply.
+ * stay. A certificate is written exactly when it is held: where the stored votes reach it, with all stored signers, else with
+ * those of a kept one of the kind asked for, else of a kept 2, else of a kept 1. A certificate's buffer has at least 32 bytes, a
+ * proof's 64; with a large table 768 and 1,536. Refusals: 17, 9, 4, 3, 5, 18, those that apply.
  */
 uint64_t qr_write_certificate(const uint64_t *record, size_t record_words, uint8_t *buffer, size_t buffer_bytes,
                               size_t *written, uint64_t kind, size_t slot, uint64_t block);
@@ -176,8 +192,8 @@ uint64_t qr_write_proof(const uint64_t *record, size_t record_words, uint8_t *bu
 /*
  * A slot's tally card into values: the weight of its skip votes, of its final votes and of those who count in its skip
  * certificate, the block with the most notar weight, the lowest where several have as much, and that weight; these two are 0
- * where there is no notar vote. After every call the card is what a recount of the stored votes gives; words in which one
- * is not are refused with 17 by every call. Zeros beside a refusal. Refusals: 17, 3.
+ * where there is no notar vote. Kept certificates add nothing to it. After every call the card is what a recount of the stored
+ * votes gives; words in which one is not are refused with 17 by every call. Zeros beside a refusal. Refusals: 17, 3.
  */
 uint64_t qr_card(const uint64_t *record, size_t record_words, size_t slot, uint64_t values[5]);
 
@@ -232,9 +248,9 @@ uint64_t qr_write_vote(uint8_t *buffer, size_t buffer_bytes, size_t *written, si
  * Which stored votes of two records differ, from the votes alone: every vote that one record has and the other has not, as
  * lines from the list's front, QR_LINE_WORDS each: slot, node, kind, block and the side that has it, 1 or 2; ascending by
  * slot, node, kind and block. *beside gets the number of lines; 0 of them mean equal stored votes, and only then. Words of
- * the list past the lines stay. The own numbers play no part; where the stake tables differ there is one line of five zeros
- * and nothing else. Refusals: 17, and *beside gets the side whose record is bad, the first if both are; 9, and *beside gets
- * the number of lines needed.
+ * the list past the lines stay. The own numbers and the kept certificates play no part; where the stake tables differ there is
+ * one line of five zeros and nothing else. Refusals: 17, and *beside gets the side whose record is bad, the first if both are;
+ * 9, and *beside gets the number of lines needed.
  */
 enum qr_side {
     QR_TABLES_DIFFER = 0,

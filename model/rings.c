@@ -6,6 +6,7 @@
      look     the rules, with nothing to do
      vote     a vote: an initial one on an empty record, else a notar-fallback
      tray     500 such votes, in every slot in turn, in one call
+     take     the certificate that write writes, taken (a full record)
      write    the notar-fallback certificate of slot 16, signed by all but the own (a full record)
      check    that certificate checked
      check3   a certificate checked that three nodes signed, with nearly all of the stake
@@ -13,7 +14,8 @@
      light    one that three nodes signed (in a ring of three, one), with stakes of 1, refused with 15
      differ   RECORD compared with OTHER
      five     makes the file RECORD, by the library alone: every node but the own has an initial vote for one of five blocks, two
-              notar-fallbacks and a final in every slot */
+              notar-fallbacks and a final in every slot
+     kept     makes one with every place for certificates of every slot taken as well, each signed by all nodes */
 #define _POSIX_C_SOURCE 199309L
 #include <stdint.h>
 #include <stdio.h>
@@ -23,7 +25,7 @@
 
 #include "quointrowel.h"
 
-enum { VOTES = 500, FALLBACK = 20, TRAY = 1000, HEAVY = 1000000, SMALL_MASKS = 2, LARGE_MASKS = 64 };
+enum { VOTES = 500, FALLBACK = 20, BLOCK = 100, TRAY = 1000, HEAVY = 1000000, SMALL_MASKS = 1, LARGE_MASKS = 32 };
 enum { BATCHES = 15, LEAST_BATCHES = 3 };
 static const double BATCH_SECONDS = 0.01, SECONDS = 2.0;
 
@@ -61,12 +63,16 @@ static void everyone(uint64_t kind, uint64_t block, size_t blocks)
         }
 }
 
-static int make_five(const char *name)
+static void make_five(void)
 {
     everyone(QR_VOTE_NOTAR_FALLBACK, FALLBACK, 1);
     everyone(QR_VOTE_NOTAR_FALLBACK, FALLBACK + 1, 1);
     everyone(QR_VOTE_FINAL, 0, 1);
-    everyone(QR_VOTE_NOTAR, 100, 5);
+    everyone(QR_VOTE_NOTAR, BLOCK, 5);
+}
+
+static int write_record(const char *name)
+{
     FILE *file = fopen(name, "wb");
     return !file || fwrite(record, sizeof *record, words, file) != words || fclose(file) != 0;
 }
@@ -90,23 +96,46 @@ static void put_number(uint64_t number)
     signed_packet[signed_bytes++] = number;
 }
 
-/* A notar certificate of slot 1 that the first nodes signed. */
-static void sign(size_t signers)
+/* A certificate that the first nodes signed, all in its mask A. */
+static void sign(uint64_t kind, size_t slot, uint64_t block, size_t signers)
 {
     int is_large = nodes > QR_MOST_SMALL;
-    put_number(QR_CERTIFICATE_NOTAR + (is_large ? QR_LARGE_KINDS : 0));
-    put_number(1);
-    put_number(7);
-    put_number(UINT64_MAX >> (64 - signers));
-    for (int i = 1; i < (is_large ? LARGE_MASKS : SMALL_MASKS); i++)
-        put_number(0);
+    size_t masks = is_large ? LARGE_MASKS : SMALL_MASKS;
+    signed_bytes = 0;
+    put_number(kind + (is_large ? QR_LARGE_KINDS : 0));
+    put_number(slot);
+    put_number(block);
+    for (size_t i = 0; i < 2 * masks; i++) {
+        size_t left = i >= masks || signers <= 64 * i ? 0 : signers - 64 * i;
+        put_number(left == 0 ? 0 : left >= 64 ? UINT64_MAX : UINT64_MAX >> (64 - left));
+    }
 }
 
-enum operation { TEST, LOOK, VOTE, TRAY_OF_VOTES, WRITE, CHECK, CHECK_3, CHECK_64, LIGHT, DIFFER, OPERATIONS };
+static int take_signed(uint64_t kind, size_t slot, uint64_t block)
+{
+    sign(kind, slot, block, nodes);
+    return qr_take(record, words, outbox, QR_OUTBOX_WORDS, &made, signed_packet, signed_bytes) != QR_DONE;
+}
+
+/* Every place for certificates taken. */
+static int make_kept(void)
+{
+    int refused = 0;
+    make_five();
+    for (size_t slot = 1; slot <= QR_LAST_SLOT; slot++) {
+        refused |= take_signed(QR_CERTIFICATE_FAST_FINAL, slot, BLOCK) | take_signed(QR_CERTIFICATE_NOTAR, slot, BLOCK);
+        refused |= take_signed(QR_CERTIFICATE_SKIP, slot, 0) | take_signed(QR_CERTIFICATE_FINAL, slot, 0);
+        for (uint64_t place = 0; place < 9; place++)
+            refused |= take_signed(QR_CERTIFICATE_NOTAR_FALLBACK, slot, FALLBACK + place);
+    }
+    return refused;
+}
+
+enum operation { TEST, LOOK, VOTE, TRAY_OF_VOTES, TAKE, WRITE, CHECK, CHECK_3, CHECK_64, LIGHT, DIFFER, OPERATIONS };
 
 static enum operation named(const char *name)
 {
-    static const char *const names[OPERATIONS] = {"test",  "look",   "vote",    "tray",  "write",
+    static const char *const names[OPERATIONS] = {"test",  "look",   "vote",    "tray",  "take",  "write",
                                                   "check", "check3", "check64", "light", "differ"};
     enum operation operation = 0;
     while (operation < OPERATIONS && strcmp(names[operation], name))
@@ -123,6 +152,7 @@ static uint64_t operate(enum operation operation)
     case LOOK: return qr_look(record, words, outbox, QR_OUTBOX_WORDS, &made);
     case VOTE: return qr_vote(record, words, outbox, QR_OUTBOX_WORDS, &made, votes[0], votes[1], votes[2], votes[3]);
     case TRAY_OF_VOTES: return give_tray(VOTES);
+    case TAKE: return qr_take(record, words, outbox, QR_OUTBOX_WORDS, &made, packet, written);
     case WRITE: return write_certificate();
     case CHECK: return qr_check_certificate(stakes, nodes, packet, written, values, &missing);
     case CHECK_3:
@@ -153,7 +183,7 @@ static int rounds(enum operation operation, unsigned long count)
         renew();
         if (operate(operation) != 0)
             return 1;
-        is_dirty = operation == VOTE || operation == TRAY_OF_VOTES;
+        is_dirty = operation == VOTE || operation == TRAY_OF_VOTES || operation == TAKE;
     }
     return 0;
 }
@@ -197,12 +227,12 @@ static int prepare(const char *name, enum operation operation, const char *other
         return 1;
     for (size_t i = 0; i < VOTES; i++) {
         size_t node = 1 + i / QR_LAST_SLOT % (nodes - 1);
-        put_vote(i, is_empty ? QR_VOTE_NOTAR : QR_VOTE_NOTAR_FALLBACK, node, 1 + i % QR_LAST_SLOT, is_empty ? 100 + node % 5 : 22);
+        put_vote(i, is_empty ? QR_VOTE_NOTAR : QR_VOTE_NOTAR_FALLBACK, node, 1 + i % QR_LAST_SLOT, is_empty ? BLOCK + node % 5 : 22);
     }
     size_t signers = operation == CHECK_64 && nodes > 64 ? 64 : operation == CHECK_64 ? nodes : nodes > 3 || operation == CHECK_3 ? 3 : 1;
     for (size_t i = 0; i < nodes; i++)
         heavy_stakes[i] = i < signers ? HEAVY : 1;
-    sign(signers);
+    sign(QR_CERTIFICATE_NOTAR, 1, 7, signers);
     if (operation == DIFFER) {
         list_words = QR_LINE_WORDS * 8 * QR_LAST_SLOT * nodes;
         list = malloc(list_words * sizeof *list);
@@ -225,8 +255,12 @@ int main(int count, char **word)
     words = qr_record_words(nodes);
     if (nodes < 2 || qr_start(record, words, stakes, nodes, 0, 1) != QR_DONE)
         return 1;
-    if (!strcmp(word[3], "five"))
-        return make_five(word[2]);
+    if (!strcmp(word[3], "five")) {
+        make_five();
+        return write_record(word[2]);
+    }
+    if (!strcmp(word[3], "kept"))
+        return make_kept() || write_record(word[2]);
     enum operation operation = named(word[3]);
     if (prepare(word[2], operation, count > 5 ? word[5] : ""))
         return 1;

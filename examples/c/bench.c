@@ -1,6 +1,7 @@
 /* Bench cases B1 and B9 of the scope document, through the C face: one node of stake 5, one block, its finality proof; and a
-   proof that is too light, with what is missing. Then a vote as a message, a tray of votes and the tally card after it, and a ring of 100 nodes, whose
-   certificates have the kinds 11 to 15. Last a proof that comes byte by byte. */
+   proof that is too light, with what is missing. Then a vote as a message, a tray of votes and the tally card after it, a
+   certificate that one node wrote and another takes, and a ring of 100 nodes, whose certificates have the kinds 11 to 15. Last a
+   proof that comes byte by byte. */
 #include <inttypes.h>
 #include <stdio.h>
 
@@ -107,6 +108,41 @@ static void show_blocks(uint64_t *record, uint64_t *outbox)
     printf("; 21 again: %" PRIu64, number);
     number = qr_block(record, QR_RECORD_WORDS(3), outbox, QR_OUTBOX_WORDS, &made, 2, 21, 1, 11);
     printf("; 21 with another parent: %" PRIu64 "\n", number);
+}
+
+/* Node 1 has everybody's notar votes for block 7 and writes a certificate of them; node 2 has none, takes it, and has a final
+   block whose proof it can write. */
+static void show_taking(uint64_t *record, uint64_t *outbox)
+{
+    const uint64_t stakes[3] = {4, 3, 3};
+    const uint64_t votes[12] = {1, 0, 1, 7, 1, 1, 1, 7, 1, 2, 1, 7};
+    const uint8_t other_block[5] = {0x01, 0x01, 0x08, 0x07, 0x00}, two_signers[5] = {0x01, 0x01, 0x07, 0x03, 0x00};
+    static uint64_t writer[QR_RECORD_WORDS(3)];
+    uint64_t answers[3];
+    uint8_t packet[QR_CERTIFICATE_BYTES], proof[QR_PROOF_BYTES];
+    size_t words = QR_RECORD_WORDS(3), made, written, proof_bytes;
+
+    qr_start(writer, words, stakes, 3, 1, 1);
+    qr_block(writer, words, outbox, QR_OUTBOX_WORDS, &made, 1, 7, 0, 1);
+    qr_tray(writer, words, outbox, QR_OUTBOX_WORDS, &made, votes, 12, answers, 3);
+    uint64_t number = qr_write_certificate(writer, words, packet, sizeof packet, &written, QR_CERTIFICATE_FAST_FINAL, 1, 7);
+    printf("certificate: %" PRIu64 ", %zu bytes\n", number, written);
+    qr_start(record, words, stakes, 3, 2, 1);
+    number = qr_take(record, words, outbox, QR_OUTBOX_WORDS, &made, packet, written);
+    show_records("taken", number, outbox, made);
+    number = qr_take(record, words, outbox, QR_OUTBOX_WORDS, &made, packet, written);
+    printf("again: %" PRIu64, number);
+    number = qr_take(record, words, outbox, QR_OUTBOX_WORDS, &made, other_block, sizeof other_block);
+    printf("; for another block: %" PRIu64, number);
+    number = qr_take(record, words, outbox, QR_OUTBOX_WORDS, &made, two_signers, sizeof two_signers);
+    printf("; by two signers: %" PRIu64, number);
+    number = qr_take(record, words, outbox, QR_OUTBOX_WORDS, &made, packet, written - 1);
+    printf("; a byte short: %" PRIu64 "\n", number);
+    number = qr_write_proof(record, words, proof, sizeof proof, &proof_bytes, 1, 7);
+    printf("its proof: %" PRIu64 ", %zu bytes:", number, proof_bytes);
+    for (size_t i = 0; i < proof_bytes; i++)
+        printf(" %02X", proof[i]);
+    printf("\n");
 }
 
 /* The first bytes of a packet, with their number. */
@@ -221,7 +257,8 @@ int main(void)
     uint8_t packet[QR_PROOF_BYTES];
     size_t made, written;
 
-    if (qr_record_words(3) != QR_RECORD_WORDS(3) || qr_outbox_words() != QR_OUTBOX_WORDS
+    if (qr_record_words(QR_MOST_SMALL) != QR_RECORD_WORDS(QR_MOST_SMALL)
+        || qr_record_words(QR_MOST_NODES) != QR_RECORD_WORDS(QR_MOST_NODES) || qr_outbox_words() != QR_OUTBOX_WORDS
         || qr_pieces_words() != QR_PIECES_WORDS || qr_pieces_bytes() != QR_PIECES_BYTES) {
         fprintf(stderr, "the library is not of this header\n");
         return 1;
@@ -250,6 +287,7 @@ int main(void)
     show_tray(record, outbox);
     show_card(record);
     show_blocks(record, outbox);
+    show_taking(record, outbox);
     show_large(outbox);
     show_differences(record, outbox);
     show_pieces(stakes, 1, long_proof, sizeof long_proof);

@@ -2,7 +2,7 @@
 //! branches of the rules, and the forms of packets.
 
 use crate::gen;
-use crate::node::{Node, LAST_SLOT, MOST_BLOCKS};
+use crate::node::{Cert, Node, Source, LAST_SLOT, MOST_BLOCKS};
 use crate::packet;
 use crate::panel::{lines, Answer, Panel, MOST_LINES};
 use crate::refusal::Refusal;
@@ -35,6 +35,7 @@ const COMMANDS: &[&str] = &[
     "vote",
     "tray",
     "block",
+    "take",
     "timeout",
     "look",
     "cert",
@@ -100,6 +101,50 @@ impl Cover {
         }
     }
 
+    /// What comes of a certificate from others.
+    fn take_certificate(&mut self, panel: &Panel, hex: &str, answered: &[&str]) {
+        let node = match &panel.node {
+            Some(node) => node,
+            None => return,
+        };
+        if node.stakes().family() == Family::Large {
+            self.note(format!("take {}, large table", answered[0]));
+        }
+        if answered[0] != "0" {
+            return self.take_refused(node, hex, answered[0]);
+        }
+        self.take_records(answered);
+        let mut kinds: Vec<&str> =
+            answered[2..].iter().filter_map(|record| record.split(',').next()).collect();
+        kinds.sort_unstable();
+        kinds.dedup();
+        for kind in kinds {
+            self.note(format!("take: made records of kind {kind}"));
+        }
+    }
+
+    /// The checker's refusals of what is kept already, and kinds of the other family.
+    fn take_refused(&mut self, node: &Node, hex: &str, number: &str) {
+        let bytes = if hex == "-" { Vec::new() } else { from_hex(hex) };
+        let mut rest = bytes.as_slice();
+        let numbers: Vec<u64> = std::iter::from_fn(|| packet::take_number(&mut rest).ok()).collect();
+        let (kind, slot, block) = match numbers[..] {
+            [kind, slot, block, ..] => (kind, slot, block),
+            _ => return,
+        };
+        if number == "4" && matches!(kind, 1..=5 | 11..=15) {
+            self.note(match node.stakes().family() {
+                Family::Small => "take 4 for a large kind, small table",
+                Family::Large => "take 4 for a small kind, large table",
+            });
+        }
+        let cert = kind.checked_sub(node.stakes().family().kinds_after());
+        let cert = cert.and_then(|meaning| Cert::of_kind(meaning, block)).filter(|_| slot <= LAST_SLOT);
+        if cert.map_or(false, |cert| node.kept_certificate(slot, cert).is_some()) {
+            self.note(format!("take {number} for one that is kept"));
+        }
+    }
+
     /// The branches of the rules, with a large table once more by that name.
     fn take_notes(&mut self, panel: &mut Panel) {
         let node = match &mut panel.node {
@@ -140,8 +185,9 @@ impl Cover {
         match command {
             "start" if number == "0" => self.take_start(words.len() - 3),
             "vote" | "block" | "timeout" | "look" => self.take_records(&answered),
+            "take" if number != "?" => self.take_certificate(panel, words[1], &answered),
             "tray" if number == "0" => self.take_tray(&answered),
-            "cert" | "proof" if number == "0" => self.take_written(command, answered[2]),
+            "cert" | "proof" if number == "0" => self.take_written(panel, command, answered[2]),
             "piece" if number == "more" => self.pieces += 1,
             "end" if number != "?" => self.take_end(number),
             "card" if number == "0" => self.take_card(panel, words[1]),
@@ -275,6 +321,12 @@ impl Cover {
         if lines.is_empty() && (1..=LAST_SLOT).any(|slot| aside.kept_blocks(slot) != node.kept_blocks(slot)) {
             self.note("differ: no line, other blocks kept");
         }
+        let certificates = |node: &Node, slot| node.kept_certificates(slot).to_vec();
+        if lines.is_empty()
+            && (1..=LAST_SLOT).any(|slot| certificates(aside, slot) != certificates(node, slot))
+        {
+            self.note("differ: no line, other certificates kept");
+        }
         if lines.len() == MOST_LINES {
             self.note("differ: the most lines");
         }
@@ -312,20 +364,44 @@ impl Cover {
         }
     }
 
-    /// Which kinds were written, and by which sort of signers.
-    fn take_written(&mut self, command: &str, hex: &str) {
+    /// Which kinds were written, by which sort of signers, and out of what.
+    fn take_written(&mut self, panel: &Panel, command: &str, hex: &str) {
+        let node = panel.node.as_ref().expect("a node wrote it");
         let bytes = from_hex(hex);
         let mut rest = bytes.as_slice();
         let numbers: Vec<u64> = std::iter::from_fn(|| packet::take_number(&mut rest).ok()).collect();
         let words = Family::of_kind(numbers[0]).mask_words();
         let by_fallback = |cert: &[u64]| cert[3 + words..].iter().any(|&word| word != 0);
-        let forms: Vec<String> = numbers
-            .chunks(3 + 2 * words)
-            .map(|cert| {
-                format!("{}{}", cert[0], if by_fallback(cert) { " with fallback signers" } else { "" })
-            })
-            .collect();
+        let (mut forms, mut kept) = (Vec::new(), Vec::new());
+        for cert in numbers.chunks(3 + 2 * words) {
+            forms.push(format!(
+                "{}{}",
+                cert[0],
+                if by_fallback(cert) { " with fallback signers" } else { "" }
+            ));
+            kept.push(self.take_source(node, cert[0] % 10, cert[1], cert[2]));
+        }
         self.note(format!("{command} written: kind {}", forms.join(" then ")));
+        if kept.contains(&true) && kept.contains(&false) {
+            self.note("proof written of votes and a kept certificate");
+        }
+    }
+
+    /// Whether the signers are those of a kept certificate.
+    fn take_source(&mut self, node: &Node, kind: u64, slot: u64, block: u64) -> bool {
+        let cert = Cert::of_kind(kind, block).expect("a kind that was written");
+        match node.source(slot, cert) {
+            Some(Source::Kept(kept)) => {
+                self.note(format!("kind {kind} from a kept {}", kept.cert.kind()));
+                true
+            }
+            _ => {
+                if node.kept_certificate(slot, cert).is_some() {
+                    self.note("written by votes beside a kept one");
+                }
+                false
+            }
+        }
     }
 
     fn take_start(&mut self, nodes: usize) {

@@ -10,6 +10,7 @@ use std::time::Instant;
 
 const VOTES: usize = 500;
 const FALLBACK: u64 = 20;
+const BLOCK: u64 = 100;
 const HEAVY: u64 = 1_000_000;
 
 /// A time is the least of so many batches, each at least so long; fewer where
@@ -83,9 +84,9 @@ fn seconds(count: u64, mut round: impl FnMut(usize) -> bool) -> Option<f64> {
 fn stored(task: &Task) -> Option<Vec<(u64, usize, Vote)>> {
     let (blocks, lowest, fallback) = match task.record.as_str() {
         "empty" => return Some(Vec::new()),
-        "one" => (1, 100, FALLBACK),
-        "five" => (5, 100, FALLBACK),
-        "each" => (task.nodes, 100, FALLBACK),
+        "one" => (1, BLOCK, FALLBACK),
+        "five" | "kept" => (5, BLOCK, FALLBACK),
+        "each" => (task.nodes, BLOCK, FALLBACK),
         "other" => (5, 5100, FALLBACK + 5000),
         _ => return None,
     };
@@ -97,13 +98,19 @@ fn stored(task: &Task) -> Option<Vec<(u64, usize, Vote)>> {
     Some((1..=LAST_SLOT).flat_map(|slot| (1..task.nodes).flat_map(move |node| four(slot, node))).collect())
 }
 
+/// As many certificates as a slot has places for, meaning and block.
+fn certificates() -> Vec<(u64, u64)> {
+    let one_each = [(1, BLOCK), (2, BLOCK), (4, 0), (5, 0)];
+    one_each.into_iter().chain((0..9).map(|place| (3, FALLBACK + place))).collect()
+}
+
 /// In every slot in turn: an initial vote on an empty record, else a fallback.
 fn vote(task: &Task, i: usize) -> [u64; 4] {
     let slots = LAST_SLOT as usize;
     let node = (1 + i / slots % (task.nodes - 1)) as u64;
     let slot = (1 + i % slots) as u64;
     if task.record == "empty" {
-        [1, node, slot, 100 + node % 5]
+        [1, node, slot, BLOCK + node % 5]
     } else {
         [2, node, slot, 22]
     }
@@ -135,6 +142,7 @@ fn certificate(task: &Task, written: Vec<u8>) -> (Vec<u64>, Vec<u8>, bool) {
 pub fn by_model(task: &Task) -> Option<()> {
     let ones = vec![1; task.nodes];
     let mut node = Node::start(0, 1, &ones).ok()?.with_votes(stored(task)?);
+    (task.record != "kept").then_some(())?;
     node.look();
     let kind = node.stakes().family().kinds_after() + 3;
     let written = packet::write_cert(&node, kind, LAST_SLOT, FALLBACK).unwrap_or_default();
@@ -145,13 +153,14 @@ pub fn by_model(task: &Task) -> Option<()> {
         "look" => node.look().is_empty(),
         "vote" => node.vote(votes[0], votes[1], votes[2], votes[3]).is_ok(),
         "tray" => node.tray(&votes).is_ok(),
+        "take" => node.take(&packet).is_ok(),
         "write" => packet::write_cert(node, kind, LAST_SLOT, FALLBACK).is_ok(),
         "check" | "check3" | "check64" | "light" => {
             black_box(packet::check(black_box(&packet), &stakes)).is_ok() == accepted
         }
         _ => false,
     };
-    let changes = matches!(operation, "vote" | "tray");
+    let changes = matches!(operation, "vote" | "tray" | "take");
     repeat(&task.rounds, |count| {
         // Copies are made before the time is taken.
         let mut copies = vec![node.clone(); if changes { count.max(1) as usize } else { 1 }];
@@ -197,6 +206,13 @@ pub fn record(task: &Task) -> Option<Vec<u64>> {
     for (slot, node, vote) in votes {
         tuned::store_vote(&mut words, vote.kind(), node, slot as usize, vote.block());
     }
+    if task.record == "kept" {
+        for slot in 1..=LAST_SLOT as usize {
+            for (meaning, block) in certificates() {
+                tuned::store_certificate(&mut words, meaning, slot, block);
+            }
+        }
+    }
     (tuned::look(&mut words, &mut outbox).0 == 0).then_some(words)
 }
 
@@ -214,12 +230,13 @@ pub fn by_tuned(task: &Task) -> Option<()> {
     let mut lent =
         Lent { kept: words.clone(), words, outbox, answers, buffer, is_dirty: false, changed: None };
     let operation = task.operation.as_str();
-    let changes = matches!(operation, "vote" | "tray");
+    let changes = matches!(operation, "vote" | "tray" | "take");
     let operate = |Lent { words, outbox, answers, buffer, .. }: &mut Lent| match operation {
         "test" => tuned::vote(words, outbox, [9, 1, 1, 7]).0 == 4,
         "look" => tuned::look(words, outbox).0 == 0,
         "vote" => tuned::vote(words, outbox, first).0 == 0,
         "tray" => tuned::tray(words, outbox, &votes, answers).0 == 0,
+        "take" => tuned::take_certificate(words, outbox, &packet).0 == 0,
         "write" => tuned::write_certificate(words, buffer, kind, LAST_SLOT, FALLBACK).0 == 0,
         "check" | "check3" | "check64" | "light" => {
             (black_box(tuned::check_certificate(&stakes, black_box(&packet))).0 == 0) == accepted

@@ -4,6 +4,7 @@
 //! for. That is slow, but each function below can be held against one
 //! sentence of the document.
 
+use crate::packet::{self, Certificate};
 use crate::refusal::Refusal;
 use crate::stakes::{Signers, Stakes, Threshold, P20, P40, P60, P80};
 use std::cmp::Reverse;
@@ -13,6 +14,7 @@ pub const LAST_SLOT: u64 = 16;
 pub const WINDOW: u64 = 4;
 pub const MOST_FALLBACKS: usize = 3;
 pub const MOST_BLOCKS: usize = 4;
+pub const MOST_NOTAR_FALLBACK_CERTIFICATES: usize = 9;
 
 pub const RECORD_FINALIZED: u64 = 6;
 pub const RECORD_ARMED: u64 = 7;
@@ -105,6 +107,15 @@ impl Cert {
             4 => Some(Cert::Skip),
             5 => Some(Cert::Final),
             _ => None,
+        }
+    }
+
+    /// Whether it does for the other: a kind 1 for a 2, a 2 for a 3.
+    fn counts_as(self, other: Cert) -> bool {
+        match self {
+            Cert::FastFinal(b) => other == self || Cert::Notar(b).counts_as(other),
+            Cert::Notar(b) => other == self || other == Cert::NotarFallback(b),
+            _ => other == self,
         }
     }
 
@@ -228,6 +239,13 @@ pub struct Block {
     pub parent: u64,
 }
 
+/// Where the signers of a written certificate come from.
+#[derive(Clone, Copy, PartialEq, Eq, Debug)]
+pub enum Source<'a> {
+    Votes,
+    Kept(&'a Certificate),
+}
+
 /// One slot's weights at a glance.
 #[derive(Clone, Copy, PartialEq, Eq, Debug)]
 pub struct Card {
@@ -258,6 +276,8 @@ pub struct Node {
     pool: Vec<BTreeMap<usize, Cell>>,
     /// In the order in which they were announced.
     kept: Vec<Vec<Block>>,
+    /// Certificates from others, in the order in which they came.
+    certificates: Vec<Vec<Certificate>>,
     timed_out: [bool; ROWS],
     /// By the window's first slot.
     armed: [bool; ROWS],
@@ -301,6 +321,7 @@ impl Node {
             stakes,
             pool: vec![BTreeMap::new(); ROWS],
             kept: vec![Vec::new(); ROWS],
+            certificates: vec![Vec::new(); ROWS],
             timed_out: [false; ROWS],
             armed: [false; ROWS],
             finalized: [None; ROWS],
@@ -370,9 +391,38 @@ impl Node {
         self.cells(slot).filter_map(Cell::notar_block).collect()
     }
 
-    pub fn holds(&self, slot: u64, cert: Cert) -> bool {
+    pub fn reached_by_votes(&self, slot: u64, cert: Cert) -> bool {
         let weight = self.weight(slot, |cell| cert.counts(cell));
         self.stakes.reaches(weight, cert.threshold())
+    }
+
+    pub fn kept_certificates(&self, slot: u64) -> &[Certificate] {
+        &self.certificates[slot as usize]
+    }
+
+    pub fn kept_certificate(&self, slot: u64, cert: Cert) -> Option<&Certificate> {
+        self.certificates[slot as usize].iter().find(|kept| kept.cert == cert)
+    }
+
+    /// Reached by the stored votes or kept; a held kind 1 counts as 2, a 2 as 3.
+    /// Votes that reach kind 1 reach 2 as well, and those that reach 2 reach 3.
+    pub fn holds(&self, slot: u64, cert: Cert) -> bool {
+        let kept = self.certificates[slot as usize].iter();
+        self.reached_by_votes(slot, cert) || kept.map(|kept| kept.cert).any(|kept| kept.counts_as(cert))
+    }
+
+    /// Whose signers the writer names: the stored votes where these reach, else
+    /// a kept certificate of the kind asked for, of kind 2, of kind 1.
+    pub fn source(&self, slot: u64, cert: Cert) -> Option<Source<'_>> {
+        if self.reached_by_votes(slot, cert) {
+            return Some(Source::Votes);
+        }
+        let in_order = match cert {
+            Cert::NotarFallback(b) => vec![cert, Cert::Notar(b), Cert::FastFinal(b)],
+            Cert::Notar(b) => vec![cert, Cert::FastFinal(b)],
+            _ => vec![cert],
+        };
+        in_order.into_iter().find_map(|kept| self.kept_certificate(slot, kept)).map(Source::Kept)
     }
 
     /// Masks A and B of a certificate. B leaves out who is in A already.
@@ -395,12 +445,14 @@ impl Node {
             && (parent_slot + 1..first_slot).all(|between| self.holds(between, Cert::Skip))
     }
 
-    /// Every block with a vote of kind 1 or 2 in the slot.
+    /// Every block that a vote or a kept certificate of the slot names.
     pub fn named_blocks(&self, slot: u64) -> BTreeSet<u64> {
         let mut blocks = self.notar_blocks(slot);
         for cell in self.cells(slot) {
             blocks.extend(&cell.notar_fallbacks);
         }
+        let kept = self.certificates[slot as usize].iter();
+        blocks.extend(kept.filter(|kept| kept.cert.needs_block()).map(|kept| kept.cert.block()));
         blocks
     }
 
@@ -532,6 +584,32 @@ impl Node {
         Ok(records)
     }
 
+    /// A certificate from others, after a full check.
+    pub fn take(&mut self, bytes: &[u8]) -> Result<Vec<Record>, Refusal> {
+        let certificate = packet::check_whole(bytes, &self.stakes)?.0;
+        let (slot, cert) = (certificate.slot, certificate.cert);
+        self.note_received(&certificate);
+        if self.kept_certificate(slot, cert).is_some() {
+            return Err(Refusal::AlreadyKept);
+        }
+        if !self.has_place_for(slot, cert) {
+            return Err(Refusal::AnotherStands);
+        }
+        self.certificates[slot as usize].push(certificate);
+        let records = self.run_rules();
+        self.note_causes(Came::Certificate, slot, &records);
+        Ok(records)
+    }
+
+    fn has_place_for(&self, slot: u64, cert: Cert) -> bool {
+        let of_kind = |kept: &&Certificate| kept.cert.kind() == cert.kind();
+        let taken = self.certificates[slot as usize].iter().filter(of_kind).count();
+        match cert {
+            Cert::NotarFallback(_) => taken < MOST_NOTAR_FALLBACK_CERTIFICATES,
+            _ => taken == 0,
+        }
+    }
+
     pub fn timeout(&mut self, slot: u64) -> Result<Vec<Record>, Refusal> {
         if !is_slot(slot) {
             return Err(Refusal::NoSuchSlot);
@@ -620,6 +698,9 @@ impl Node {
         } else {
             "A over skipped slots only"
         });
+        if self.by_votes_alone().ready_parents(slot).is_empty() {
+            self.note("A owed to certificates");
+        }
         self.armed[slot as usize] = true;
         self.record(RECORD_ARMED, slot, 0);
         true
@@ -641,6 +722,9 @@ impl Node {
         });
         if self.kept_blocks(slot).len() > 1 {
             self.note("B after a second block");
+        }
+        if !self.by_votes_alone().parent_allows(slot, block) {
+            self.note("B owed to certificates");
         }
         self.cast(slot, Vote::Notar(block.number));
         true
@@ -665,7 +749,11 @@ impl Node {
         if fell_back || own.final_vote || !self.holds(slot, Cert::Notar(block)) {
             return false;
         }
-        self.note("C");
+        self.note(match self.source(slot, Cert::Notar(block)) {
+            Some(Source::Kept(kept)) if kept.cert == Cert::Notar(block) => "C by a kept 2",
+            Some(Source::Kept(_)) => "C by a kept 1",
+            _ => "C",
+        });
         self.cast(slot, Vote::Final);
         true
     }
@@ -748,20 +836,22 @@ impl Node {
     /// F: a block of the slot is final, or another than the final one.
     fn rule_f(&mut self, slot: u64) -> bool {
         let already = self.finalized[slot as usize];
-        let mut candidates = self.notar_blocks(slot).into_iter();
+        let mut candidates = self.named_blocks(slot).into_iter();
         let block = match candidates.find(|&b| Some(b) != already && self.is_final(slot, b)) {
             Some(block) => block,
             None => return false,
         };
         if already.is_some() {
-            self.note("F against the final block");
-            return self.mark_conflict(slot, block);
+            let recorded = self.mark_conflict(slot, block);
+            self.note_conflict(slot, block, recorded);
+            return recorded;
         }
         self.note(if self.holds(slot, Cert::FastFinal(block)) {
             "F by kind 1"
         } else {
             "F by kinds 2 and 5"
         });
+        self.note_final(slot, block);
         self.finalize(slot, block);
         true
     }
@@ -769,7 +859,11 @@ impl Node {
     /// G: the ancestors of the slot's final block are final too.
     fn rule_g(&mut self, slot: u64) -> bool {
         match self.finalized[slot as usize] {
-            Some(block) => self.walk_from(slot, block),
+            Some(block) => {
+                let recorded = self.walk_from(slot, block);
+                self.note_walk(slot, block, recorded);
+                recorded
+            }
             None => false,
         }
     }
@@ -828,6 +922,7 @@ impl Node {
 enum Came {
     Vote,
     Block(u64),
+    Certificate,
     Timeout,
 }
 
@@ -884,9 +979,96 @@ impl Node {
                 Came::Vote if slot == made.slot => "D by a vote in its slot",
                 Came::Vote if Some(slot) == parent_slot => "D by a vote in the parent's slot",
                 Came::Vote => "D by a vote in another slot",
+                Came::Certificate if Some(slot) == parent_slot => "D by a certificate in the parent's slot",
+                Came::Certificate => "D by a certificate in another slot",
                 Came::Timeout if slot == made.slot => "D by a timeout in its slot",
                 Came::Timeout => "D by a timeout in another slot",
             });
+        }
+    }
+
+    /// How a certificate that the checker accepts fares beside what is held.
+    fn note_received(&mut self, certificate: &Certificate) {
+        let (slot, cert) = (certificate.slot, certificate.cert);
+        if let Some(kept) = self.kept_certificate(slot, cert) {
+            let same = kept == certificate;
+            if !self.has_place_for(slot, Cert::NotarFallback(0)) && matches!(cert, Cert::NotarFallback(_)) {
+                self.note("take: a repeat beside eight others");
+            }
+            return self.note(if same { "take: a repeat" } else { "take: a repeat by other signers" });
+        }
+        if !self.has_place_for(slot, cert) {
+            let many = matches!(cert, Cert::NotarFallback(_));
+            return self.note(if many { "take: a tenth of kind 3" } else { "take: place taken" });
+        }
+        self.note(match cert {
+            Cert::FastFinal(_) => "take: of kind 1",
+            Cert::Notar(_) => "take: of kind 2",
+            Cert::NotarFallback(_) => "take: of kind 3",
+            Cert::Skip => "take: of kind 4",
+            Cert::Final => "take: of kind 5",
+        });
+        self.note(if self.holds(slot, cert) { "take: held before" } else { "take: not held before" });
+        if certificate.a.contains(&self.own) || certificate.b.contains(&self.own) {
+            self.note("take: signed by the own node");
+        }
+    }
+
+    /// With the same votes and blocks, and no certificate.
+    fn by_votes_alone(&self) -> Node {
+        Node { certificates: vec![Vec::new(); ROWS], ..self.clone() }
+    }
+
+    /// Whether votes reach the certificate, and whether it is held.
+    fn how_held(&self, slot: u64, cert: Cert) -> (bool, bool) {
+        (self.reached_by_votes(slot, cert), self.holds(slot, cert))
+    }
+
+    /// Two blocks of a slot, and which of them are held by certificates alone.
+    fn note_conflict(&mut self, slot: u64, block: u64, recorded: bool) {
+        if !recorded {
+            return self.note("F against the final block, told before");
+        }
+        self.note("F against the final block");
+        let (fast, _) = self.how_held(slot, Cert::FastFinal(block));
+        let (notar, _) = self.how_held(slot, Cert::Notar(block));
+        let first = self.finalized[slot as usize].expect("another is final");
+        let (first_notar, first_held) = self.how_held(slot, Cert::Notar(first));
+        if !fast && !notar {
+            self.note(if first_held && !first_notar {
+                "F against the final block, both by certificates"
+            } else {
+                "F against the final block by a certificate"
+            });
+        }
+    }
+
+    /// A walk from a block that votes alone do not make final.
+    fn note_walk(&mut self, slot: u64, block: u64, recorded: bool) {
+        if recorded && self.is_final(slot, block) && !self.by_votes_alone().is_final(slot, block) {
+            self.note("G from a block that certificates make final");
+        }
+    }
+
+    /// A block that becomes final though no notar vote names it, or before others.
+    fn note_final(&mut self, slot: u64, block: u64) {
+        let fast = self.how_held(slot, Cert::FastFinal(block));
+        let (notar, _) = self.how_held(slot, Cert::Notar(block));
+        let (finals, _) = self.how_held(slot, Cert::Final);
+        match (fast, notar, finals) {
+            ((true, _), ..) => {}
+            ((false, true), ..) => self.note("F by a kept 1"),
+            (_, true, true) => {}
+            (_, false, true) => self.note("F by a kept 2 and votes for 5"),
+            (_, true, false) => self.note("F by votes for 2 and a kept 5"),
+            (_, false, false) => self.note("F by a kept 2 and a kept 5"),
+        }
+        if !self.notar_blocks(slot).contains(&block) {
+            self.note("F for a block without notar votes");
+        }
+        let others = self.named_blocks(slot).into_iter().filter(|&other| other > block);
+        if others.into_iter().any(|other| self.is_final(slot, other)) {
+            self.note("F for the lowest of several");
         }
     }
 
@@ -935,6 +1117,10 @@ impl Node {
         }
         if !self.holds(kept.parent_slot, Cert::Notar(kept.parent)) {
             self.note("D upon kind 3 without kind 2");
+        }
+        if let Some(Source::Kept(by)) = self.source(kept.parent_slot, Cert::NotarFallback(kept.parent)) {
+            let by = by.cert.kind();
+            self.note(["D upon a kept 1", "D upon a kept 2", "D upon a kept 3"][by as usize - 1]);
         }
         let waiting = |&lower: &u64| {
             !self.own_cell(slot).notar_is(lower)

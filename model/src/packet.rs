@@ -1,6 +1,6 @@
 //! Packets: the writers and the checkers.
 
-use crate::node::{is_slot, Cert, Node};
+use crate::node::{is_slot, Cert, Node, Source};
 use crate::refusal::Refusal;
 use crate::stakes::{Family, Signers, Stakes};
 
@@ -96,7 +96,10 @@ pub fn write_proof(node: &Node, slot: u64, block: u64) -> Result<Vec<u8>, Refusa
 
 fn cert_bytes(node: &Node, slot: u64, cert: Cert) -> Vec<u8> {
     let family = node.stakes().family();
-    let (a, b) = node.signers(slot, cert);
+    let (a, b) = match node.source(slot, cert).expect("asked for what is held") {
+        Source::Votes => node.signers(slot, cert),
+        Source::Kept(kept) => (kept.a.clone(), kept.b.clone()),
+    };
     let mut numbers = vec![cert.kind() + family.kinds_after(), slot, cert.block()];
     numbers.extend(mask(&a, family));
     numbers.extend(mask(&b, family));
@@ -109,6 +112,15 @@ fn cert_bytes(node: &Node, slot: u64, cert: Cert) -> Vec<u8> {
 
 // ---- checkers ----
 
+/// A certificate as its packet tells it.
+#[derive(Clone, PartialEq, Eq, Debug)]
+pub struct Certificate {
+    pub cert: Cert,
+    pub slot: u64,
+    pub a: Signers,
+    pub b: Signers,
+}
+
 #[derive(Clone, Copy, PartialEq, Eq, Debug)]
 pub struct Checked {
     pub kind: u64,
@@ -119,9 +131,12 @@ pub struct Checked {
 }
 
 pub fn check(packet: &[u8], stakes: &[u64]) -> Result<Checked, Refusal> {
-    let stakes = Stakes::new(stakes)?;
+    check_whole(packet, &Stakes::new(stakes)?).map(|(_, checked)| checked)
+}
+
+pub fn check_whole(packet: &[u8], stakes: &Stakes) -> Result<(Certificate, Checked), Refusal> {
     let mut rest = packet;
-    let (_, checked) = check_one(&mut rest, &stakes)?;
+    let checked = check_one(&mut rest, stakes)?;
     nothing_remains(rest)?;
     Ok(checked)
 }
@@ -129,19 +144,19 @@ pub fn check(packet: &[u8], stakes: &[u64]) -> Result<Checked, Refusal> {
 pub fn check_proof(packet: &[u8], stakes: &[u64]) -> Result<Checked, Refusal> {
     let stakes = Stakes::new(stakes)?;
     let mut rest = packet;
-    let (cert, first) = check_one(&mut rest, &stakes)?;
-    match cert {
+    let (first, checked) = check_one(&mut rest, &stakes)?;
+    match first.cert {
         Cert::FastFinal(_) => {}
         Cert::Notar(_) => {
-            let (second_cert, second) = check_one(&mut rest, &stakes)?;
-            if second_cert != Cert::Final || second.slot != first.slot {
+            let (second, _) = check_one(&mut rest, &stakes)?;
+            if second.cert != Cert::Final || second.slot != first.slot {
                 return Err(Refusal::NotAProof);
             }
         }
         _ => return Err(Refusal::NotAProof),
     }
     nothing_remains(rest)?;
-    Ok(first)
+    Ok(checked)
 }
 
 pub fn nothing_remains(rest: &[u8]) -> Result<(), Refusal> {
@@ -154,7 +169,7 @@ pub fn nothing_remains(rest: &[u8]) -> Result<(), Refusal> {
 
 /// One certificate off the front. All its numbers are read before any is judged;
 /// how many they are the kind tells, whatever the table.
-pub fn check_one(rest: &mut &[u8], stakes: &Stakes) -> Result<(Cert, Checked), Refusal> {
+pub fn check_one(rest: &mut &[u8], stakes: &Stakes) -> Result<(Certificate, Checked), Refusal> {
     let kind = take_number(rest)?;
     let slot = take_number(rest)?;
     let block = take_number(rest)?;
@@ -180,5 +195,6 @@ pub fn check_one(rest: &mut &[u8], stakes: &Stakes) -> Result<(Cert, Checked), R
     if missing > 0 {
         return Err(Refusal::TooLight(missing));
     }
-    Ok((cert, Checked { kind, slot, block, count: signers.len() as u64, weight }))
+    let checked = Checked { kind, slot, block, count: signers.len() as u64, weight };
+    Ok((Certificate { cert, slot, a, b }, checked))
 }

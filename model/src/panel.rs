@@ -66,6 +66,7 @@ enum Command {
     Vote { kind: u64, node: u64, slot: u64, block: u64 },
     Tray { words: Vec<u64> },
     Block { slot: u64, number: u64, parent_slot: u64, parent: u64 },
+    Take { packet: Vec<u8> },
     Timeout { slot: u64 },
     Look,
     Aside,
@@ -126,6 +127,11 @@ impl Panel {
             Command::Block { slot, number, parent_slot, parent } => {
                 show_records(&self.node()?.block(slot, number, parent_slot, parent)?)
             }
+            // 15 stands alone here, without the missing weight.
+            Command::Take { packet } => match self.node()?.take(&packet) {
+                Ok(records) => show_records(&records),
+                Err(refusal) => refusal.number().to_string(),
+            },
             Command::Timeout { slot } => show_records(&self.node()?.timeout(slot)?),
             Command::Look => show_records(&self.node()?.look()),
             Command::Aside => {
@@ -216,6 +222,10 @@ fn parse(words: &[&[u8]]) -> Result<Command, Malformed> {
             let [slot, number, parent_slot, parent] = numbers(rest)?;
             Ok(Command::Block { slot, number, parent_slot, parent })
         }
+        b"take" => match rest {
+            [packet] => Ok(Command::Take { packet: hex(packet)? }),
+            _ => Err(Malformed),
+        },
         b"timeout" => {
             let [slot] = numbers(rest)?;
             Ok(Command::Timeout { slot })

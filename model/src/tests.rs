@@ -913,6 +913,158 @@ fn refused_votes_leave_the_card() {
     assert_eq!(card(&n, 16), [1, 0, 1, 1 << 63, 1]);
 }
 
+// ---- certificates from others ----
+
+/// A small certificate with those signers.
+fn cert_of(kind: u64, slot: u64, block: u64, a: u64, b: u64) -> Vec<u8> {
+    let mut packet = Vec::new();
+    [kind, slot, block, a, b].into_iter().for_each(|number| put_number(&mut packet, number));
+    packet
+}
+
+fn take(node: &mut Node, packet: &[u8]) -> Vec<(u64, u64, u64)> {
+    shown(node.take(packet).unwrap())
+}
+
+#[test]
+fn a_certificate_arms_finalizes_and_lets_final_be_cast() {
+    let mut n = ten();
+    look(&mut n);
+    assert_eq!(take(&mut n, &cert_of(3, 4, 40, 0b11_1110, 0b100_0000)), [(7, 5, 0)]);
+    assert_eq!(take(&mut n, &cert_of(1, 2, 20, 0b1_1111_1110, 0)), [(6, 2, 20)]);
+    // Kind 1 counts as 2 for the own final vote, and own signers are like others.
+    let mut m = ten();
+    block(&mut m, 1, 7, 0, 1);
+    assert_eq!(take(&mut m, &cert_of(1, 1, 7, 0b11_1111_1111, 0)), [(5, 1, 0), (6, 1, 7)]);
+    let mut k = ten();
+    assert_eq!(take(&mut k, &cert_of(4, 1, 0, 0b11_1111, 0)), [(7, 1, 0)]);
+    assert!(k.stored_votes().is_empty());
+    assert!(k.holds(1, Cert::Skip));
+}
+
+#[test]
+fn kinds_2_and_5_from_anywhere_make_a_block_final() {
+    let mut n = ten();
+    look(&mut n);
+    assert_eq!(take(&mut n, &cert_of(5, 3, 0, 0b11_1111, 0)), []);
+    assert_eq!(votes(&mut n, 1, 1..=6, 3, 30), [(6, 3, 30)]);
+    let proof = write_proof(&n, 3, 30).unwrap();
+    assert_eq!(proof, [cert_of(2, 3, 30, 0b111_1110, 0), cert_of(5, 3, 0, 0b11_1111, 0)].concat());
+    // Two blocks with kind 2: the lowest is final, the other a conflict.
+    let mut m = ten();
+    look(&mut m);
+    assert_eq!(take(&mut m, &cert_of(2, 3, 31, 0b11_1111, 0)), []);
+    assert_eq!(votes(&mut m, 1, 1..=6, 3, 30), []);
+    assert_eq!(take(&mut m, &cert_of(5, 3, 0, 0b11_1111, 0)), [(6, 3, 30), (8, 3, 31)]);
+}
+
+#[test]
+fn a_kept_certificate_ends_the_wait_but_adds_no_weight() {
+    let mut n = ten_skipping();
+    block(&mut n, 3, 30, 2, 20);
+    assert_eq!(votes(&mut n, 1, 1..=4, 3, 30), []);
+    assert_eq!(take(&mut n, &cert_of(2, 2, 20, 0b11_1111, 0)), [(2, 3, 30)]);
+    let mut m = ten_skipping();
+    assert_eq!(take(&mut m, &cert_of(2, 1, 10, 0b11_1111, 0)), []);
+    assert_eq!(card(&m, 1), [1, 0, 1, 0, 0]);
+}
+
+#[test]
+fn take_refusals_in_order() {
+    let mut n = ten();
+    let no = |n: &mut Node, packet: &[u8]| refused(n.take(packet));
+    assert_eq!(no(&mut n, &[]), 12);
+    assert_eq!(no(&mut n, &cert_of(6, 0, 0, 0, 0)), 4);
+    assert_eq!(no(&mut n, &cert_of(2, 1, 7, 0b1_1111, 0)), 15);
+    let good = cert_of(2, 1, 7, 0b11_1111, 0);
+    assert_eq!(no(&mut n, &[good.clone(), vec![0]].concat()), 12);
+    take(&mut n, &good);
+    // Other masks make no other certificate.
+    assert_eq!(no(&mut n, &cert_of(2, 1, 7, 0b111_1111, 0)), 7);
+    assert_eq!(no(&mut n, &cert_of(2, 1, 8, 0b111_1111, 0)), 8);
+    assert_eq!(no(&mut n, &cert_of(2, 1, 8, 0, 0)), 15);
+    take(&mut n, &cert_of(1, 1, 8, 0b1111_1111, 0));
+    assert_eq!(no(&mut n, &cert_of(1, 1, 7, 0b1111_1111, 0)), 8);
+    for kind in [4, 5] {
+        take(&mut n, &cert_of(kind, 1, 0, 0b11_1111, 0));
+        assert_eq!(no(&mut n, &cert_of(kind, 1, 0, 0b111_1111, 0)), 7);
+    }
+    for block in 1..=9 {
+        take(&mut n, &cert_of(3, 1, block, 0b11_1111, 0));
+    }
+    assert_eq!(no(&mut n, &cert_of(3, 1, 9, 0b11_1111, 0)), 7);
+    assert_eq!(no(&mut n, &cert_of(3, 1, 10, 0b11_1111, 0)), 8);
+    take(&mut n, &cert_of(3, 2, 10, 0b11_1111, 0));
+}
+
+#[test]
+fn the_writers_sources_in_order() {
+    let mut n = ten();
+    look(&mut n);
+    take(&mut n, &cert_of(1, 2, 7, 0b1111_1111, 0));
+    for kind in 1..=3 {
+        assert_eq!(write_cert(&n, kind, 2, 7).unwrap(), cert_of(kind, 2, 7, 0b1111_1111, 0));
+    }
+    take(&mut n, &cert_of(2, 2, 7, 0b11_1111, 0));
+    assert_eq!(write_cert(&n, 2, 2, 7).unwrap(), cert_of(2, 2, 7, 0b11_1111, 0));
+    assert_eq!(write_cert(&n, 3, 2, 7).unwrap(), cert_of(3, 2, 7, 0b11_1111, 0));
+    take(&mut n, &cert_of(3, 2, 7, 0b1, 0b11_1110));
+    assert_eq!(write_cert(&n, 3, 2, 7).unwrap(), cert_of(3, 2, 7, 0b1, 0b11_1110));
+    assert_eq!(write_proof(&n, 2, 7).unwrap(), cert_of(1, 2, 7, 0b1111_1111, 0));
+    // The stored votes come first as soon as they reach.
+    votes(&mut n, 2, 1..=5, 2, 7);
+    assert_eq!(write_cert(&n, 3, 2, 7).unwrap(), cert_of(3, 2, 7, 0b1, 0b11_1110));
+    votes(&mut n, 2, 6..=9, 2, 7);
+    assert_eq!(write_cert(&n, 3, 2, 7).unwrap(), cert_of(3, 2, 7, 0, 0b11_1111_1110));
+    assert_eq!(write_cert(&n, 2, 2, 7).unwrap(), cert_of(2, 2, 7, 0b11_1111, 0));
+}
+
+#[test]
+fn kept_certificates_lead_over_to_the_next_window() {
+    let mut n = ten();
+    take(&mut n, &cert_of(2, 2, 20, 0b11_1111, 0));
+    take(&mut n, &cert_of(4, 4, 0, 0b11_1111, 0));
+    assert_eq!(block(&mut n, 5, 50, 2, 20), []);
+    assert_eq!(take(&mut n, &cert_of(4, 3, 0, 0, 0b11_1111)), [(7, 5, 0), (1, 5, 50)]);
+    assert_eq!(take(&mut n, &cert_of(2, 5, 50, 0b11_1111, 0)), [(5, 5, 0)]);
+    assert_eq!(take(&mut n, &cert_of(5, 5, 0, 0b11_1111, 0)), [(6, 5, 50), (6, 2, 20)]);
+}
+
+#[test]
+fn a_certificate_in_the_slot_brings_no_fallback() {
+    // Neither rule D nor rule E weighs the signers of certificates.
+    let mut n = ten();
+    block(&mut n, 1, 7, 0, 1);
+    assert_eq!(take(&mut n, &cert_of(2, 1, 8, 0b11_1111_1110, 0)), []);
+    assert_eq!(take(&mut n, &cert_of(4, 1, 0, 0b11_1111_1110, 0)), []);
+    assert_eq!(votes(&mut n, 1, 1..=3, 1, 8), []);
+    assert_eq!(vote(&mut n, 1, 4, 1, 8), [(3, 2, 0), (3, 3, 0), (3, 4, 0), (2, 1, 8)]);
+}
+
+#[test]
+fn a_kept_kind_1_is_preferred_to_votes_for_kinds_2_and_5() {
+    let mut n = ten();
+    look(&mut n);
+    votes(&mut n, 1, 1..=6, 2, 7);
+    votes(&mut n, 5, 1..=6, 2, 0);
+    take(&mut n, &cert_of(1, 2, 7, 0b1111_1111, 0));
+    assert_eq!(write_proof(&n, 2, 7).unwrap(), cert_of(1, 2, 7, 0b1111_1111, 0));
+    assert_eq!(write_cert(&n, 2, 2, 7).unwrap(), cert_of(2, 2, 7, 0b111_1110, 0));
+    // Certificates are no stored votes.
+    let script = "start 0 1 1 1 1\naside\ntake 0402000700\ndiffer";
+    assert_eq!(run(script).last().unwrap(), "0 0");
+}
+
+#[test]
+fn take_on_the_panel() {
+    let script =
+        "take -\nstart 0 1 1 1 1\ntake 0401000100\ntake 0401000700\ntake 0401000300\ntake 04\ntake\ntake - 1";
+    assert_eq!(run(script), ["17", "0", "15", "0 1 7,1,0", "7", "12", "?", "?"]);
+    let large = show_hex(&wide_cert(14, 4, 0, &[(0, !0)], &[]));
+    let script = format!("start 0 1 {}\ntake {large}\ncert 14 4 0\ntake 0404000300", "1 ".repeat(65));
+    assert_eq!(run(&script), ["0", "0 1 7,1,0", &format!("0 {} {large}", large.len() / 2), "4"]);
+}
+
 // ---- packets ----
 
 #[test]
@@ -1426,6 +1578,7 @@ const POSSIBLE: &[(&str, &[u64])] = &[
     ("vote", &[0, 2, 3, 4, 5, 6, 7, 8, 17]),
     ("tray", &[0, 12, 17]),
     ("block", &[0, 3, 5, 7, 8, 11, 17]),
+    ("take", &[0, 3, 4, 5, 7, 8, 12, 13, 14, 15, 17]),
     ("timeout", &[0, 3, 7, 10, 17]),
     ("look", &[0, 17]),
     ("cert", &[0, 3, 4, 5, 17, 18]),
@@ -1511,6 +1664,59 @@ const BRANCHES: &[&str] = &[
     "cert written: kind 15",
     "check 4 for a kind of the other family",
     "checkproof 4 for a kind of the other family",
+    "take: of kind 1",
+    "take: of kind 2",
+    "take: of kind 3",
+    "take: of kind 4",
+    "take: of kind 5",
+    "take: held before",
+    "take: not held before",
+    "take: signed by the own node",
+    "take: a repeat",
+    "take: a repeat by other signers",
+    "take: place taken",
+    "take: a tenth of kind 3",
+    "take: made records of kind 5",
+    "take: made records of kind 6",
+    "take: made records of kind 7",
+    "take: made records of kind 8",
+    "take: a repeat beside eight others",
+    "take: made records of kind 2",
+    "take 12 for one that is kept",
+    "take 14 for one that is kept",
+    "take 15 for one that is kept",
+    "take 4 for a large kind, small table",
+    "A owed to certificates",
+    "A owed to certificates, large table",
+    "B owed to certificates",
+    "C by a kept 1",
+    "C by a kept 2",
+    "D upon a kept 1",
+    "D upon a kept 2",
+    "D upon a kept 3",
+    "D by a certificate in the parent's slot",
+    "F by a kept 1",
+    "F by a kept 2 and a kept 5",
+    "F by a kept 2 and votes for 5",
+    "F by votes for 2 and a kept 5",
+    "F against the final block by a certificate",
+    "F against the final block, both by certificates",
+    "F against the final block, told before",
+    "F by a kept 1, large table",
+    "G from a block that certificates make final",
+    "G from a block that certificates make final, large table",
+    "proof written of votes and a kept certificate",
+    "written by votes beside a kept one",
+    "F for a block without notar votes",
+    "F for the lowest of several",
+    "kind 1 from a kept 1",
+    "kind 2 from a kept 1",
+    "kind 2 from a kept 2",
+    "kind 3 from a kept 1",
+    "kind 3 from a kept 2",
+    "kind 3 from a kept 3",
+    "kind 4 from a kept 4",
+    "kind 5 from a kept 5",
     "card: all 0",
     "card: no leader",
     "card: a leader",
@@ -1571,6 +1777,25 @@ const SELDOM: &[&str] = &[
     "differ: lines of both sides, large table",
     "differ: lines of one side, large table",
     "card: the leader overtaken, large table",
+    "take: made records of kind 1",
+    "take: not held before, large table",
+    "take: place taken, large table",
+    "take: a tenth of kind 3, large table",
+    "take 3, large table",
+    "take 5, large table",
+    "take 12, large table",
+    "take 13, large table",
+    "take 14, large table",
+    "take 15, large table",
+    "take 13 for one that is kept",
+    "take 4 for a small kind, large table",
+    "B owed to certificates, large table",
+    "C by a kept 1, large table",
+    "C by a kept 2, large table",
+    "D upon a kept 3, large table",
+    "F by votes for 2 and a kept 5, large table",
+    "F by a kept 2 and a kept 5, large table",
+    "differ: no line, other certificates kept",
     "differ: nothing aside",
     "differ: no node",
     "differ: the same table, another genesis",

@@ -12,6 +12,7 @@ use Rattle.rulebook.specs.PaperNumbers.{startPanel, stepPanel, writePanel, read
 use Rattle.rulebook.specs.Writers as writer
 use Rattle.rulebook.specs.Writers.{Writes}
 use Rattle.node.specs.Stepping.{StepOf, stepLeaves}
+use Rattle.taking.specs.Taking.{TakeOf}
 use Rattle.soundness.specs.Starting.{StartOf}
 use Rattle.trays.specs.Lent.{TrayOf}
 use Rattle.cards.specs.declared.CardAnswer.{CardAnswer}
@@ -21,7 +22,7 @@ use Rattle.differences.specs.Lent.{DifferOf, differPanel}
 use Rattle.pieces.specs.declared.PieceAnswer.{PieceAnswer}
 use Rattle.pieces.specs.Pieces.{piecePanel}
 use Rattle.pieces.specs.State.{nodes, PieceOf, EndOf, endLeaves}
-use Rattle.answers.specs.Face.{Beside, Started, Stepped, Trayed, Wrote, MessageRead, CardRead, Checked, Compared, Pieced, Ended}
+use Rattle.answers.specs.Face.{Beside, Started, Stepped, Taken, Trayed, Wrote, MessageRead, CardRead, Checked, Compared, Pieced, Ended}
 
 pub started : (ws stakes : List ℕ) (own genesis : ℕ) (a : StartAnswer) (n : ℕ) (left : List ℕ) → StartOf ws stakes own genesis a left
     → n ≡ startPanel a .number → Started ws stakes own genesis n left
@@ -41,6 +42,16 @@ stepped ws out i j a n k ws' left g s e d =
   where
     answered : a ≡ stepLeaves ws out i .answer
     answered = s .answered ∙ ap (λ (x : Input). stepLeaves ws out x .answer) g
+
+pub taken : (ws out packet : List ℕ) (a : StepAnswer) (n k : ℕ) (ws' left : List ℕ) → TakeOf ws out packet a ws' left
+    → n ≡ stepPanel a .number → Beside k (stepPanel a .values) → Taken ws out packet n k ws' left
+taken ws out packet a n k ws' left s e d =
+    record {
+      numbered = e ∙ ap (λ (x : StepAnswer). stepPanel x .number) (s .answered);
+      counted = d ∙ ap (λ (x : StepAnswer). stepPanel x .values) (s .answered);
+      words = s .words;
+      outbox = s .outbox;
+    }
 
 pub trayed : (ws out votes places : List ℕ) (a : StepAnswer) (n k : ℕ) (ws' left answers : List ℕ) → TrayOf ws out votes places a ws' left answers
     → n ≡ stepPanel a .number → Beside k (stepPanel a .values) → Trayed ws out votes places n k ws' left answers

@@ -8,7 +8,7 @@ use Rattle.rulebook.specs.declared.ReadAnswer.{ReadAnswer}
 use Rattle.rulebook.specs.declared.CheckAnswer.{CheckAnswer}
 use Rattle.rulebook.specs.Writers as writer
 use Rattle.cards.specs.declared.CardAnswer.{CardAnswer}
-use Rattle.answers.specs.Face.{Beside, Started, Stepped, Trayed, Wrote, MessageRead, CardRead, Checked, Compared, Pieced, Ended}
+use Rattle.answers.specs.Face.{Beside, Started, Stepped, Taken, Trayed, Wrote, MessageRead, CardRead, Checked, Compared, Pieced, Ended}
 
 -- One value beside one number.
 beside-one : {v v' : ℕ} {values : List ℕ} → Beside v values → Beside v' values → v ≡ v'
@@ -23,6 +23,12 @@ started-one a b = (a .numbered ∙ sym (b .numbered), a .words ∙ sym (b .words
 pub stepped-one : {ws out left left' box box' : List ℕ} {i : Input} {n n' made made' : ℕ} → Stepped ws out i n made left box → Stepped ws out i n' made' left' box'
     → (n ≡ n') × (made ≡ made') × (left ≡ left') × (box ≡ box')
 stepped-one a b =
+    (a .numbered ∙ sym (b .numbered), beside-one (a .counted) (b .counted), a .words ∙ sym (b .words), a .outbox ∙ sym (b .outbox))
+
+-- qr_take.
+pub taken-one : {ws out packet left left' box box' : List ℕ} {n n' made made' : ℕ} → Taken ws out packet n made left box → Taken ws out packet n' made' left' box'
+    → (n ≡ n') × (made ≡ made') × (left ≡ left') × (box ≡ box')
+taken-one a b =
     (a .numbered ∙ sym (b .numbered), beside-one (a .counted) (b .counted), a .words ∙ sym (b .words), a .outbox ∙ sym (b .outbox))
 
 -- qr_tray.

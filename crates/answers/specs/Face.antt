@@ -13,6 +13,7 @@ use Rattle.rulebook.specs.Writers.{over}
 use Rattle.rulebook.specs.Writers as written
 pub use Rattle.inputs.specs.Inputs.{voteInput, blockInput, timeoutInput}
 use Rattle.node.specs.Stepping.{stepLeaves}
+use Rattle.taking.specs.Taking.{takeLeaves}
 use Rattle.trays.specs.Lent.{trayLeaves}
 use Rattle.cards.specs.declared.CardAnswer.{CardAnswer}
 use Rattle.cards.specs.Asked.{cardPanel}
@@ -45,6 +46,13 @@ pub record Stepped (ws out : List ℕ) (i : Input) (number made : ℕ) (ws' left
   pub counted : Beside made (stepPanel (stepLeaves ws out i .answer) .values)
   pub words : ws' ≡ stepLeaves ws out i .words
   pub outbox : left ≡ stepLeaves ws out i .outbox
+
+-- A certificate taken from another firm: its number, the count of its records, and all the words of record and outbox.
+pub record Taken (ws out packet : List ℕ) (number made : ℕ) (ws' left : List ℕ) : Type 0 where
+  pub numbered : number ≡ stepPanel (takeLeaves ws out packet .answer) .number
+  pub counted : Beside made (stepPanel (takeLeaves ws out packet .answer) .values)
+  pub words : ws' ≡ takeLeaves ws out packet .words
+  pub outbox : left ≡ takeLeaves ws out packet .outbox
 
 -- A tray: its number, the count of all its votes' records, and all the words of record, outbox and answer buffer.
 pub record Trayed (ws out votes places : List ℕ) (number made : ℕ) (ws' left answers : List ℕ) : Type 0 where

@@ -2,11 +2,13 @@
 // it. Lines are built in a lent page and leave by the door one by one; a function takes the place that was reached in the page and
 // answers the next, which is the page's end once a line was not written.
 use door::end_line;
+use kinds::is_other;
 use kinds::slot_ok;
 use lines::put_missing;
 use lines::put_named;
 use lines::put_share;
 use lines::put_text;
+use pool::signers_of;
 use replies::number;
 use rulebook::CertificateKind;
 use rulebook::Slot;
@@ -16,6 +18,7 @@ use shown::cell_of;
 use shown::clash_in;
 use shown::final_of;
 use shown::genesis_of;
+use shown::has_certificates;
 use shown::is_blank;
 use shown::is_large;
 use shown::kept_of;
@@ -28,10 +31,12 @@ use shown_blocks::block_after;
 use shown_blocks::block_from;
 use shown_heavy::heavy_after;
 use shown_heavy::light_blocks;
+use shown_kept::kept_certificate;
 use shown_weights::held_in;
 use shown_weights::missing_in;
 use shown_weights::next_for;
 use shown_weights::percent;
+use shown_weights::short_of;
 use shown_weights::weight_of;
 use soundness::sound;
 
@@ -43,6 +48,9 @@ const MOST_BLOCKS: usize = 256;
 
 // So many announced blocks are kept of a slot.
 const KEPT_BLOCKS: usize = 4;
+
+// So many certificates from other firms are.
+const KEPT_CERTIFICATES: usize = 13;
 
 // A weight, and its percent of the total rounded down.
 fn put_weight(page: &mut [u8], at: usize, rec: &[u64], s: Slot, who: Who) -> usize {
@@ -122,7 +130,7 @@ fn skip_line(page: &mut [u8], at: usize, rec: &[u64], s: Slot) -> usize {
     }
     let p = put_text(page, at, b"  skip");
     let q = put_weight(page, p, rec, s, Who::Skip);
-    let missing = missing_in(rec, s, CertificateKind::Skip, 0);
+    let missing = short_of(rec, s, CertificateKind::Skip, 0);
     let r = put_missing(page, q, missing, b"skip certificate");
     end_line(page, r)
 }
@@ -135,49 +143,45 @@ fn final_line(page: &mut [u8], at: usize, rec: &[u64], s: Slot) -> usize {
     }
     let p = put_text(page, at, b"  final");
     let q = put_weight(page, p, rec, s, Who::Final);
-    let missing = missing_in(rec, s, CertificateKind::Final, 0);
+    let missing = short_of(rec, s, CertificateKind::Final, 0);
     let r = put_missing(page, q, missing, b"final certificate");
     end_line(page, r)
 }
 
-// A certificate that is held: its name, and the weight of those who count in it.
+// A certificate, where it is held: its name, and the weight of those whose votes count in it; where that does not reach it, it is kept.
 fn put_held(
     page: &mut [u8],
     at: usize,
     rec: &[u64],
     s: Slot,
-    held: bool,
+    kind: CertificateKind,
+    block: u64,
     name: &[u8],
-    who: Who,
 ) -> usize {
-    if !held {
+    if !held_in(rec, s, kind, block) {
         return at;
     }
     let next = put_text(page, at, name);
-    put_weight(page, next, rec, s, who)
+    let missing = missing_in(rec, s, kind, block);
+    if missing.0 != 0 {
+        return put_text(page, next, b" kept");
+    }
+    put_weight(page, next, rec, s, signers_of(kind, block))
 }
 
 // The certificates held for a block: kinds 1, 2 and 3.
-fn put_certificates(page: &mut [u8], at: usize, rec: &[u64], s: Slot, b: u64) -> usize {
-    let fast = held_in(rec, s, CertificateKind::FastFinal, b);
-    let notar = held_in(rec, s, CertificateKind::Notar, b);
-    let p = put_held(page, at, rec, s, fast, b" fast-final", Who::Notar(b));
-    let q = put_held(page, p, rec, s, notar, b" notar", Who::Notar(b));
-    put_held(
-        page,
-        q,
-        rec,
-        s,
-        true,
-        b" notar-fallback",
-        Who::NotarOrFallback(b),
-    )
+fn put_certificates(page: &mut [u8], at: usize, rec: &[u64], s: Slot, block: u64) -> usize {
+    let fast = CertificateKind::FastFinal;
+    let fallback = CertificateKind::NotarFallback;
+    let p = put_held(page, at, rec, s, fast, block, b" fast-final");
+    let q = put_held(page, p, rec, s, CertificateKind::Notar, block, b" notar");
+    put_held(page, q, rec, s, fallback, block, b" notar-fallback")
 }
 
 // What is missing to the next certificate that a block could reach.
 fn put_next(page: &mut [u8], at: usize, rec: &[u64], s: Slot, b: u64) -> usize {
     let kind = next_for(rec, s, b);
-    let missing = missing_in(rec, s, kind, b);
+    let missing = short_of(rec, s, kind, b);
     match kind {
         CertificateKind::NotarFallback => put_missing(page, at, missing, b"notar-fallback"),
         CertificateKind::Notar => put_missing(page, at, missing, b"notar"),
@@ -274,37 +278,76 @@ fn blocks_board(page: &mut [u8], at: usize, rec: &[u64], s: Slot) -> usize {
     block_lines(page, at, rec, s, 1, MOST_BLOCKS)
 }
 
-// A certificate that is held, on a line of its own.
+// A certificate for no block, where it is held, on a line of its own.
 fn certificate_line(
     page: &mut [u8],
     at: usize,
     rec: &[u64],
     s: Slot,
-    held: bool,
+    kind: CertificateKind,
     name: &[u8],
-    who: Who,
 ) -> usize {
-    if !held {
+    if !held_in(rec, s, kind, 0) {
         return at;
     }
-    let next = put_held(page, at, rec, s, true, name, who);
+    let next = put_held(page, at, rec, s, kind, 0, name);
     end_line(page, next)
 }
 
 // The certificates held for no block.
 fn certificate_lines(page: &mut [u8], at: usize, rec: &[u64], s: Slot) -> usize {
-    let skipped = held_in(rec, s, CertificateKind::Skip, 0);
-    let ended = held_in(rec, s, CertificateKind::Final, 0);
-    let p = certificate_line(
-        page,
-        at,
-        rec,
-        s,
-        skipped,
-        b"  skip certificate",
-        Who::SkipOrFallback,
-    );
-    certificate_line(page, p, rec, s, ended, b"  final certificate", Who::Final)
+    let skip = CertificateKind::Skip;
+    let ended = CertificateKind::Final;
+    let p = certificate_line(page, at, rec, s, skip, b"  skip certificate");
+    certificate_line(page, p, rec, s, ended, b"  final certificate")
+}
+
+// The kind of a certificate from another firm, as its line begins.
+fn put_kind(page: &mut [u8], at: usize, kind: CertificateKind) -> usize {
+    let next = put_text(page, at, b"  kept certificate");
+    match kind {
+        CertificateKind::FastFinal => put_text(page, next, b" fast-final"),
+        CertificateKind::Notar => put_text(page, next, b" notar"),
+        CertificateKind::NotarFallback => put_text(page, next, b" notar-fallback"),
+        CertificateKind::Skip => put_text(page, next, b" skip"),
+        _ => put_text(page, next, b" final"),
+    }
+}
+
+// A certificate's block, where there is one.
+fn put_block(page: &mut [u8], at: usize, block: u64) -> usize {
+    if block == 0 {
+        return at;
+    }
+    put_named(page, at, b" ", block)
+}
+
+// The certificate in one of a slot's places, with how many signed it and their weight, where there is one.
+fn kept_certificate_line(page: &mut [u8], at: usize, rec: &[u64], s: Slot, place: usize) -> usize {
+    let c = kept_certificate(rec, s, place);
+    let kind = c.kind;
+    let weight = c.weight;
+    if is_other(kind) {
+        return at;
+    }
+    let p = put_kind(page, at, kind);
+    let q = put_block(page, p, c.block);
+    let r = put_named(page, q, b", signers ", c.signers);
+    let t = put_text(page, r, b", weight");
+    let u = put_share(page, t, weight, percent(weight, total_of(rec)));
+    end_line(page, u)
+}
+
+// The certificates from other firms, kind 3 last.
+fn kept_certificate_lines(page: &mut [u8], at: usize, rec: &[u64], s: Slot) -> usize {
+    if !has_certificates(rec, s) {
+        return at;
+    }
+    let mut next = at;
+    for place in 0..KEPT_CERTIFICATES {
+        next = kept_certificate_line(page, next, rec, s, place);
+    }
+    next
 }
 
 // Whether the block in one of slot t's places is its final block, a child of block b of slot s.
@@ -384,8 +427,9 @@ fn slot_board(page: &mut [u8], at: usize, rec: &[u64], s: Slot) -> usize {
     let q = kept_lines(page, p, rec, s);
     let r = own_line(page, q, rec, s);
     let t = votes_board(page, r, rec, s);
-    let u = reported_line(page, t, rec, s);
-    clash_line(page, u, rec, s)
+    let u = kept_certificate_lines(page, t, rec, s);
+    let v = reported_line(page, u, rec, s);
+    clash_line(page, v, rec, s)
 }
 
 // What the votes of a slot weigh.

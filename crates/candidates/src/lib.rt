@@ -5,11 +5,12 @@ ghost use mathlib.Core.Bool.{not};
 ghost use Prim.Native.Nat.{_-_};
 ghost use Rattle.rulebook.specs.Tools.{lower, lowest};
 ghost use Rattle.rulebook.specs.Weights.{reaches, dWeights};
-ghost use Rattle.rulebook.specs.Pool.{names};
+ghost use Rattle.rulebook.specs.Pool.{certifiable};
 ghost use Rattle.rulebook.specs.Rules.{fallbackWeights, parentBacked, isBacked, isGrounded, fallsBack, fallbackBlock, skipWeights, isFinal, isNewcomer};
 ghost use Rattle.record.specs.Layout.{ledgerOf};
-ghost use Rattle.pool.specs.Weighing.{Carded, Passed};
+ghost use Rattle.pool.specs.Weighing.{Carded, Passed, namedHolds};
 ghost use Rattle.candidates.specs.Judging.{Judging, Within, isNew};
+use kept_certificates::block_at;
 use own_votes::may_fallback;
 use own_votes::window_open;
 use pool::counted_before;
@@ -18,6 +19,7 @@ use pool::is_first;
 use pool::weigh;
 use pool::weight_of;
 use record::MOST_BLOCKS;
+use record::MOST_CERTIFICATES;
 use record::count;
 use record::final_block;
 use record::load_block;
@@ -209,21 +211,32 @@ pub fn is_final(rec: &[u64], s: Slot, b: u64) -> bool
     held(rec, CertificateKind::Final, s, 0)
 }
 
-// F's block: the lowest other than the slot's final block that is final in slot s, 0 where there is none. Only the leader can
-// be it.
+// The lower of b, where there is one that is final in slot s and not the slot's final block, and m; 0 stands for none.
+fn lower_newcomer(rec: &[u64], s: Slot, b: u64, m: u64) -> u64
+    requires { ⌜ Carded (now rec) (s .0) ⌝ }
+    ensures { λ r. ⌜ r ≡ lower (namedHolds (isNewcomer (ledgerOf (now (rec .entry))) (s .0)) b) b m ⌝ }
+{
+    if (b == 0) | (b == final_block(rec, s)) {
+        return m;
+    }
+    lower(is_final(rec, s, b), b, m)
+}
+
+// F's block: the lowest other than the slot's final block that is final in slot s, 0 where there is none. Only the leader and
+// blocks of kept certificates can be it.
 pub fn newcomer(rec: &[u64], s: Slot) -> u64
     requires { ⌜ Carded (now rec) (s .0) ⌝ }
-    ensures { λ r. ⌜ r ≡ lowest (isNewcomer (ledgerOf (now (rec .entry))) (s .0)) (names (ledgerOf (now (rec .entry))) (s .0)) ⌝ }
+    ensures { λ r. ⌜ r ≡ lowest (isNewcomer (ledgerOf (now (rec .entry))) (s .0)) (certifiable (ledgerOf (now (rec .entry))) (s .0)) ⌝ }
 {
     let card = load_card(rec, s);
-    let b = card.leader;
-    if (b == 0) | (b == final_block(rec, s)) {
-        return 0;
+    let mut best = lower_newcomer(rec, s, card.leader, 0);
+    let mut n = MOST_CERTIFICATES;
+    while 0 < n {
+        n -= 1;
+        let b = block_at(rec, s, n);
+        best = lower_newcomer(rec, s, b, best);
     }
-    if is_final(rec, s, b) {
-        return b;
-    }
-    0
+    best
 }
 
 // E's weights: skip + all notar - largest notar(b) reaches 40. Skip alone may reach it, and where the leader leads alone it is

@@ -1,12 +1,12 @@
 -- Laws of one certificate: what was weighed of it, and what is told of it against the rule book. Assumes nothing.
 use mathlib.Core.Path.{_≡_, refl, sym, ap, ap₂, _∙_}
-use mathlib.Core.Bool.{Bool, true, false, not, _||_}
+use mathlib.Core.Bool.{Bool, true, false, not, _&&_, _||_}
 use mathlib.Core.List.{List}
 use Prim.Native.Nat.{ℕ, zero, suc, _^_, _≤_}
 use native.Mathlib.Omega.{arith}
 use lib.ListN.{length, take}
-use lib.Dec.{leb}
-use borrow.Author.Tests.{le-leb, ne-eqb}
+use lib.Dec.{eqb, leb}
+use borrow.Author.Tests.{le-leb, ne-eqb, eqb-true, eqb-false}
 use Rattle.rulebook.specs.declared.Found.{Found}
 use Rattle.rulebook.specs.declared.Found.the-variants as answer
 use Rattle.rulebook.specs.declared.Heading.{Heading}
@@ -26,6 +26,8 @@ use Rattle.rulebook.specs.Inputs.{refuseIf}
 use Rattle.rulebook.specs.Ledger.{none}
 use Rattle.rulebook.specs.Packets.{bit, countOf, wordsIn, certificateOf}
 use Rattle.rulebook.specs.Checker.{isOtherKind, blockMisfits, badSigners, signed, signedWeight, lacking, judgeWeight, acceptedOf, judged, judgeKind, judge, oneOf}
+use Rattle.rulebook.specs.WellFormed.{isFine}
+use Rattle.rulebook.proofs.ToolLaws.{by-test}
 use Rattle.rulebook.proofs.WeightLaws.{none-missing, some-missing}
 use Rattle.rulebook.proofs.KindLaws.{table-words}
 use Rattle.certificate_numbers.specs.Told.{Masks, foundAs}
@@ -146,6 +148,39 @@ judge-is ws t f k c next e o v h =
   where
     laterTests : Verdict → Verdict
     laterTests last = refuseIf (not (slotOk (c .slot))) refusal.BadSlot (refuseIf (blockMisfits k (c .block)) refusal.BadBlock (refuseIf (badSigners (length ws) k c) refusal.BadSigners last))
+
+-- ---- a certificate that a record keeps
+
+-- By what its signers lack.
+pub fine-weight : (ws : List ℕ) (k : CertificateKind) (c : Certificate) (m : ℕ) → m ≡ lacking ws k c → eqb m 0 ≡ isFine (judgeWeight ws k c)
+unfolding judgeWeight refuseIf isFine
+fine-weight ws k c m e =
+    by-test (eqb m 0) (λ t. rw (t, lacks-none ws k c m e (eqb-true m 0 t))) (λ t. rw (t, lacks-some ws k c m e (eqb-false m 0 t)))
+
+-- By its kind, block and masks, then by its signers.
+module _ (ws : List ℕ) (t : StakeTable) (f : Fit ws t) (k : CertificateKind) (c : Certificate) (slot : slotOk (c .slot) ≡ true) (o m b : Bool)
+    (other : o ≡ isOtherKind k) (misfits : m ≡ blockMisfits k (c .block)) (masks : b ≡ badSigners (t .count) k c) where
+  masks-is : b ≡ badSigners (length ws) k c
+  masks-is = masks ∙ ap (λ (n : ℕ). badSigners n k c) (f .count)
+
+  in-order : (x y z : Bool) (v : Verdict) → isFine (refuseIf x refusal.BadKind (refuseIf false refusal.BadSlot (refuseIf y refusal.BadBlock (refuseIf z refusal.BadSigners v)))) ≡ (not (x || (y || z)) && isFine v)
+  unfolding refuseIf isFine
+  in-order true y z v = refl
+  in-order false true z v = refl
+  in-order false false true v = refl
+  in-order false false false v = refl
+
+  judged-is : isFine (judgeKind ws k c) ≡ (not (o || (m || b)) && isFine (judgeWeight ws k c))
+  unfolding judgeKind
+  judged-is =
+      (λ i. isFine (refuseIf (sym other i) refusal.BadKind (refuseIf (not (slot i)) refusal.BadSlot (refuseIf (sym misfits i) refusal.BadBlock (refuseIf (sym masks-is i) refusal.BadSigners (judgeWeight ws k c))))))
+      ∙ in-order o m b (judgeWeight ws k c)
+
+  pub kept-refused : (o || (m || b)) ≡ true → false ≡ isFine (judgeKind ws k c)
+  kept-refused e = sym (judged-is ∙ ap (λ (x : Bool). not x && isFine (judgeWeight ws k c)) e)
+
+  pub kept-weighed : (o || (m || b)) ≡ false → isFine (judgeWeight ws k c) ≡ isFine (judgeKind ws k c)
+  kept-weighed e = sym (judged-is ∙ ap (λ (x : Bool). not x && isFine (judgeWeight ws k c)) e)
 
 -- ---- the masks' words
 

@@ -1,6 +1,6 @@
 -- What is told of one certificate on lent stakes.
 use mathlib.Core.Path.{_≡_}
-use mathlib.Core.Bool.{Bool}
+use mathlib.Core.Bool.{Bool, true}
 use mathlib.Core.List.{List}
 use Prim.Native.Nat.{ℕ, _*_, _≤_}
 use lib.ListN.{length}
@@ -10,6 +10,7 @@ use Rattle.rulebook.specs.declared.CertificateKind.{CertificateKind}
 use Rattle.rulebook.specs.declared.Refusal.the-variants as refusal
 use Rattle.rulebook.specs.declared.Verdict.{Verdict}
 use Rattle.rulebook.specs.declared.Verdict.the-variants as verdict
+use Rattle.rulebook.specs.Weights.{slotOk}
 use Rattle.rulebook.specs.PaperNumbers.{kindIn}
 use Rattle.rulebook.specs.Inputs.{refuseIf}
 use Rattle.rulebook.specs.Checker.{One, good, bad, judgeWeight, judge, acceptedOf, judged}
@@ -28,6 +29,20 @@ pub record Heard (stakes : List ℕ) (t : StakeTable) (k : CertificateKind) (c :
   pub fit : Fit stakes t
   pub kind : k ≡ kindIn (length stakes) (c .kind)
   pub wide : Wide (length stakes) a b
+
+-- The table beside lent stakes is theirs, and masks have words for every node.
+pub record Weighty (stakes : List ℕ) (t : StakeTable) (a b : List ℕ) : Type 0 where
+  pub fit : Fit stakes t
+  pub wide : Wide (length stakes) a b
+
+-- Likewise, and the slot is one of 1 to 16: a certificate with these masks that a record keeps there can be judged.
+pub record Keepable (stakes : List ℕ) (t : StakeTable) (s : ℕ) (a b : List ℕ) : Type 0 where
+  pub weighty : Weighty stakes t a b
+  pub slot : slotOk s ≡ true
+
+-- The heading of a certificate that a record keeps: its place tells its kind.
+abbrev pub headed : ℕ → ℕ → Heading
+headed s block = record { kind = 0; slot = s; block = block }
 
 -- What is told of one certificate.
 unfoldable pub told : List ℕ → One → Checked

@@ -3,10 +3,11 @@ ghost use mathlib.Core.Path.{_≡_};
 ghost use Rattle.rulebook.specs.declared.Heading.{Heading};
 ghost use Rattle.rulebook.specs.Weights.{slotOk};
 ghost use Rattle.rulebook.specs.Packets.{certificateOf};
-ghost use Rattle.rulebook.specs.Checker.{withoutB, badSigners, oneAt};
+ghost use Rattle.rulebook.specs.Checker.{withoutB, badSigners, judgeWeight, judgeKind, oneAt};
+ghost use Rattle.rulebook.specs.WellFormed.{isFine};
 ghost use Rattle.stakes.specs.Table.{Fit};
 ghost use Rattle.certificate_numbers.specs.Told.{Masks};
-ghost use Rattle.certificates.specs.Told.{Wide, Heard, told, toldOf, weighedIn, faultOf};
+ghost use Rattle.certificates.specs.Told.{Wide, Heard, Weighty, Keepable, headed, told, toldOf, weighedIn, faultOf};
 use certificate_numbers::MOST_WORDS;
 use certificate_numbers::read_certificate;
 use certificate_numbers::words_in;
@@ -148,4 +149,38 @@ pub fn one_at(stakes: &[u64], t: StakeTable, packet: &[u8], at: usize) -> Checke
             judge(stakes, t, c, &a[..words], &b[..words], next)
         }
     }
+}
+
+// Whether the signers of two masks reach the threshold of a kind.
+fn weighs_enough(stakes: &[u64], t: StakeTable, k: CertificateKind, a: &[u64], b: &[u64]) -> bool
+    requires { ⌜ Weighty (now stakes) t (now a) (now b) ⌝ }
+    ensures { λ r. ⌜ ((c : Heading) → r ≡ isFine (judgeWeight (now (stakes .entry)) k (certificateOf c (now (a .entry)) (now (b .entry))))) ⌝ }
+{
+    let total = t.total;
+    let signed = stakes::weigh(stakes, a, b);
+    let due = threshold_of(k);
+    let lacking = due.missing(signed.weight, total);
+    lacking.0 == 0
+}
+
+// Whether the checker accepts a certificate of a kind that a record keeps in a slot, by its block and masks.
+pub fn accepts(
+    stakes: &[u64],
+    t: StakeTable,
+    k: CertificateKind,
+    s: Slot,
+    block: u64,
+    a: &[u64],
+    b: &[u64],
+) -> bool
+    requires { ⌜ Keepable (now stakes) t (s .0) (now a) (now b) ⌝ }
+    ensures { λ r. ⌜ r ≡ isFine (judgeKind (now (stakes .entry)) k (certificateOf (headed (s .0) block) (now (a .entry)) (now (b .entry)))) ⌝ }
+{
+    let other = is_other(k);
+    let misfits = block_misfits(k, block);
+    let masks = bad_signers(t.count, k, a, b);
+    if other | (misfits | masks) {
+        return false;
+    }
+    weighs_enough(stakes, t, k, a, b)
 }

@@ -17,7 +17,7 @@ use Rattle.script.specs.Numbers.{wordFrom, wordTo}
 use Rattle.script.proofs.Reading.{word-from, word-to}
 use Rattle.commands.specs.declared.Command.{Command}
 use Rattle.commands.specs.declared.Command.the-variants as command
-use Rattle.commands.specs.Commands.{sameText, inputOf, exactly, atLeast, wordOf, oneWord, packetAndStakes, countAndMessage, argumentsFit, commandOf, tells, Heard}
+use Rattle.commands.specs.Commands.{sameText, inputOf, exactly, atLeast, wordOf, oneWord, packetAndStakes, packetAlone, countAndMessage, argumentsFit, commandOf, tells, Heard}
 
 -- ---- two texts
 
@@ -83,15 +83,19 @@ unfolding oneWord
 word-alone line at w h c e =
     λ i. ltb (word-from line at w h i) (word-to line at w h i) && (e ∙ ap (λ (n : ℕ). exactly line n 0) (word-to line at w h)) i
 
--- ---- a count and a message
+-- ---- a packet alone, and a count and a message
 
-pub message-is : (line : List ℕ) (at : ℕ) (w : Word) → WordIn line at w → (v : Word) → WordIn line (w .to) v → (a b c : Bool)
-    → a ≡ exactly (take (w .to) line) at 1 → b ≡ packetAndStakes line (w .to) → c ≡ exactly line (v .to) 0 → (a && (b && c)) ≡ countAndMessage line at
+pub packet-is-alone : (line : List ℕ) (at : ℕ) (w : Word) → WordIn line at w → (b c : Bool) → b ≡ packetAndStakes line at → c ≡ exactly line (w .to) 0
+    → (b && c) ≡ packetAlone line at
+unfolding packetAlone
+packet-is-alone line at w h b c q r = λ i. q i && (r ∙ ap (λ (n : ℕ). exactly line n 0) (word-to line at w h)) i
+
+pub message-is : (line : List ℕ) (at : ℕ) (w : Word) → WordIn line at w → (a b : Bool) → a ≡ exactly (take (w .to) line) at 1 → b ≡ packetAlone line (w .to)
+    → (a && b) ≡ countAndMessage line at
 unfolding countAndMessage
-message-is line at w h v k a b c p q r =
+message-is line at w h a b p q =
     let e : w .to ≡ wordTo line at = word-to line at w h in
-    let f : v .to ≡ wordTo line (wordTo line at) = word-to line (w .to) v k ∙ ap (wordTo line) e in
-    λ i. (p ∙ ap (λ (n : ℕ). exactly (take n line) at 1) e) i && ((q ∙ ap (packetAndStakes line) e) i && (r ∙ ap (λ (n : ℕ). exactly line n 0) f) i)
+    λ i. (p ∙ ap (λ (n : ℕ). exactly (take n line) at 1) e) i && (q ∙ ap (packetAlone line) e) i
 
 -- ---- the command
 

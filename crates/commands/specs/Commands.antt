@@ -34,6 +34,9 @@ lookText = 108 ∷ 111 ∷ 111 ∷ 107 ∷ []
 abbrev pub trayText : List ℕ
 trayText = 116 ∷ 114 ∷ 97 ∷ 121 ∷ []
 
+abbrev pub takeText : List ℕ
+takeText = 116 ∷ 97 ∷ 107 ∷ 101 ∷ []
+
 abbrev pub certText : List ℕ
 certText = 99 ∷ 101 ∷ 114 ∷ 116 ∷ []
 
@@ -108,10 +111,10 @@ unfoldable pub questionOf : List ℕ → Command
 questionOf w =
     choose (sameText w certText) command.Cert (choose (sameText w proofText) command.Proof (choose (sameText w checkText) command.Check (choose (sameText w checkProofText) command.CheckProof (choose (sameText w cardText) command.Card (messageOf w)))))
 
--- and "start", "vote", "block", "timeout", "look" and "tray" tell the node something.
+-- and "start", "vote", "block", "timeout", "look", "tray" and "take" tell the node something.
 unfoldable pub inputOf : List ℕ → Command
 inputOf w =
-    choose (sameText w startText) command.Start (choose (sameText w voteText) command.Vote (choose (sameText w blockText) command.Block (choose (sameText w timeoutText) command.Timeout (choose (sameText w lookText) command.Look (choose (sameText w trayText) command.Tray (questionOf w))))))
+    choose (sameText w startText) command.Start (choose (sameText w voteText) command.Vote (choose (sameText w blockText) command.Block (choose (sameText w timeoutText) command.Timeout (choose (sameText w lookText) command.Look (choose (sameText w trayText) command.Tray (choose (sameText w takeText) command.Take (questionOf w)))))))
 
 -- From a place on, a line holds numbers and nothing else: so many, or so many at least.
 unfoldable pub exactly : List ℕ → ℕ → ℕ → Bool
@@ -133,11 +136,13 @@ unfoldable pub packetAndStakes : List ℕ → ℕ → Bool
 packetAndStakes line at =
     ltb (wordFrom line at) (wordTo line at) && (hexOf (wordOf line at) 32768 .good && atLeast line (wordTo line at) 0)
 
+-- A packet in hex, and nothing more.
+unfoldable pub packetAlone : List ℕ → ℕ → Bool
+packetAlone line at = packetAndStakes line at && exactly line (wordTo line at) 0
+
 -- A count, then a message in hex as a packet is, and nothing more.
 unfoldable pub countAndMessage : List ℕ → ℕ → Bool
-countAndMessage line at =
-    exactly (take (wordTo line at) line) at 1
-    && (packetAndStakes line (wordTo line at) && exactly line (wordTo line (wordTo line at)) 0)
+countAndMessage line at = exactly (take (wordTo line at) line) at 1 && packetAlone line (wordTo line at)
 
 -- What follows the command's word, from a place on, is what the command asks for.
 unfoldable pub argumentsFit : Command → List ℕ → ℕ → Bool
@@ -147,6 +152,7 @@ argumentsFit command.Block line at = exactly line at 4
 argumentsFit command.Timeout line at = exactly line at 1
 argumentsFit command.Look line at = exactly line at 0
 argumentsFit command.Tray line at = atLeast line at 0
+argumentsFit command.Take line at = packetAlone line at
 argumentsFit command.Cert line at = exactly line at 3
 argumentsFit command.Proof line at = exactly line at 2
 argumentsFit command.Check line at = packetAndStakes line at
@@ -178,6 +184,7 @@ tells command.Block = true
 tells command.Timeout = true
 tells command.Look = true
 tells command.Tray = true
+tells command.Take = true
 tells command.Cert = false
 tells command.Proof = false
 tells command.Check = false

@@ -1,6 +1,6 @@
 // Which command a line of a script is: by its first word, and by what follows it.
 ghost use mathlib.Core.Path.{_≡_};
-ghost use Rattle.commands.specs.Commands.{sameText, inputOf, questionOf, messageOf, piecesOf, comparedOf, viewOf, exactly, atLeast, oneWord, packetAndStakes, countAndMessage, argumentsFit, commandOf};
+ghost use Rattle.commands.specs.Commands.{sameText, inputOf, questionOf, messageOf, piecesOf, comparedOf, viewOf, exactly, atLeast, oneWord, packetAndStakes, packetAlone, countAndMessage, argumentsFit, commandOf};
 use hex::read_hex;
 use script::read_numbers;
 use script::word_at;
@@ -13,6 +13,7 @@ pub enum Command {
     Timeout,
     Look,
     Tray,
+    Take,
     Cert,
     Proof,
     Check,
@@ -69,6 +70,9 @@ fn input_of(word: &[u8]) -> Command
     }
     if same(word, b"tray") {
         return Command::Tray;
+    }
+    if same(word, b"take") {
+        return Command::Take;
     }
     question_of(word)
 }
@@ -206,17 +210,25 @@ fn packet_and_stakes(line: &[u8], at: usize) -> bool
     at_least(line, to, 0)
 }
 
+// Whether the rest of a line is a packet in hex, of at most 32,768 bytes, and nothing more.
+fn packet_alone(line: &[u8], at: usize) -> bool
+    ensures { λ r. ⌜ r ≡ packetAlone (now (line .entry)) at ⌝ }
+{
+    let w = word_at(line, at);
+    let packed = packet_and_stakes(line, at);
+    let ended = exactly(line, w.to, 0);
+    packed & ended
+}
+
 // Whether the rest of a line is a count, a message in hex, of at most 32,768 bytes, and nothing more.
 fn count_and_message(line: &[u8], at: usize) -> bool
     ensures { λ r. ⌜ r ≡ countAndMessage (now (line .entry)) at ⌝ }
 {
     let w = word_at(line, at);
     let to = w.to;
-    let message = word_at(line, to);
     let counted = exactly(&line[..to], at, 1);
-    let packed = packet_and_stakes(line, to);
-    let ended = exactly(line, message.to, 0);
-    counted & (packed & ended)
+    let packed = packet_alone(line, to);
+    counted & packed
 }
 
 // Whether what follows a command's word is what it asks for.
@@ -230,6 +242,7 @@ fn arguments_fit(c: Command, line: &[u8], at: usize) -> bool
         Command::Timeout => exactly(line, at, 1),
         Command::Look => exactly(line, at, 0),
         Command::Tray => at_least(line, at, 0),
+        Command::Take => packet_alone(line, at),
         Command::Cert => exactly(line, at, 3),
         Command::Proof => exactly(line, at, 2),
         Command::Check => packet_and_stakes(line, at),

@@ -10,7 +10,7 @@ use Rattle.rulebook.specs.declared.Block.{Block}
 use Rattle.rulebook.specs.Tools.{given, choose, lowest}
 use Rattle.rulebook.specs.Ledger.{Ledger, none, noBlock, rowAt, blocksAt, isFree, hasNumber, putFinal, putClash}
 use Rattle.rulebook.specs.Weights.{lastSlot}
-use Rattle.rulebook.specs.Pool.{names}
+use Rattle.rulebook.specs.Pool.{certifiable}
 use Rattle.rulebook.specs.Rules.{State, report, isNewcomer, tellClash, tellFinal, ruleF, findBlock, walkTo, walkStep, ruleG}
 use Rattle.rulebook.proofs.ToolLaws.{given-on, given-off, by-test, true-not-false}
 use Rattle.settling.specs.Facts.{Sound}
@@ -50,7 +50,7 @@ module _ (o : State) (s b : ℕ) where
 
 module _ (o : State) (s : ℕ) where
   abbrev newcomer : ℕ
-  newcomer = lowest (isNewcomer (o .ledger) s) (names (o .ledger) s)
+  newcomer = lowest (isNewcomer (o .ledger) s) (certifiable (o .ledger) s)
 
   pub F-on : none newcomer ≡ false → ruleF o s ≡ tellFinal o s newcomer
   unfolding ruleF

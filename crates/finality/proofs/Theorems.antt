@@ -2,7 +2,7 @@
 use mathlib.Core.Path.{_≡_, refl, sym, ap, _∙_, subst}
 use mathlib.Core.Bool.{Bool, true, false, not, _&&_, _||_}
 use mathlib.Core.List.{List, [], _∷_}
-use mathlib.Core.Logic.{inl, inr}
+use mathlib.Core.Logic.{inl, inr, ⊎-elim}
 use Prim.Native.Nat.{ℕ, _≤_, _<_}
 use native.Mathlib.Omega.{arith}
 use lib.ListN.{length, length-append}
@@ -11,20 +11,21 @@ use lib.Arith.{lt-of-le-ne}
 use borrow.Author.Tests.{eqb-true, eqb-false, ne-eqb, not-true, leb-false, lt-leb}
 use Rattle.rulebook.specs.declared.Block.{Block}
 use Rattle.rulebook.specs.Tools.{lowest}
-use Rattle.rulebook.specs.Ledger.{Ledger, none, rowAt, blocksAt, someBlock, allBlocks, isFree, hasNumber, isBlock, keepsBlock, putFinal, putClash}
-use Rattle.rulebook.specs.Pool.{names}
+use Rattle.rulebook.specs.Ledger.{Ledger, none, rowAt, certificatesAt, blocksAt, someBlock, allBlocks, isFree, hasNumber, isBlock, keepsBlock, putFinal, putClash}
+use Rattle.rulebook.specs.Pool.{named, keptNames, certifiable}
 use Rattle.rulebook.specs.Inputs.{badParent}
 use Rattle.rulebook.specs.WellFormed.{inOrder, keptFits, blocksApart, blocksFit}
 use Rattle.rulebook.specs.Rules.{Record, State, report, isFinal, isNewcomer, tellFinal, findBlock, ruleG}
 use Rattle.rulebook.specs.Run.{made}
 use Rattle.rulebook.proofs.ToolLaws.{given-on, choose-on, choose-off, by-test, and-both, both-and, or-cases, or-none, true-not-false}
+use Rattle.rulebook.proofs.LowestLaws.{free-none, free-named, low-find, low-le}
+use Rattle.rulebook.proofs.CertificateLaws.{kept-free}
 use Rattle.rulebook.proofs.BlockLaws.{find-all}
 use Rattle.settling.proofs.FactLaws.{formed}
 use Rattle.settling.proofs.RunLaws.{rule-F, rule-G}
 use Rattle.settling.proofs.Spending.{tell-comes, G-comes}
 use Rattle.rulebook.specs.Cards.{leader}
-use Rattle.recounting.proofs.Using.{final-card}
-use Rattle.recounting.proofs.Scanning.{newcomer-other}
+use Rattle.recounting.proofs.Using.{final-leads, newcomer-lead}
 use Rattle.finality.specs.Finals.{IsTold, CertifiedIsTold, ParentIsTold}
 use Rattle.finality.proofs.FinalLaws.{clash-on, final-first, final-other, F-on, walk-to, G-stops, G-on}
 
@@ -44,15 +45,22 @@ told-already o s b e =
 -- ---- by certificates
 
 pub certified-is-told : CertifiedIsTold
+unfolding isNewcomer
 certified-is-told o h t s b low high nb e =
     let l : Ledger = o .ledger in
     let f : ℕ = rowAt l s .final in
     by-test (eqb b f) (λ u. inl (sym (eqb-true b f u)))
     (λ u.
     let pos : 1 ≤ b = lt-of-le-ne (omega arith) (λ z. eqb-false b 0 nb (sym z)) in
-    let lead : leader l s ≡ b = eqb-true (leader l s) b (and-both (eqb (leader l s) b) _ (sym (final-card l s (t .sum) (t .some) b pos) ∙ e) .0) in
-    let found : lowest (isNewcomer l s) (names l s) ≡ b = newcomer-other l s (t .sum) (t .some) b f (sym lead) refl (λ i. nb i || u i) ∙ choose-on (isFinal l s b) b 0 e in
-    told-already o s b (ap (tellFinal o s) (sym found) ∙ sym (F-on o s (ap none found ∙ nb)) ∙ sym (rule-F o s) ∙ h .same 5 s low high))
+    let bs : List ℕ = keptNames (certificatesAt l s) (named (leader l s) []) in
+    let few = kept-free (certificatesAt l s) (named (leader l s) []) (free-named (leader l s) [] free-none) in
+    let x : ℕ = lowest (isNewcomer l s) bs in
+    let some : 1 ≤ x = low-le (isNewcomer l s) bs b few (final-leads l s (t .sum) (t .some) b pos e) (both-and (isFinal l s b) (not (eqb b f)) e (ap not u)) .0 in
+    let found : lowest (isNewcomer l s) (certifiable l s) ≡ x = newcomer-lead l s (t .sum) (t .some) in
+    let nx : none x ≡ false = ne-eqb x 0 (λ z. omega arith) in
+    let other : eqb x f ≡ false = not-true (eqb x f) (and-both (isFinal l s x) (not (eqb x f)) (low-find (isNewcomer l s) bs some .1) .1) in
+    ⊎-elim (λ (q : f ≡ x). absurd (eqb-false x f other (sym q))) (λ q. inr q)
+    (told-already o s x (ap (tellFinal o s) (sym found) ∙ sym (F-on o s (ap none found ∙ nx)) ∙ sym (rule-F o s) ∙ h .same 5 s low high)))
 
 -- ---- as a parent
 

@@ -17,11 +17,16 @@ fn inputs(page: &mut [u8], at: usize) -> usize {
     let s = tell_line(
         page,
         r,
+        b"take HEX                             0 N kind,slot,block ..",
+    );
+    let t = tell_line(
+        page,
+        s,
         b"block SLOT NUMBER PARENTSLOT PARENT  0 N kind,slot,block ..",
     );
     tell_line(
         page,
-        s,
+        t,
         b"timeout SLOT | look                  0 N kind,slot,block ..",
     )
 }
@@ -186,12 +191,12 @@ fn middle_refusal(page: &mut [u8], at: usize, n: u64) -> usize {
         7 => tell_line(
             page,
             at,
-            b"7: That very vote, block with parent, or timeout is already kept.",
+            b"7: That very vote, block with parent, or timeout is already kept; or a certificate of that kind, slot and block.",
         ),
         8 => tell_line(
             page,
             at,
-            b"8: Another stands in its place: a second initial vote, a fourth notar-fallback, a fifth block of a slot, a kept block with another parent.",
+            b"8: Another stands in its place: a second initial vote, a fourth notar-fallback, a fifth block of a slot, a kept block with another parent, another block in a kept certificate's place, a tenth certificate of kind 3.",
         ),
         9 => tell_line(
             page,
@@ -229,7 +234,7 @@ fn refusal(page: &mut [u8], at: usize, n: u64) -> usize {
         15 => tell_line(
             page,
             at,
-            b"15: The weight is below the threshold; the figure beside it is what is missing.",
+            b"15: The weight is below the threshold; a check tells beside it what is missing.",
         ),
         16 => tell_line(
             page,
@@ -239,7 +244,7 @@ fn refusal(page: &mut [u8], at: usize, n: u64) -> usize {
         17 => tell_line(
             page,
             at,
-            b"17: No node is started; or the record has a wrong length, a field outside its range, a total that is not the sum, a fallback block kept twice for one node, an own notar-fallback whose block does not reach rule D's weights, a block kept twice in a slot, a tally card that a recount of the slot's votes does not give, or an unused place that is not 0.",
+            b"17: No node is started; or the record has a wrong length, a field outside its range, a total that is not the sum, a fallback block kept twice for one node, an own notar-fallback whose block does not reach rule D's weights, a block kept twice in a slot, a tally card that a recount of the slot's votes does not give, a kept certificate that the checker refuses or that repeats another, or an unused place that is not 0.",
         ),
         18 => tell_line(
             page,

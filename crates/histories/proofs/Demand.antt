@@ -1,16 +1,20 @@
 -- Demand 3 on the promises of the code, proved.
 use mathlib.Core.Path.{_≡_, sym, ap, _∙_, subst}
+use mathlib.Core.Bool.{Bool}
 use mathlib.Core.List.{List}
 use Prim.Native.Nat.{ℕ, _-_}
 use native.Mathlib.Omega.{arith}
 use lib.Dec.{T}
 use lib.ListN.{length, take}
-use Rattle.rulebook.specs.declared.Input.{Input}
 use Rattle.rulebook.specs.declared.CertificateKind.{CertificateKind}
 use Rattle.rulebook.specs.declared.CheckAnswer.{CheckAnswer}
 use Rattle.rulebook.specs.declared.WriteAnswer.{WriteAnswer}
-use Rattle.rulebook.specs.Ledger.{Ledger, fresh, cellAt}
+use Rattle.rulebook.specs.Certificates.{Certificate, Kept}
+use Rattle.rulebook.specs.Ledger.{Ledger, fresh, cellAt, keptAt, isKept}
+use Rattle.rulebook.specs.Pool.{placeKind}
 use Rattle.rulebook.specs.Checker.{checkCertificate, checkProof}
+use Rattle.rulebook.specs.Taking.{Arrival}
+use Rattle.rulebook.specs.WellFormed.{keptIn}
 use Rattle.rulebook.specs.Writers.{Wrote, writeCertificate, writeProof, Writes}
 use Rattle.rulebook.proofs.ToolLaws.{given-on}
 use Rattle.record.specs.Layout.{ledgerOf}
@@ -20,21 +24,30 @@ use Rattle.writers.specs.Writing.{unsound, kindOn, certificateOn, proofOn}
 use Rattle.readback.proofs.Words.{packet-is, certificate-length, proof-length}
 use Rattle.safety.specs.Slot.{Test, Ballot}
 use Rattle.safety.specs.Ballots.{has, recordFor}
-use Rattle.safety.specs.Ring.{afterAll, castBy, Ring, GenuinePacket}
+use Rattle.safety.specs.Ring.{afterAll, castBy, Signers, ballotA, ballotB, Ring, GenuinePacket}
 use Rattle.safety.specs.Promises.{AcceptedAs}
 use Rattle.safety.proofs.Packets.{packet-more}
 use Rattle.safety.proofs.Promises.{packets-safe, proofs-agree, mail-is-enough}
 use Rattle.safety.proofs.Written.{count-is, written-certificate-accepted, written-proof-accepted}
-use Rattle.histories.specs.Calls.{Life, Lived, leftBy, inputsOf}
+use Rattle.histories.specs.Calls.{Life, Lived, leftBy, arrivalsOf}
 use Rattle.histories.specs.Ring.{toldBallot, CodeRing, CodeSafe, CodeProofsAgree, CodeMailIsEnough, CodeFedSafe, CodeCertificateAccepted, CodeProofAccepted}
 use Rattle.histories.proofs.Lives.{started, lived}
 
 -- ---- the ring
 
+-- Signers that voted so by one account of what honest nodes cast voted so by every account that tells of no less.
+pub signers-more : (honest : Test) (cast more : ℕ → ℕ → Ballot → Bool) → ((n s : ℕ) (v : Ballot) → T (honest n) → T (cast n s v) → T (more n s v))
+    → (k : CertificateKind) (c : Certificate) → Signers honest cast k c → Signers honest more k c
+signers-more honest cast more told k c g =
+    record {
+      signedA = λ n h t. told n (c .slot) (ballotA k (c .block)) h (g .signedA n h t);
+      signedB = λ n h w t. told n (c .slot) (ballotB k (c .block)) h (g .signedB n h w t);
+    }
+
 module _ (stakes : List ℕ) (genesis : ℕ → ℕ) (honest : Test) (lives : ℕ → Life) (all : (n : ℕ) → T (honest n) → Lived stakes n (genesis n) (lives n)) where
-  -- What the calls fed to each node.
-  abbrev fed : ℕ → List Input
-  fed n = inputsOf (lives n .calls)
+  -- What arrived at each node with its calls.
+  abbrev fed : ℕ → List Arrival
+  fed n = arrivalsOf (lives n .calls)
 
   -- What an honest node told is what it cast.
   told-cast : (n s : ℕ) (v : Ballot) → T (honest n) → T (toldBallot lives n s v) → T (castBy stakes genesis honest fed n s v)
@@ -43,17 +56,17 @@ module _ (stakes : List ℕ) (genesis : ℕ → ℕ) (honest : Test) (lives : �
   pub cast-told : (n s : ℕ) (v : Ballot) → T (honest n) → T (castBy stakes genesis honest fed n s v) → T (toldBallot lives n s v)
   cast-told n s v h t = subst T (sym (lived stakes n (genesis n) (lives n) (all n h) .told (recordFor s v))) t
 
-  -- The ledger that its words mean is the one after what it was fed.
+  -- The ledger that its words mean is the one after what arrived.
   ledger-is : (n : ℕ) → T (honest n) → ledgerOf (leftBy (lives n)) ≡ afterAll (fresh stakes n (genesis n)) (fed n)
   ledger-is n h = lived stakes n (genesis n) (lives n) (all n h) .ledger
 
   -- A packet that is genuine by what was told is genuine by what was cast.
-  genuine : (packet : List ℕ) → GenuinePacket (length stakes) honest (toldBallot lives) packet → GenuinePacket (length stakes) honest (castBy stakes genesis honest fed) packet
+  pub genuine : (packet : List ℕ) → GenuinePacket (length stakes) honest (toldBallot lives) packet → GenuinePacket (length stakes) honest (castBy stakes genesis honest fed) packet
   genuine = packet-more (length stakes) honest (toldBallot lives) (castBy stakes genesis honest fed) told-cast
 
 -- The calls are a ring of the safety theorem.
 pub ring-of-calls : (stakes : List ℕ) (genesis : ℕ → ℕ) (honest : Test) (lives : ℕ → Life) → CodeRing stakes genesis honest lives
-    → Ring stakes genesis honest (λ n. inputsOf (lives n .calls))
+    → Ring stakes genesis honest (λ n. arrivalsOf (lives n .calls))
 ring-of-calls stakes genesis honest lives ring =
     record {
       few = ring .nodes .few;
@@ -62,15 +75,24 @@ ring-of-calls stakes genesis honest lives ring =
           told-cast stakes genesis honest lives (ring .nodes .lived) m s v k
           (ring .counted n m s v h k ne
           (subst (λ (l : Ledger). T (has (cellAt l s m) v)) (sym (ledger-is stakes genesis honest lives (ring .nodes .lived) n h)) t));
+      kept = λ n s j h t.
+          let cast = castBy stakes genesis honest (λ n. arrivalsOf (lives n .calls)) in
+          let e = ap (λ (l : Ledger). keptAt l s j) (ledger-is stakes genesis honest lives (ring .nodes .lived) n h) in
+          subst (λ (q : Kept). Signers honest cast (placeKind j) (keptIn s q)) e
+          (signers-more honest (toldBallot lives) cast (told-cast stakes genesis honest lives (ring .nodes .lived)) (placeKind j) _
+          (ring .kept n s j h (subst (λ (q : Kept). T (isKept q)) (sym e) t)));
     }
 
 pub code-mail-is-enough : CodeMailIsEnough
 code-mail-is-enough stakes genesis honest lives ring =
-    let r = mail-is-enough stakes genesis honest (λ n. inputsOf (lives n .calls))
+    let r = mail-is-enough stakes genesis honest (λ n. arrivalsOf (lives n .calls))
     (record {
       few = ring .nodes .few;
       started = λ n h. started stakes n (genesis n) (lives n) (ring .nodes .lived n h) .0;
       mail = λ n m s v h k ne t. told-cast stakes genesis honest lives (ring .nodes .lived) m s v k (ring .mail n m s v h k ne t);
+      packets = λ n c h t f.
+          signers-more honest (toldBallot lives) (castBy stakes genesis honest (λ n. arrivalsOf (lives n .calls))) (told-cast stakes genesis honest lives (ring .nodes .lived))
+          (kindIn (length stakes) (c .kind)) c (ring .packets n c h t f);
     })
     in
     record {
@@ -78,18 +100,23 @@ code-mail-is-enough stakes genesis honest lives ring =
       counted = λ n m s v h k ne t.
           cast-told stakes genesis honest lives (ring .nodes .lived) m s v k
           (r .pools n m s v h k ne (subst (λ (l : Ledger). T (has (cellAt l s m) v)) (ledger-is stakes genesis honest lives (ring .nodes .lived) n h) t));
+      kept = λ n s j h t.
+          let e = ap (λ (l : Ledger). keptAt l s j) (ledger-is stakes genesis honest lives (ring .nodes .lived) n h) in
+          subst (λ (q : Kept). Signers honest (toldBallot lives) (placeKind j) (keptIn s q)) (sym e)
+          (signers-more honest (castBy stakes genesis honest (λ n. arrivalsOf (lives n .calls))) (toldBallot lives) (cast-told stakes genesis honest lives (ring .nodes .lived)) (placeKind j) _
+          (r .kept n s j h (subst (λ (q : Kept). T (isKept q)) e t)));
     }
 
 -- ---- what is accepted
 
 pub code-safe : CodeSafe
 code-safe stakes genesis honest lives ring proof packet answer other a d g k p q x y =
-    packets-safe stakes genesis honest (λ n. inputsOf (lives n .calls)) (ring-of-calls stakes genesis honest lives ring) proof packet a d
+    packets-safe stakes genesis honest (λ n. arrivalsOf (lives n .calls)) (ring-of-calls stakes genesis honest lives ring) proof packet a d
     (genuine stakes genesis honest lives (ring .nodes .lived) proof g) (genuine stakes genesis honest lives (ring .nodes .lived) packet k) (sym p ∙ x) (sym q ∙ y)
 
 pub code-proofs-agree : CodeProofsAgree
 code-proofs-agree stakes genesis honest lives ring proof rival answer other a d g k p q x y =
-    proofs-agree stakes genesis honest (λ n. inputsOf (lives n .calls)) (ring-of-calls stakes genesis honest lives ring) proof rival a d
+    proofs-agree stakes genesis honest (λ n. arrivalsOf (lives n .calls)) (ring-of-calls stakes genesis honest lives ring) proof rival a d
     (genuine stakes genesis honest lives (ring .nodes .lived) proof g) (genuine stakes genesis honest lives (ring .nodes .lived) rival k) (sym p ∙ x) (sym q ∙ y)
 
 pub code-fed-safe : CodeFedSafe
@@ -105,16 +132,16 @@ front {w} {buffer} {after} n x e =
     let z : n - 0 ≡ n = omega arith in subst (λ (m : ℕ). take m after ≡ w .bytes) z (packet-is (w .bytes) buffer after n (x .bytes) e)
 
 module _ (stakes : List ℕ) (own genesis : ℕ) (life : Life) (h : Lived stakes own genesis life) where
-  -- On the words that the calls left, the writers write of the ledger after what was fed.
+  -- On the words that the calls left, the writers write of the ledger after what arrived.
   abbrev now : Ledger
-  now = afterAll (fresh stakes own genesis) (inputsOf (life .calls))
+  now = afterAll (fresh stakes own genesis) (arrivalsOf (life .calls))
 
   pub certificate-on : (room kind s b : ℕ) → certificateOn (leftBy life) room kind s b ≡ writeCertificate now room (kindIn (length stakes) kind) s b
   unfolding certificateOn
   certificate-on room kind s b =
       given-on (soundWords (leftBy life)) unsound (λ _. writeCertificate (ledgerOf (leftBy life)) room (kindOn (leftBy life) kind) s b) (lived stakes own genesis life h .sound)
       ∙ ap (λ (l : Ledger). writeCertificate l room (kindIn (l .count) kind) s b) (lived stakes own genesis life h .ledger)
-      ∙ ap (λ (n : ℕ). writeCertificate now room (kindIn n kind) s b) (count-is stakes own genesis (started stakes own genesis life h .0) (inputsOf (life .calls)))
+      ∙ ap (λ (n : ℕ). writeCertificate now room (kindIn n kind) s b) (count-is stakes own genesis (started stakes own genesis life h .0) (arrivalsOf (life .calls)))
 
   pub proof-on : (room s b : ℕ) → proofOn (leftBy life) room s b ≡ writeProof now room s b
   unfolding proofOn
@@ -130,7 +157,7 @@ code-certificate-accepted stakes own genesis life h buffer after kind s b n writ
     let f = sym (w .answered) ∙ e in
     let p = front n w (certificate-length (leftBy life) room kind s b n f) in
     subst (λ (x : CheckAnswer). AcceptedAs x k s b) (sym (c ∙ ap (checkCertificate stakes) (p ∙ ap (λ (x : Wrote). x .bytes) on)))
-    (written-certificate-accepted stakes own genesis (started stakes own genesis life h .0) (inputsOf (life .calls)) room k s b n small
+    (written-certificate-accepted stakes own genesis (started stakes own genesis life h .0) (arrivalsOf (life .calls)) room k s b n small
     (ap (λ (x : Wrote). x .answer) (sym on) ∙ f))
 
 pub code-proof-accepted : CodeProofAccepted
@@ -140,5 +167,5 @@ code-proof-accepted stakes own genesis life h buffer after s b n written answer 
     let f = sym (w .answered) ∙ e in
     let p = front n w (proof-length (leftBy life) room s b n f) in
     subst (λ (x : CheckAnswer). (k : CertificateKind) × AcceptedAs x k s b) (sym (c ∙ ap (checkProof stakes) (p ∙ ap (λ (x : Wrote). x .bytes) on)))
-    (written-proof-accepted stakes own genesis (started stakes own genesis life h .0) (inputsOf (life .calls)) room s b n small
+    (written-proof-accepted stakes own genesis (started stakes own genesis life h .0) (arrivalsOf (life .calls)) room s b n small
     (ap (λ (x : Wrote). x .answer) (sym on) ∙ f))

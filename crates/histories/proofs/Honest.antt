@@ -3,14 +3,14 @@ use mathlib.Core.Path.{_≡_, refl, sym, ap, _∙_, subst}
 use mathlib.Core.List.{List, [], _∷_, _++_, append-assoc}
 use Prim.Native.Nat.{ℕ}
 use lib.ListN.{length}
-use Rattle.rulebook.specs.declared.Input.{Input}
 use Rattle.rulebook.specs.PaperNumbers.{kindIn}
+use Rattle.rulebook.specs.Taking.{Arrival}
 use Rattle.rulebook.specs.Writers.{Wrote}
 use Rattle.readback.proofs.Words.{certificate-length, proof-length}
 use Rattle.safety.specs.Ring.{castBy, GenuinePacket}
 use Rattle.safety.proofs.Packets.{packet-more}
 use Rattle.safety.proofs.Honest.{written-certificate-genuine, written-proof-genuine}
-use Rattle.histories.specs.Calls.{Call, Calls, noMore, called, fedBy, inputsOf, Life, Lived, leftBy}
+use Rattle.histories.specs.Calls.{Call, Calls, noMore, called, fedBy, arrivalsOf, Life, Lived, leftBy}
 use Rattle.histories.specs.Ring.{toldBallot, upTo, CodeWrittenGenuine}
 use Rattle.histories.proofs.Demand.{cast-told, ring-of-calls, front, certificate-on, proof-on}
 
@@ -25,18 +25,18 @@ pub lived-before : (stakes : List ℕ) (own genesis : ℕ) (l : Life) → Lived 
 lived-before stakes own genesis l h before later e =
     record { start = h .start; steps = calls-before (l .words) before later (subst (Calls (l .words)) e (h .steps)) }
 
-inputs-split : (before later : List Call) → inputsOf (before ++ later) ≡ inputsOf before ++ inputsOf later
-unfolding inputsOf
-inputs-split [] later = refl
-inputs-split (c ∷ cs) later =
-    let is : List Input = fedBy (c .operation) (c .lent) in
-    ap (λ (js : List Input). is ++ js) (inputs-split cs later) ∙ sym (append-assoc is (inputsOf cs) (inputsOf later))
+pub arrivals-split : (before later : List Call) → arrivalsOf (before ++ later) ≡ arrivalsOf before ++ arrivalsOf later
+unfolding arrivalsOf
+arrivals-split [] later = refl
+arrivals-split (c ∷ cs) later =
+    let is : List Arrival = fedBy (c .operation) (c .lent) in
+    ap (λ (js : List Arrival). is ++ js) (arrivals-split cs later) ∙ sym (append-assoc is (arrivalsOf cs) (arrivalsOf later))
 
 -- ---- what is written then
 
 pub code-written-genuine : CodeWrittenGenuine
 code-written-genuine stakes genesis honest lives ring =
-    let fed : ℕ → List Input = λ n. inputsOf (lives n .calls) in
+    let fed : ℕ → List Arrival = λ n. arrivalsOf (lives n .calls) in
     let r = ring-of-calls stakes genesis honest lives ring in
     let all = ring .nodes .lived in
     let told : (packet : List ℕ) → GenuinePacket (length stakes) honest (castBy stakes genesis honest fed) packet → GenuinePacket (length stakes) honest (toldBallot lives) packet =
@@ -47,13 +47,13 @@ code-written-genuine stakes genesis honest lives ring =
           let f = sym (w .answered) ∙ x in
           subst (GenuinePacket (length stakes) honest (toldBallot lives))
           (sym (front size w (certificate-length (leftBy (upTo (lives n) before)) (length buffer) kind s b size f) ∙ ap (λ (y : Wrote). y .bytes) on))
-          (told _ (written-certificate-genuine stakes genesis honest fed r n h (inputsOf before) (inputsOf later) (ap inputsOf e ∙ inputs-split before later) (length buffer) (kindIn (length stakes) kind) s b size small
+          (told _ (written-certificate-genuine stakes genesis honest fed r n h (arrivalsOf before) (arrivalsOf later) (ap arrivalsOf e ∙ arrivals-split before later) (length buffer) (kindIn (length stakes) kind) s b size small
           (ap (λ (y : Wrote). y .answer) (sym on) ∙ f)))),
       (λ n h before later e buffer after s b size written small w x.
           let on = proof-on stakes n (genesis n) (upTo (lives n) before) (lived-before stakes n (genesis n) (lives n) (all n h) before later e) (length buffer) s b in
           let f = sym (w .answered) ∙ x in
           subst (GenuinePacket (length stakes) honest (toldBallot lives))
           (sym (front size w (proof-length (leftBy (upTo (lives n) before)) (length buffer) s b size f) ∙ ap (λ (y : Wrote). y .bytes) on))
-          (told _ (written-proof-genuine stakes genesis honest fed r n h (inputsOf before) (inputsOf later) (ap inputsOf e ∙ inputs-split before later) (length buffer) s b size small
+          (told _ (written-proof-genuine stakes genesis honest fed r n h (arrivalsOf before) (arrivalsOf later) (ap arrivalsOf e ∙ arrivals-split before later) (length buffer) s b size small
           (ap (λ (y : Wrote). y .answer) (sym on) ∙ f)))),
     )

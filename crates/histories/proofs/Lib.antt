@@ -4,6 +4,7 @@ pub mod Singly
 pub mod Demand
 pub mod Meeting
 pub mod Honest
+pub mod Received
 pub mod Grounded
 pub mod Fallbacks
 pub mod Cards

@@ -7,25 +7,30 @@ use native.Mathlib.Omega.{arith}
 use lib.ListN.{length, replicate, length-replicate}
 use lib.Dec.{T, eqb, leb}
 use borrow.Author.Tests.{eq-eqb, le-leb}
-use Rattle.rulebook.specs.declared.Input.{Input}
 use Rattle.rulebook.specs.declared.Refusal.{Refusal}
 use Rattle.rulebook.specs.declared.Refusal.the-variants as refusal
 use Rattle.rulebook.specs.declared.Verdict.{Verdict}
 use Rattle.rulebook.specs.declared.Verdict.the-variants.{Fine}
 use Rattle.rulebook.specs.Weights.{placesFor}
-use Rattle.rulebook.specs.Ledger.{Ledger, fresh, cellAt}
+use Rattle.rulebook.specs.Certificates.{Kept}
+use Rattle.rulebook.specs.Ledger.{Ledger, fresh, cellAt, keptAt, isKept}
+use Rattle.rulebook.specs.Pool.{placeKind}
 use Rattle.rulebook.specs.Inputs.{refuseIf, startVerdict}
-use Rattle.rulebook.specs.WellFormed.{outboxWords}
+use Rattle.rulebook.specs.Taking.{Arrival, ofInput, ofPacket}
+use Rattle.rulebook.specs.WellFormed.{outboxWords, keptIn}
 use Rattle.rulebook.proofs.ToolLaws.{given-on}
 use Rattle.record.specs.Layout.{recordWords, ledgerOf}
 use Rattle.record.specs.Spelling.{wordsOf}
 use Rattle.soundness.specs.Starting.{startJudged, startAnswer, startLeft}
-use Rattle.node.specs.Stepping.{stepLeaves}
+use Rattle.node.specs.Stepping.{Leaves, stepLeaves}
+use Rattle.taking.specs.Taking.{takeLeaves}
+use Rattle.safety.specs.Slot.{Ballot}
 use Rattle.safety.specs.Ballots.{has, recordFor}
-use Rattle.safety.specs.Ring.{afterAll, madeIn}
-use Rattle.histories.specs.Calls.{oneInput, Call, Calls, noMore, called, fedBy, inputsOf, Life, Lived, leftBy}
-use Rattle.histories.specs.Ring.{CodeRingMet}
+use Rattle.safety.specs.Ring.{afterAll, madeIn, castBy, Signers}
+use Rattle.histories.specs.Calls.{Operation, oneInput, aPacket, Call, Meets, Calls, noMore, called, oneWith, fedBy, arrivalsOf, Life, Lived, leftBy}
+use Rattle.histories.specs.Ring.{toldBallot, CodeRingMet}
 use Rattle.histories.proofs.Lives.{lived}
+use Rattle.histories.proofs.Demand.{signers-more}
 
 -- Words of zeros.
 pub zeros : ℕ → List ℕ
@@ -35,38 +40,63 @@ pub zeros-long : (n : ℕ) → length (zeros n) ≡ n
 unfolding zeros
 zeros-long n = length-replicate n 0
 
--- ---- calls that feed a list of inputs
+-- ---- calls with which a list of things arrives
 
--- One that feeds the input, with an outbox of zeros that has room.
-callFor : List ℕ → Input → Call
+-- The operation for what arrives.
+operationWith : Arrival → Operation
+operationWith (ofInput i) = oneInput i
+operationWith (ofPacket packet) = aPacket packet
+
+-- What it leaves.
+leavesWith : List ℕ → List ℕ → Arrival → Leaves
+leavesWith ws out (ofInput i) = stepLeaves ws out i
+leavesWith ws out (ofPacket packet) = takeLeaves ws out packet
+
+-- One call with which it arrives, with an outbox of zeros that has room.
+callFor : List ℕ → Arrival → Call
 callFor ws i =
     let out = zeros outboxWords in
     record {
-      operation = oneInput i;
+      operation = operationWith i;
       lent = out;
-      answer = stepLeaves ws out i .answer;
-      words = stepLeaves ws out i .words;
-      left = stepLeaves ws out i .outbox;
+      answer = leavesWith ws out i .answer;
+      words = leavesWith ws out i .words;
+      left = leavesWith ws out i .outbox;
     }
 
-callsFor : List ℕ → List Input → List Call
+callsFor : List ℕ → List Arrival → List Call
 callsFor ws [] = []
 callsFor ws (i ∷ is) = callFor ws i ∷ callsFor (callFor ws i .words) is
 
-calls-meet : (ws : List ℕ) (is : List Input) → Calls ws (callsFor ws is)
+call-meets : (ws : List ℕ) (i : Arrival) → Meets (operationWith i) ws (zeros outboxWords) (callFor ws i .answer) (callFor ws i .words) (callFor ws i .left)
+unfolding callFor operationWith leavesWith
+call-meets ws (ofInput i) = record { answered = refl; words = refl; outbox = refl }
+call-meets ws (ofPacket packet) = record { answered = refl; words = refl; outbox = refl }
+
+calls-meet : (ws : List ℕ) (is : List Arrival) → Calls ws (callsFor ws is)
 unfolding callsFor callFor
 calls-meet ws [] = noMore
-calls-meet ws (i ∷ is) = called {c = callFor ws i} (record { answered = refl; words = refl; outbox = refl }) (calls-meet (callFor ws i .words) is)
+calls-meet ws (i ∷ is) = called {c = callFor ws i} (call-meets ws i) (calls-meet (callFor ws i .words) is)
 
 pub room : leb outboxWords (length (zeros outboxWords)) ≡ true
 room = let e = zeros-long outboxWords in le-leb outboxWords (length (zeros outboxWords)) (omega (arith, e))
 
-inputs-fed : (ws : List ℕ) (is : List Input) → inputsOf (callsFor ws is) ≡ is
-unfolding callsFor callFor inputsOf fedBy
-inputs-fed ws [] = refl
-inputs-fed ws (i ∷ is) =
-    ap (λ (js : List Input). js ++ inputsOf (callsFor (callFor ws i .words) is)) (given-on (leb outboxWords (length (zeros outboxWords))) _ _ room)
-    ∙ ap (λ (js : List Input). i ∷ js) (inputs-fed (callFor ws i .words) is)
+-- With an outbox of zeros it arrives.
+pub one-arrives : (i : Arrival) → oneWith i (zeros outboxWords) ≡ i ∷ []
+unfolding oneWith
+one-arrives i = given-on (leb outboxWords (length (zeros outboxWords))) _ _ room
+
+call-brings : (i : Arrival) → fedBy (operationWith i) (zeros outboxWords) ≡ i ∷ []
+unfolding fedBy operationWith
+call-brings (ofInput i) = one-arrives (ofInput i)
+call-brings (ofPacket packet) = one-arrives (ofPacket packet)
+
+calls-bring : (ws : List ℕ) (is : List Arrival) → arrivalsOf (callsFor ws is) ≡ is
+unfolding callsFor callFor arrivalsOf
+calls-bring ws [] = refl
+calls-bring ws (i ∷ is) =
+    ap (λ (js : List Arrival). js ++ arrivalsOf (callsFor (callFor ws i .words) is)) (call-brings i)
+    ∙ ap (λ (js : List Arrival). i ∷ js) (calls-bring (callFor ws i .words) is)
 
 -- ---- a life
 
@@ -78,7 +108,7 @@ passes : (b : Bool) (r : Refusal) (v : Verdict) → b ≡ true → refuseIf (not
 unfolding refuseIf
 passes b r v e = rw e refl
 
-module _ (stakes : List ℕ) (own genesis : ℕ) (is : List Input) where
+module _ (stakes : List ℕ) (own genesis : ℕ) (is : List Arrival) where
   -- From words of zeros.
   abbrev lifeFor : Life
   lifeFor = record { found = blankFor stakes; words = wordsOf (fresh stakes own genesis); calls = callsFor (wordsOf (fresh stakes own genesis)) is }
@@ -102,16 +132,21 @@ pub code-ring-met : CodeRingMet
 code-ring-met stakes genesis honest fed ring =
     let lives : ℕ → Life = λ n. lifeFor stakes n (genesis n) (fed n) in
     let all : (n : ℕ) → T (honest n) → Lived stakes n (genesis n) (lives n) = λ n h. life-lived stakes n (genesis n) (fed n) (ring .started n h) in
-    let inputs : (n : ℕ) → inputsOf (lives n .calls) ≡ fed n = λ n. inputs-fed (wordsOf (fresh stakes n (genesis n))) (fed n) in (
+    let arrived : (n : ℕ) → arrivalsOf (lives n .calls) ≡ fed n = λ n. calls-bring (wordsOf (fresh stakes n (genesis n))) (fed n) in
+    let ledger : (n : ℕ) → T (honest n) → ledgerOf (leftBy (lives n)) ≡ afterAll (fresh stakes n (genesis n)) (fed n) =
+    (λ n h. lived stakes n (genesis n) (lives n) (all n h) .ledger ∙ ap (afterAll (fresh stakes n (genesis n))) (arrived n)) in
+    let told : (n s : ℕ) (v : Ballot) → T (honest n) → T (castBy stakes genesis honest fed n s v) → T (toldBallot lives n s v) =
+    (λ n s v h. subst T
+    (sym (lived stakes n (genesis n) (lives n) (all n h) .told (recordFor s v) ∙ ap (λ (is : List Arrival). madeIn (fresh stakes n (genesis n)) is (recordFor s v)) (arrived n)))) in (
       lives,
       record {
         nodes = record { few = ring .few; lived = all };
-        counted = λ n m s v h k ne t.
-            let e : ledgerOf (leftBy (lives n)) ≡ afterAll (fresh stakes n (genesis n)) (fed n) =
-            lived stakes n (genesis n) (lives n) (all n h) .ledger ∙ ap (afterAll (fresh stakes n (genesis n))) (inputs n)
-            in
-            subst T (sym (lived stakes m (genesis m) (lives m) (all m k) .told (recordFor s v) ∙ ap (λ (is : List Input). madeIn (fresh stakes m (genesis m)) is (recordFor s v)) (inputs m)))
-            (ring .pools n m s v h k ne (subst (λ (l : Ledger). T (has (cellAt l s m) v)) e t));
+        counted = λ n m s v h k ne t. told m s v k (ring .pools n m s v h k ne (subst (λ (l : Ledger). T (has (cellAt l s m) v)) (ledger n h) t));
+        kept = λ n s j h t.
+            let e = ap (λ (l : Ledger). keptAt l s j) (ledger n h) in
+            subst (λ (q : Kept). Signers honest (toldBallot lives) (placeKind j) (keptIn s q)) (sym e)
+            (signers-more honest (castBy stakes genesis honest fed) (toldBallot lives) told (placeKind j) _
+            (ring .kept n s j h (subst (λ (q : Kept). T (isKept q)) e t)));
       },
-      inputs,
+      arrived,
     )

@@ -9,43 +9,40 @@ use lib.Dec.{eqb, leb}
 use Rattle.rulebook.specs.declared.Input.the-variants as input
 use Rattle.rulebook.specs.declared.Refusal.{Refusal}
 use Rattle.rulebook.specs.declared.Refusal.the-variants as refusal
-use Rattle.rulebook.specs.declared.StepAnswer.{StepAnswer}
 use Rattle.rulebook.specs.declared.StepAnswer.the-variants.{Done, Refused}
 use Rattle.rulebook.specs.declared.Vote.{Vote}
 use Rattle.rulebook.specs.PaperNumbers.{stepPanel}
 use Rattle.rulebook.specs.Ledger.{Ledger}
-use Rattle.rulebook.specs.Rules.{Record}
 use Rattle.rulebook.specs.Inputs.{Fed, feed}
+use Rattle.rulebook.specs.Taking.{ofInput, served}
 use Rattle.rulebook.specs.WellFormed.{wellFormed, outboxWords}
 use Rattle.rulebook.proofs.ToolLaws.{given-on, given-off, given-keeps, by-test, both-and}
 use Rattle.settling.specs.Facts.{Sound}
 use Rattle.settling.proofs.Soundness.{feed-sound}
-use Rattle.record.specs.Layout.{isLong, ledgerOf}
-use Rattle.record.specs.Spelling.{wordsOf}
-use Rattle.record.proofs.Spelled.{words-ledger}
+use Rattle.record.specs.Layout.{ledgerOf}
+use Rattle.record.specs.Spelling.{wordsOf, isSpelled}
 use Rattle.soundness.specs.Sound.{soundWords}
-use Rattle.soundness.proofs.Laws.{sound-long, sound-ledger}
-use Rattle.soundness.proofs.InStep.{spelled-sound, spelled-back}
-use Rattle.node.specs.Stepping.{StepOf}
+use Rattle.soundness.proofs.Laws.{sound-ledger}
+use Rattle.soundness.proofs.InStep.{sound-spelled, spelled-sound, spelled-back}
 use Rattle.trays.specs.Trays.{votesIn, wholeVotes, Served, serve, Tray, trayRefused, trayServed, tray}
 use Rattle.trays.specs.Lent as trays
 use Rattle.trays.specs.Lent.{asServed, trayLeaves, TrayOf}
-use Rattle.histories.specs.Calls.{oneInput, Operation, Call, Meets, Calls, noMore, called, lastOf, firstRecords, toldIn}
+use Rattle.histories.specs.Calls.{Operation, Call, Meets, Calls, noMore, called, lastOf, firstRecords}
 use Rattle.histories.specs.Singly.{Singly, noVote, oneVote, numbersOf, toldInAll, SameAs, TrayAsSteps}
-use Rattle.histories.proofs.Lives.{read-spelled, StepFed, step-is-fed}
+use Rattle.histories.proofs.Lives.{read-spelled, CallServed, step-served}
 
 -- ---- the single calls are the votes served
 
 pub singly-served : (ws : List ℕ) (vs : List Vote) (cs : List Call) → soundWords ws ≡ true → Calls ws cs → Singly vs cs
     → SameAs ws cs (serve (ledgerOf ws) vs .numbers) (serve (ledgerOf ws) vs .records) (wordsOf (serve (ledgerOf ws) vs .ledger))
-unfolding serve numbersOf toldInAll lastOf
-singly-served ws [] [] e noMore noVote = record { answers = refl; records = refl; words = words-ledger ws (sound-long ws e) }
+unfolding serve numbersOf toldInAll lastOf served
+singly-served ws [] [] e noMore noVote = record { answers = refl; records = refl; words = sound-spelled ws e }
 singly-served ws (v ∷ vs) (c ∷ cs) e (called s k) (oneVote o room more) =
     let l : Ledger = ledgerOf ws in
     let f : Fed = feed l (input.Vote v) in
     let sure : Sound (f .ledger) = feed-sound l (sound-ledger ws e) (input.Vote v) in
-    let d : StepFed ws (input.Vote v) (c .answer) (c .words) (c .left) =
-    step-is-fed ws (c .lent) (input.Vote v) (c .answer) (c .words) (c .left) e (subst (λ (x : Operation). Meets x ws (c .lent) (c .answer) (c .words) (c .left)) o s) room in
+    let d : CallServed ws (ofInput (input.Vote v)) (c .answer) (c .words) (c .left) =
+    step-served ws (c .lent) (input.Vote v) (c .answer) (c .words) (c .left) e (subst (λ (x : Operation). Meets x ws (c .lent) (c .answer) (c .words) (c .left)) o s) room in
     let back : ledgerOf (c .words) ≡ f .ledger = ap ledgerOf (d .words) ∙ spelled-back (f .ledger) sure in
     let q : SameAs (c .words) cs (serve (f .ledger) vs .numbers) (serve (f .ledger) vs .records) (wordsOf (serve (f .ledger) vs .ledger)) =
     subst (λ (m : Ledger). SameAs (c .words) cs (serve m vs .numbers) (serve m vs .records) (wordsOf (serve m vs .ledger))) back
@@ -77,11 +74,11 @@ served-as : (ws out votes places : List ℕ) (n : ℕ) (ws' left answers : List 
     → (soundWords ws ≡ true) × (trayLeaves ws out votes places ≡ asServed (trayServed (serve (ledgerOf ws) (votesIn votes))) out places)
 unfolding trayLeaves soundWords
 served-as ws out votes places n ws' left answers h =
-    by-test (isLong ws)
+    by-test (isSpelled ws)
     (λ t.
     let e : trayLeaves ws out votes places ≡ asServed (tray (ledgerOf ws) (length out) (length places) votes) out places = given-on _ _ _ t in
     let d = done-served (ledgerOf ws) (length out) (length places) votes n (ap (λ (x : trays.Leaves). x .answer) (sym e) ∙ sym (h .answered)) in
-    (both-and (isLong ws) (wellFormed (ledgerOf ws)) t (d .0), e ∙ ap (λ (x : Tray). asServed x out places) (d .1)))
+    (both-and (isSpelled ws) (wellFormed (ledgerOf ws)) t (d .0), e ∙ ap (λ (x : Tray). asServed x out places) (d .1)))
     (λ t.
     let e : trayLeaves ws out votes places ≡ trays.asFound refusal.BadRecord ws out places = given-off _ _ _ t in
     let q : Done n ≡ Refused refusal.BadRecord = h .answered ∙ ap (λ (x : trays.Leaves). x .answer) e in

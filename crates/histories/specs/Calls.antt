@@ -1,4 +1,5 @@
--- A node's life as a host sees it: a start, and then calls of the public step and of the tray in any mixture, each known by its contract alone.
+-- A node's life as a host sees it: a start, and then calls of the public step, of the tray and of the taking of certificates in any mixture, each
+-- known by its contract alone.
 use mathlib.Core.Bool.{Bool, false, _&&_, _||_}
 use mathlib.Core.List.{List, [], _∷_, _++_, map}
 use Prim.Native.Nat.{ℕ, zero, suc, _%_}
@@ -11,17 +12,21 @@ use Rattle.rulebook.specs.declared.StepAnswer.{StepAnswer}
 use Rattle.rulebook.specs.declared.StepAnswer.the-variants.{Done, Refused}
 use Rattle.rulebook.specs.Tools.{given}
 use Rattle.rulebook.specs.Rules.{Record, recordOf}
+use Rattle.rulebook.specs.Taking.{Arrival, ofInput, ofPacket}
 use Rattle.rulebook.specs.WellFormed.{outboxWords}
 use Rattle.soundness.specs.Starting.{StartOf}
 use Rattle.node.specs.Stepping.{StepOf}
+use Rattle.taking.specs.Taking.{TakeOf}
 use Rattle.trays.specs.Trays.{votesIn, wholeVotes}
 use Rattle.trays.specs.Lent.{TrayOf}
 use Rattle.safety.specs.Ballots.{among}
 
--- What was called: a step with its input, or a tray with the votes' words and the words of the answer buffer, as lent and as left.
+-- What was called: a step with its input, a tray with the votes' words and the words of the answer buffer, as lent and as left, or the taking of
+-- a certificate packet.
 pub data Operation : Type 0 where
   oneInput : Input → Operation
   aTray : (votes places answers : List ℕ) → Operation
+  aPacket : List ℕ → Operation
 
 -- One call: the operation, the outbox that was lent, the answer, and the record's and the outbox's words afterwards.
 pub record Call : Type 0 where
@@ -35,6 +40,7 @@ pub record Call : Type 0 where
 abbrev pub Meets : Operation → List ℕ → List ℕ → StepAnswer → List ℕ → List ℕ → Type 0
 Meets (oneInput i) ws lent r ws' left = StepOf ws lent i r ws' left
 Meets (aTray votes places answers) ws lent r ws' left = TrayOf ws lent votes places r ws' left answers
+Meets (aPacket packet) ws lent r ws' left = TakeOf ws lent packet r ws' left
 
 -- Calls one after the other, each as its operation's contract has it on the words that the one before left.
 pub data Calls : List ℕ → List Call → Type 0 where
@@ -47,18 +53,23 @@ unfoldable pub lastOf : List ℕ → List Call → List ℕ
 lastOf ws [] = ws
 lastOf ws (c ∷ cs) = lastOf (c .words) cs
 
--- The inputs that a call feeds: a step its one, a tray its votes. A call without room in its outbox, or for a tray's answers, feeds nothing,
--- and so does a tray with a part of a vote at its end.
-unfoldable pub fedBy : Operation → List ℕ → List Input
-fedBy (oneInput i) lent = given (leb outboxWords (length lent)) [] (λ _. i ∷ [])
+-- One thing arrives where the outbox has room.
+unfoldable pub oneWith : Arrival → List ℕ → List Arrival
+oneWith i lent = given (leb outboxWords (length lent)) [] (λ _. i ∷ [])
+
+-- What arrives with a call: with a step its input, with a tray its votes, with a certificate packet that packet. Nothing arrives with a call
+-- without room in its outbox, or for a tray's answers, nor with a tray that has a part of a vote at its end.
+unfoldable pub fedBy : Operation → List ℕ → List Arrival
+fedBy (oneInput i) lent = oneWith (ofInput i) lent
 fedBy (aTray votes places answers) lent =
     given (leb outboxWords (length lent) && leb (wholeVotes votes) (length places)) []
-    (λ _. given (eqb (length votes % 4) 0) [] (λ _. map input.Vote (votesIn votes)))
+    (λ _. given (eqb (length votes % 4) 0) [] (λ _. map (λ v. ofInput (input.Vote v)) (votesIn votes)))
+fedBy (aPacket packet) lent = oneWith (ofPacket packet) lent
 
--- The inputs that the node was fed.
-unfoldable pub inputsOf : List Call → List Input
-inputsOf [] = []
-inputsOf (c ∷ cs) = fedBy (c .operation) (c .lent) ++ inputsOf cs
+-- What arrived at the node.
+unfoldable pub arrivalsOf : List Call → List Arrival
+arrivalsOf [] = []
+arrivalsOf (c ∷ cs) = fedBy (c .operation) (c .lent) ++ arrivalsOf cs
 
 -- The first n records of an outbox, three words each.
 unfoldable pub firstRecords : ℕ → List ℕ → List Record

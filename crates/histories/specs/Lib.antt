@@ -1,6 +1,7 @@
--- Histories of calls, demand 3, the own fallbacks and the tally cards over them, and a tray beside single calls.
+-- Histories of calls, demand 3, certificates from other firms, the own fallbacks and the tally cards over them, and a tray beside single calls.
 pub mod Calls
 pub mod Ring
+pub mod Received
 pub mod Singly
 pub mod Grounded
 pub mod Fallbacks

@@ -5,18 +5,19 @@ use mathlib.Core.List.{List, [], _∷_}
 use Prim.Native.Nat.{ℕ}
 use lib.Dec.{T}
 use lib.ListN.{length, take}
-use Rattle.rulebook.specs.declared.Accepted.{Accepted}
-use Rattle.rulebook.specs.declared.Input.{Input}
 use Rattle.rulebook.specs.declared.CertificateKind.{CertificateKind}
 use Rattle.rulebook.specs.declared.CheckAnswer.{CheckAnswer}
 use Rattle.rulebook.specs.declared.CheckAnswer.the-variants as check
 use Rattle.rulebook.specs.declared.Slot.{Slot}
-use Rattle.rulebook.specs.declared.Verdict.the-variants.{Refused}
 use Rattle.rulebook.specs.declared.WriteAnswer.{WriteAnswer}
 use Rattle.rulebook.specs.declared.WriteAnswer.the-variants as write
 use Rattle.rulebook.specs.PaperNumbers.{kindIn, numberIn, writePanel, checkNumber, checkValues}
-use Rattle.rulebook.specs.Ledger.{cellAt}
+use Rattle.rulebook.specs.Certificates.{Certificate, Kept}
+use Rattle.rulebook.specs.Ledger.{cellAt, keptAt, isKept}
+use Rattle.rulebook.specs.Pool.{placeKind}
 use Rattle.rulebook.specs.Checker.{isOtherKind, checkCertificate, checkProof}
+use Rattle.rulebook.specs.Taking.{Arrival}
+use Rattle.rulebook.specs.WellFormed.{keptIn}
 use Rattle.rulebook.specs.Writers as writer
 use Rattle.rulebook.specs.Writers.{certificateVerdict, writeCertificate, Writes}
 use Rattle.rulebook.proofs.KindLaws.{kind-back, number-back}
@@ -25,16 +26,16 @@ use Rattle.record.specs.Layout.{ledgerOf}
 use Rattle.writers.specs.Writing.{certificateOn, proofOn}
 use Rattle.safety.specs.Slot.{Test, Ballot}
 use Rattle.safety.specs.Ballots.{has, recordFor}
-use Rattle.safety.specs.Ring.{broughtBy, GenuinePacket}
+use Rattle.safety.specs.Ring.{broughtBy, HandedBy, Signers, GenuinePacket}
 use Rattle.safety.specs.Promises.{AcceptedAs}
 use Rattle.safety.proofs.Packets.{packet-more}
 use Rattle.histories.specs.Calls.{Life, Lived, leftBy}
 use Rattle.histories.specs.Ring as code
-use Rattle.histories.proofs.Demand.{code-safe, code-proofs-agree, code-mail-is-enough, certificate-on, code-certificate-accepted, code-proof-accepted}
+use Rattle.histories.proofs.Demand.{signers-more, code-safe, code-proofs-agree, code-mail-is-enough, certificate-on, code-certificate-accepted, code-proof-accepted}
 use Rattle.answers.specs.Face.{Beside, acceptedValues, Wrote, Checked}
 use Rattle.hosts.specs.Calls.{HostLife, HostLived, wordsLeft}
-use Rattle.hosts.specs.Ring.{toldBallot, countedBallot, HostRing, HostSafe, HostProofsAgree, HostMailIsEnough, HostFedSafe, NamedAs, HostCertificateAccepted, HostProofAccepted}
-use Rattle.hosts.proofs.Lives.{refusal-above, last-is, inputs-are, told-is, lifeOf, lived-is}
+use Rattle.hosts.specs.Ring.{toldBallot, countedBallot, keptBy, HostRing, HostSafe, HostProofsAgree, HostMailIsEnough, HostFedSafe, NamedAs, HostCertificateAccepted, HostProofAccepted}
+use Rattle.hosts.proofs.Lives.{refusal-above, last-is, arrivals-are, told-is, lifeOf, lived-is}
 
 -- ---- the ring
 
@@ -48,8 +49,17 @@ module _ (stakes : List ℕ) (genesis : ℕ → ℕ) (honest : Test) (lives : �
   counted-same : (n m s : ℕ) (v : Ballot) → code.countedBallot plain n m s v ≡ countedBallot lives n m s v
   counted-same n m s v = ap (λ (ws : List ℕ). has (cellAt (ledgerOf ws) s m) v) (last-is (lives n .words) (lives n .calls))
 
-  -- A packet that is genuine by what the C calls told is genuine by what the calls of the step told.
-  genuine : (packet : List ℕ) → GenuinePacket (length stakes) honest (toldBallot lives) packet → GenuinePacket (length stakes) honest (code.toldBallot plain) packet
+  kept-same : (n s j : ℕ) → code.keptBy plain n s j ≡ keptBy lives n s j
+  kept-same n s j = ap (λ (ws : List ℕ). keptAt (ledgerOf ws) s j) (last-is (lives n .words) (lives n .calls))
+
+  -- What is signed by what the C calls told is signed by what the calls of the operations told, and a packet likewise.
+  signed : (k : CertificateKind) (c : Certificate) → Signers honest (toldBallot lives) k c → Signers honest (code.toldBallot plain) k c
+  signed = signers-more honest (toldBallot lives) (code.toldBallot plain) (λ n s v h. subst T (sym (told-same n s v h)))
+
+  signed-back : (k : CertificateKind) (c : Certificate) → Signers honest (code.toldBallot plain) k c → Signers honest (toldBallot lives) k c
+  signed-back = signers-more honest (code.toldBallot plain) (toldBallot lives) (λ n s v h. subst T (told-same n s v h))
+
+  pub genuine : (packet : List ℕ) → GenuinePacket (length stakes) honest (toldBallot lives) packet → GenuinePacket (length stakes) honest (code.toldBallot plain) packet
   genuine = packet-more (length stakes) honest (toldBallot lives) (code.toldBallot plain) (λ n s v h. subst T (sym (told-same n s v h)))
 
 -- The C calls are a ring of the code.
@@ -62,6 +72,10 @@ module _ (stakes : List ℕ) (genesis : ℕ → ℕ) (honest : Test) (lives : �
         counted = λ n m s v h k ne t.
             subst T (sym (told-same stakes genesis honest lives all m s v k))
             (ring .counted n m s v h k ne (subst T (counted-same stakes genesis honest lives all n m s v) t));
+        kept = λ n s j h t.
+            let e = kept-same stakes genesis honest lives all n s j in
+            subst (λ (q : Kept). Signers honest (code.toldBallot (λ n. lifeOf (lives n))) (placeKind j) (keptIn s q)) (sym e)
+            (signed stakes genesis honest lives all (placeKind j) _ (ring .kept n s j h (subst (λ (q : Kept). T (isKept q)) e t)));
       }
 
 pub host-mail-is-enough : HostMailIsEnough
@@ -72,7 +86,10 @@ host-mail-is-enough stakes genesis honest lives ring =
       nodes = record { few = ring .nodes .few; lived = λ n h. lived-is stakes n (genesis n) (lives n) (all n h) };
       mail = λ n m s v h k ne t.
           subst T (sym (told-same stakes genesis honest lives all m s v k))
-          (ring .mail n m s v h k ne (subst (λ (is : List Input). T (broughtBy is s m v)) (inputs-are (lives n .words) (lives n .calls)) t));
+          (ring .mail n m s v h k ne (subst (λ (is : List Arrival). T (broughtBy is s m v)) (arrivals-are (lives n .words) (lives n .calls)) t));
+      packets = λ n c h t f.
+          signed stakes genesis honest lives all (kindIn (length stakes) (c .kind)) c
+          (ring .packets n c h (subst (λ (is : List Arrival). HandedBy is c) (arrivals-are (lives n .words) (lives n .calls)) t) f);
     })
     in
     record {
@@ -80,6 +97,10 @@ host-mail-is-enough stakes genesis honest lives ring =
       counted = λ n m s v h k ne t.
           subst T (told-same stakes genesis honest lives all m s v k)
           (r .counted n m s v h k ne (subst T (sym (counted-same stakes genesis honest lives all n m s v)) t));
+      kept = λ n s j h t.
+          let e = kept-same stakes genesis honest lives all n s j in
+          subst (λ (q : Kept). Signers honest (toldBallot lives) (placeKind j) (keptIn s q)) e
+          (signed-back stakes genesis honest lives all (placeKind j) _ (r .kept n s j h (subst (λ (q : Kept). T (isKept q)) (sym e) t)));
     }
 
 -- ---- what is accepted

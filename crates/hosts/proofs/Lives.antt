@@ -4,7 +4,6 @@ use mathlib.Core.Bool.{_||_}
 use mathlib.Core.List.{List, [], _∷_, _++_}
 use Prim.Native.Nat.{ℕ}
 use native.Mathlib.Omega.{arith}
-use Rattle.rulebook.specs.declared.Input.{Input}
 use Rattle.rulebook.specs.declared.Refusal.{Refusal}
 use Rattle.rulebook.specs.declared.Refusal.the-variants as refusal
 use Rattle.rulebook.specs.declared.StartAnswer.{StartAnswer}
@@ -13,14 +12,16 @@ use Rattle.rulebook.specs.declared.StepAnswer.{StepAnswer}
 use Rattle.rulebook.specs.declared.StepAnswer.the-variants.{Done, Refused}
 use Rattle.rulebook.specs.PaperNumbers.{refusalNumber, startPanel, stepPanel}
 use Rattle.rulebook.specs.Rules.{Record}
+use Rattle.rulebook.specs.Taking.{Arrival}
 use Rattle.soundness.specs.Starting.{startJudged, startAnswer}
 use Rattle.node.specs.Stepping.{stepLeaves}
+use Rattle.taking.specs.Taking.{takeLeaves}
 use Rattle.trays.specs.Lent.{trayLeaves}
 use Rattle.safety.specs.Ballots.{among}
 use Rattle.histories.specs.Calls as code
-use Rattle.histories.specs.Calls.{Call, Meets, Calls, Life, Lived, lastOf, fedBy, inputsOf, firstRecords, toldIn, toldBy, allTold}
-use Rattle.answers.specs.Face.{Beside, Started}
-use Rattle.hosts.specs.Calls.{inputFor, Function, asks, qr-tray, operationFor, HostMeets, HostCall, HostCalls, noMore, called, lastWords, inputsFed, toldOut, allOut, HostLife, HostLived, HostCallIsCall, StartedIsStart}
+use Rattle.histories.specs.Calls.{Call, Meets, Calls, Life, Lived, lastOf, fedBy, arrivalsOf, firstRecords, toldIn, toldBy, allTold}
+use Rattle.answers.specs.Face.{Beside}
+use Rattle.hosts.specs.Calls.{inputFor, Function, asks, qr-tray, qr-take, operationFor, HostMeets, HostCall, HostCalls, noMore, called, lastWords, arrivalsIn, toldOut, allOut, HostLife, HostLived, HostCallIsCall, StartedIsStart}
 
 -- No refusal's number is 0.
 pub refusal-above : {X : Type 0} (r : Refusal) → refusalNumber r ≡ 0 → X
@@ -70,6 +71,7 @@ module _ (number made : ℕ) where
 pub answerOf : Function → List ℕ → List ℕ → StepAnswer
 answerOf (asks a) ws out = stepLeaves ws out (inputFor a) .answer
 answerOf (qr-tray votes places answers) ws out = trayLeaves ws out votes places .answer
+answerOf (qr-take packet) ws out = takeLeaves ws out packet .answer
 
 pub host-call-is-call : HostCallIsCall
 unfolding answerOf
@@ -87,6 +89,15 @@ host-call-is-call (qr-tray votes places answers) ws out number made ws' left s =
     record {
       answer = a;
       meets = record { answered = refl; words = s .words; outbox = s .outbox; answers = s .answered };
+      done = done-made number made a (s .numbered) (s .counted);
+      zero = made-done number made a (s .numbered) (s .counted);
+      told = made-told number made a left (s .counted);
+    }
+host-call-is-call (qr-take packet) ws out number made ws' left s =
+    let a = answerOf (qr-take packet) ws out in
+    record {
+      answer = a;
+      meets = record { answered = refl; words = s .words; outbox = s .outbox };
       done = done-made number made a (s .numbered) (s .counted);
       zero = made-done number made a (s .numbered) (s .counted);
       told = made-told number made a left (s .counted);
@@ -129,6 +140,8 @@ call-meets (asks a) ws out number made ws' left s =
     let k = host-call-is-call (asks a) ws out number made ws' left s in (k .meets, k .told)
 call-meets (qr-tray votes places answers) ws out number made ws' left s =
     let k = host-call-is-call (qr-tray votes places answers) ws out number made ws' left s in (k .meets, k .told)
+call-meets (qr-take packet) ws out number made ws' left s =
+    let k = host-call-is-call (qr-take packet) ws out number made ws' left s in (k .meets, k .told)
 
 pub calls-meet : (ws : List ℕ) (cs : List HostCall) → HostCalls ws cs → Calls ws (callsOf ws cs)
 unfolding callsOf callOf
@@ -142,16 +155,16 @@ unfolding callsOf lastWords
 calls-split ws [] later = refl
 calls-split ws (c ∷ cs) later = ap (λ (ks : List Call). callOf ws c ∷ ks) (calls-split (c .words) cs later)
 
--- The words afterwards, the inputs fed and the records told are those of the C calls.
+-- The words afterwards, what arrived and the records told are those of the C calls.
 pub last-is : (ws : List ℕ) (cs : List HostCall) → lastOf ws (callsOf ws cs) ≡ lastWords ws cs
 unfolding callsOf callOf lastOf lastWords
 last-is ws [] = refl
 last-is ws (c ∷ cs) = last-is (c .words) cs
 
-pub inputs-are : (ws : List ℕ) (cs : List HostCall) → inputsOf (callsOf ws cs) ≡ inputsFed cs
-unfolding callsOf callOf inputsOf inputsFed
-inputs-are ws [] = refl
-inputs-are ws (c ∷ cs) = ap (λ (is : List Input). fedBy (operationFor (c .function)) (c .lent) ++ is) (inputs-are (c .words) cs)
+pub arrivals-are : (ws : List ℕ) (cs : List HostCall) → arrivalsOf (callsOf ws cs) ≡ arrivalsIn cs
+unfolding callsOf callOf arrivalsOf arrivalsIn
+arrivals-are ws [] = refl
+arrivals-are ws (c ∷ cs) = ap (λ (is : List Arrival). fedBy (operationFor (c .function)) (c .lent) ++ is) (arrivals-are (c .words) cs)
 
 pub told-is : (ws : List ℕ) (cs : List HostCall) → HostCalls ws cs → (r : Record) → toldBy (callsOf ws cs) r ≡ toldOut cs r
 unfolding callsOf callOf toldBy toldOut

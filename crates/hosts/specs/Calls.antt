@@ -1,5 +1,5 @@
--- A node's life as a host in C sees it: qr_start, and calls of qr_vote, qr_block, qr_timeout, qr_look and qr_tray, each known by its contract
--- alone.
+-- A node's life as a host in C sees it: qr_start, and calls of qr_vote, qr_block, qr_timeout, qr_look, qr_tray and qr_take, each known by its
+-- contract alone.
 use mathlib.Core.Path.{_≡_}
 use mathlib.Core.Bool.{Bool, false, _||_}
 use mathlib.Core.List.{List, [], _∷_, _++_}
@@ -10,11 +10,12 @@ use Rattle.rulebook.specs.declared.StartAnswer.the-variants as start
 use Rattle.rulebook.specs.declared.StepAnswer.{StepAnswer}
 use Rattle.rulebook.specs.declared.StepAnswer.the-variants.{Done}
 use Rattle.rulebook.specs.Rules.{Record}
+use Rattle.rulebook.specs.Taking.{Arrival}
 use Rattle.soundness.specs.Starting.{StartOf}
 use Rattle.safety.specs.Ballots.{among}
-use Rattle.histories.specs.Calls.{Operation, oneInput, aTray, Meets, fedBy, firstRecords, toldIn}
+use Rattle.histories.specs.Calls.{Operation, oneInput, aTray, aPacket, Meets, fedBy, firstRecords, toldIn}
 use Rattle.inputs.specs.Inputs.{voteInput, blockInput, timeoutInput}
-use Rattle.answers.specs.Face.{Started, Stepped, Trayed}
+use Rattle.answers.specs.Face.{Started, Stepped, Taken, Trayed}
 
 -- The function that feeds one input, and the numbers that it was given.
 pub data Asked : Type 0 where
@@ -30,20 +31,24 @@ inputFor (qr-block s b ps p) = blockInput s b ps p
 inputFor (qr-timeout s) = timeoutInput s
 inputFor qr-look = input.Look
 
--- The function that was called: one of these, or qr_tray with the votes' words and the words of the answer buffer, as lent and as left.
+-- The function that was called: one of these, or qr_tray with the votes' words and the words of the answer buffer, as lent and as left, or
+-- qr_take with the packet's bytes.
 pub data Function : Type 0 where
   asks : Asked → Function
   qr-tray : (votes places answers : List ℕ) → Function
+  qr-take : (packet : List ℕ) → Function
 
 -- The public operation that it stands for.
 abbrev pub operationFor : Function → Operation
 operationFor (asks a) = oneInput (inputFor a)
 operationFor (qr-tray votes places answers) = aTray votes places answers
+operationFor (qr-take packet) = aPacket packet
 
 -- What the function's contract has of the number answered, of `made` and of all memory afterwards.
 abbrev pub HostMeets : Function → List ℕ → List ℕ → ℕ → ℕ → List ℕ → List ℕ → Type 0
 HostMeets (asks a) ws lent number made ws' left = Stepped ws lent (inputFor a) number made ws' left
 HostMeets (qr-tray votes places answers) ws lent number made ws' left = Trayed ws lent votes places number made ws' left answers
+HostMeets (qr-take packet) ws lent number made ws' left = Taken ws lent packet number made ws' left
 
 -- One call: the function, the outbox that was lent, the number answered, what `made` holds afterwards, and the record's and the outbox's
 -- words afterwards.
@@ -67,10 +72,10 @@ unfoldable pub lastWords : List ℕ → List HostCall → List ℕ
 lastWords ws [] = ws
 lastWords ws (c ∷ cs) = lastWords (c .words) cs
 
--- The inputs that the node was fed.
-unfoldable pub inputsFed : List HostCall → List Input
-inputsFed [] = []
-inputsFed (c ∷ cs) = fedBy (operationFor (c .function)) (c .lent) ++ inputsFed cs
+-- What arrived at the node.
+unfoldable pub arrivalsIn : List HostCall → List Arrival
+arrivalsIn [] = []
+arrivalsIn (c ∷ cs) = fedBy (operationFor (c .function)) (c .lent) ++ arrivalsIn cs
 
 -- The record was told in one of the calls: it is among the outbox's first records, as many as `made` says.
 unfoldable pub toldOut : List HostCall → Record → Bool

@@ -6,17 +6,21 @@ use mathlib.Core.List.{List, [], _∷_, _++_}
 use Prim.Native.Nat.{ℕ, _<_, _^_}
 use lib.Dec.{T}
 use lib.ListN.{length, take}
-use Rattle.rulebook.specs.declared.Input.{Input}
+use Rattle.rulebook.specs.declared.Verdict.the-variants.{Fine}
+use Rattle.rulebook.specs.Certificates.{Certificate, Kept}
 use Rattle.rulebook.specs.PaperNumbers.{kindIn}
-use Rattle.rulebook.specs.Ledger.{cellAt}
-use Rattle.rulebook.specs.Checker.{checkCertificate, checkProof}
+use Rattle.rulebook.specs.Ledger.{cellAt, keptAt, isKept}
+use Rattle.rulebook.specs.Pool.{placeKind}
+use Rattle.rulebook.specs.Checker.{judge, checkCertificate, checkProof}
+use Rattle.rulebook.specs.Taking.{Arrival}
+use Rattle.rulebook.specs.WellFormed.{keptIn}
 use Rattle.record.specs.Layout.{ledgerOf}
 use Rattle.writers.specs.Writing.{certificateOn, proofOn}
 use Rattle.safety.specs.Slot.{Test, Ballot}
 use Rattle.safety.specs.Ballots.{has, recordFor}
-use Rattle.safety.specs.Ring.{broughtBy, FewOthers, Ring, GenuinePacket, Agrees}
+use Rattle.safety.specs.Ring.{broughtBy, HandedBy, FewOthers, Signers, Genuine, Ring, GenuinePacket, Agrees}
 use Rattle.answers.specs.Face.{Wrote, Checked}
-use Rattle.hosts.specs.Calls.{HostCall, HostLife, HostLived, lastWords, wordsLeft, inputsFed, toldOut}
+use Rattle.hosts.specs.Calls.{HostCall, HostLife, HostLived, lastWords, wordsLeft, arrivalsIn, toldOut}
 
 -- Node n's outbox told the ballot for slot s in one of its calls.
 abbrev pub toldBallot : (ℕ → HostLife) → ℕ → ℕ → Ballot → Bool
@@ -26,6 +30,10 @@ toldBallot lives n s v = toldOut (lives n .calls) (recordFor s v)
 abbrev pub countedBallot : (ℕ → HostLife) → ℕ → ℕ → ℕ → Ballot → Bool
 countedBallot lives n m s v = has (cellAt (ledgerOf (wordsLeft (lives n))) s m) v
 
+-- What those words keep in place j of slot s.
+abbrev pub keptBy : (ℕ → HostLife) → ℕ → ℕ → ℕ → Kept
+keptBy lives n s j = keptAt (ledgerOf (wordsLeft (lives n))) s j
+
 -- The stake table, the genesis that each node was started with, which nodes are honest, and each node's life.
 module _ (stakes : List ℕ) (genesis : ℕ → ℕ) (honest : Test) (lives : ℕ → HostLife) where
   -- All other stake is strictly under one fifth; every honest node was started with this table under its own number, qr_start answered 0, and
@@ -34,16 +42,20 @@ module _ (stakes : List ℕ) (genesis : ℕ → ℕ) (honest : Test) (lives : �
     pub few : FewOthers stakes honest
     pub lived : (n : ℕ) → T (honest n) → HostLived stakes n (genesis n) (lives n)
 
-  -- THE PREMISE: these nodes; and an honest node's words count another honest node's vote only where the other's outbox told it.
+  -- THE PREMISE: these nodes; an honest node's words count another honest node's vote only where the other's outbox told it; and "Demand 3's
+  -- premise covers signers in kept certificates": every honest node among the signers of a certificate that an honest node's words keep, that
+  -- node itself included, told that vote.
   pub record HostRing : Type 0 where
     pub nodes : HostNodes
     pub counted : (n m s : ℕ) (v : Ballot) → T (honest n) → T (honest m) → ¬ (m ≡ n) → T (countedBallot lives n m s v) → T (toldBallot lives m s v)
+    pub kept : (n s j : ℕ) → T (honest n) → T (isKept (keptBy lives n s j)) → Signers honest (toldBallot lives) (placeKind j) (keptIn s (keptBy lives n s j))
 
-  -- The same with the last part over what is fed: a vote given to qr_vote, or in a tray to qr_tray, at one honest node in another's name is one
-  -- that the other's outbox told.
+  -- The same with the last two parts over what arrives: a vote given to qr_vote, or in a tray to qr_tray, at one honest node in another's name is
+  -- one that the other's outbox told, and a certificate given to qr_take at an honest node and that the checker accepts is genuine.
   pub record HostFedRing : Type 0 where
     pub nodes : HostNodes
-    pub mail : (n m s : ℕ) (v : Ballot) → T (honest n) → T (honest m) → ¬ (m ≡ n) → T (broughtBy (inputsFed (lives n .calls)) s m v) → T (toldBallot lives m s v)
+    pub mail : (n m s : ℕ) (v : Ballot) → T (honest n) → T (honest m) → ¬ (m ≡ n) → T (broughtBy (arrivalsIn (lives n .calls)) s m v) → T (toldBallot lives m s v)
+    pub packets : (n : ℕ) (c : Certificate) → T (honest n) → HandedBy (arrivalsIn (lives n .calls)) c → judge stakes c ≡ Fine → Genuine (length stakes) honest (toldBallot lives) c
 
   -- Where qr_check_proof answers 0 and names a slot and a block, no packet to which qr_check_certificate answers 0 for that slot is of kind 4, or
   -- of kind 1, 2 or 3 for another block.
@@ -76,24 +88,24 @@ HostProofsAgree =
     (stakes : List ℕ) (genesis : ℕ → ℕ) (honest : Test) (lives : ℕ → HostLife) → HostRing stakes genesis honest lives
     → OneBlock stakes genesis honest lives
 
--- A host can check what is fed in place of what is counted: that is enough for the ring.
+-- A host can check what arrives in place of what is counted and kept: that is enough for the ring.
 abbrev pub HostMailIsEnough : Type 0
 HostMailIsEnough =
     (stakes : List ℕ) (genesis : ℕ → ℕ) (honest : Test) (lives : ℕ → HostLife) → HostFedRing stakes genesis honest lives
     → HostRing stakes genesis honest lives
 
--- So both promises hold where the host checks what is fed.
+-- So both promises hold where the host checks what arrives.
 abbrev pub HostFedSafe : Type 0
 HostFedSafe =
     (stakes : List ℕ) (genesis : ℕ → ℕ) (honest : Test) (lives : ℕ → HostLife) → HostFedRing stakes genesis honest lives
     → NoRival stakes genesis honest lives × OneBlock stakes genesis honest lives
 
--- The premise can be met: what honest nodes are fed in a ring of the safety theorem can be fed to them by calls of the C functions, and these
--- are a ring too.
+-- The premise can be met: what arrives at honest nodes in a ring of the safety theorem can arrive with calls of the C functions, and these are a
+-- ring too.
 abbrev pub HostRingMet : Type 0
 HostRingMet =
-    (stakes : List ℕ) (genesis : ℕ → ℕ) (honest : Test) (fed : ℕ → List Input) → Ring stakes genesis honest fed
-    → (lives : ℕ → HostLife) × HostRing stakes genesis honest lives × ((n : ℕ) → inputsFed (lives n .calls) ≡ fed n)
+    (stakes : List ℕ) (genesis : ℕ → ℕ) (honest : Test) (fed : ℕ → List Arrival) → Ring stakes genesis honest fed
+    → (lives : ℕ → HostLife) × HostRing stakes genesis honest lives × ((n : ℕ) → arrivalsIn (lives n .calls) ≡ fed n)
 
 -- A check's answer accepts, and names this kind, slot and block.
 pub record NamedAs (number : ℕ) (values : List ℕ) (kind slot block : ℕ) : Type 0 where
@@ -102,8 +114,9 @@ pub record NamedAs (number : ℕ) (values : List ℕ) (kind slot block : ℕ) : 
   pub weight : ℕ
   pub names : values ≡ kind ∷ slot ∷ block ∷ signers ∷ weight ∷ []
 
--- What qr_write_certificate, answering 0, wrote to the buffer's front on the words that a node's calls left, at any moment, qr_check_certificate
--- accepts with the table of the node's start, and names the kind, slot and block that were asked for. Blocks are 64-bit numbers.
+-- What qr_write_certificate, answering 0, wrote to the buffer's front on the words that a node's calls left, at any moment, from stored votes or
+-- from kept masks, qr_check_certificate accepts with the table of the node's start, and names the kind, slot and block that were asked for. Blocks
+-- are 64-bit numbers.
 abbrev pub HostCertificateAccepted : Type 0
 HostCertificateAccepted =
     (stakes : List ℕ) (own genesis : ℕ) (life : HostLife) → HostLived stakes own genesis life
@@ -119,8 +132,8 @@ HostProofAccepted =
     → Wrote (proofOn (wordsLeft life) (length buffer) slot block) buffer 0 written after
     → Checked (length stakes) (checkProof stakes (take written after)) number values missing → (kind : ℕ) × NamedAs number values kind slot block
 
--- What qr_write_certificate and qr_write_proof, answering 0, wrote to the buffer's front at any moment of an honest node's life is genuine, so
--- that the promises hold of it with no premise on packets.
+-- What qr_write_certificate and qr_write_proof, answering 0, wrote to the buffer's front at any moment of an honest node's life, from stored votes
+-- or from kept masks, is genuine, so that the promises hold of it with no premise on packets.
 module _ (stakes : List ℕ) (genesis : ℕ → ℕ) (honest : Test) (lives : ℕ → HostLife) where
   abbrev pub CertificateGenuine : Type 0
   CertificateGenuine =

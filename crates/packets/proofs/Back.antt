@@ -11,7 +11,7 @@ use lib.Dec.{eqb, leb, ltb, lit<}
 use borrow.Author.Tests.{lt-leb, le-ltb, leb-true, not-false, eq-eqb}
 use Rattle.rulebook.specs.declared.Cell.{Cell}
 use Rattle.rulebook.specs.declared.Accepted.{Accepted}
-use Rattle.rulebook.specs.Certificates.{Certificate}
+use Rattle.rulebook.specs.Certificates.{Certificate, Kept}
 use Rattle.rulebook.specs.declared.CertificateKind.{CertificateKind}
 use Rattle.rulebook.specs.declared.CertificateKind.the-variants as certificate
 use Rattle.rulebook.specs.declared.CheckAnswer.the-variants as check
@@ -23,19 +23,21 @@ use Rattle.rulebook.specs.declared.WriteAnswer.the-variants as write
 use Rattle.rulebook.specs.Tools.{part, sumTo, someTo}
 use Rattle.rulebook.specs.Weights.{lastSlot, mostNodes, stakeIn, weight, totalTo, reaches, slotOk, stakesFit}
 use Rattle.rulebook.specs.PaperNumbers.{kindIn, numberIn}
-use Rattle.rulebook.specs.Ledger.{Ledger, none, cellAt}
-use Rattle.rulebook.specs.Pool.{hasFallback, counts, weigh, weighs, signersOf, fifthsOf, held}
+use Rattle.rulebook.specs.Ledger.{Ledger, none, cellAt, certificatesAt, isKept}
+use Rattle.rulebook.specs.Pool.{hasFallback, counts, weigh, weighs, signersOf, fifthsOf, reached, placeKind, keptAs, held}
 use Rattle.rulebook.specs.Rules.{isFinal}
 use Rattle.rulebook.specs.Inputs.{refuseIf}
 use Rattle.rulebook.specs.Packets.{wordsIn, certificateAt, certificateBytes, bit, maskOf, countOf}
 use Rattle.rulebook.specs.Checker.{good, isOtherKind, blockMisfits, withoutB, badSigners, signed, signedWeight, judgeWeight, judgeKind, judge, acceptedOf, judged, oneOf, oneAt, ended, singleOf, checkCertificate, secondOf, firstIn, proofOf, checkProof}
-use Rattle.rulebook.specs.Writers.{inA, inB, certificateFor, certificateRoom, proofRoom, certificateVerdict, writeCertificate, proofVerdict, proofBytes, writeProof}
+use Rattle.rulebook.specs.Writers.{inA, inB, votedFor, keptFor, maskedBy, certificateFor, certificateRoom, proofRoom, certificateVerdict, writeCertificate, proofVerdict, proofBytes, writeProof}
+use Rattle.rulebook.specs.WellFormed.{keptIn}
 use Rattle.rulebook.proofs.ToolLaws.{given-on, given-off, choose-on, choose-off, and-both, both-and, or-cases, by-test, true-not-false, sum-same, sum-const, part-off}
 use Rattle.rulebook.proofs.MaskLaws.{mask-lt, masks-apart, masks-weight, masks-count, count-same}
 use Rattle.rulebook.proofs.WeightLaws.{weight-same}
 use Rattle.rulebook.proofs.NumberLaws.{Fits64, certificate-in}
 use Rattle.rulebook.proofs.KindLaws.{kind-back, kind-small, kind-words}
-use Rattle.packets.specs.Promises.{parts, TableIs, acceptedFor, proofParts, proofKind, CertificateBack, ProofBack}
+use Rattle.rulebook.proofs.CertificateLaws.{Serving, kept-serving, serves-judged, judged-masks}
+use Rattle.packets.specs.Promises.{parts, TableIs, signersFor, acceptedFor, proofParts, proofKind, CertificateBack, ProofBack}
 use Rattle.rulebook.proofs.RuleLaws.{refuse-fine, wrote-fine, wrote-bytes}
 use Rattle.packets.proofs.Spelling.{parts-one, parts-two}
 
@@ -180,12 +182,12 @@ module _ (l : Ledger) (stakes : List ℕ) (t : TableIs l stakes) where
     abbrev who : ℕ → Bool
     who i = counts (signersOf k b) (cellAt l s i)
 
-    -- The certificate over the stakes' own count.
+    -- The certificate by stored votes, over the stakes' own count.
     abbrev cert : Certificate
     cert = record { kind = numberIn size k; slot = s; block = b; maska = maskOf pa size; maskb = maskOf pb size }
 
-    cert-is : certificateFor l k s b ≡ cert
-    unfolding certificateFor
+    cert-is : votedFor l k s b ≡ cert
+    unfolding votedFor
     cert-is = ap (λ (n : ℕ). record { kind = numberIn n k; slot = s; block = b; maska = maskOf pa n; maskb = maskOf pb n }) (t .count)
 
     no-mask-b : (w : Bool) → withoutB k ≡ w → (w && not (none (maskOf pb size))) ≡ false
@@ -211,48 +213,130 @@ module _ (l : Ledger) (stakes : List ℕ) (t : TableIs l stakes) where
       unfolding signed
       signed-count = masks-count size pa pb ∙ count-same size (λ i. pa i || pb i) who (λ i h. who-counts k b (cellAt l s i) z)
 
-      heavy : held l k s b ≡ true → reaches (fifthsOf k) (totalTo stakes size) (signedWeight stakes cert) ≡ true
-      unfolding held weighs weigh
+      heavy : reached l k s b ≡ true → reaches (fifthsOf k) (totalTo stakes size) (signedWeight stakes cert) ≡ true
+      unfolding reached weighs weigh
       heavy h = ap₂ (reaches (fifthsOf k)) (sym (t .total)) (signed-weight ∙ sym (weight-is who)) ∙ h
 
-      fine : slotOk s ≡ true → blockMisfits k b ≡ false → held l k s b ≡ true → judge stakes cert ≡ verdict.Fine
-      unfolding judge judgeKind judgeWeight
+      fine : slotOk s ≡ true → blockMisfits k b ≡ false → reached l k s b ≡ true → judgeKind stakes k cert ≡ verdict.Fine
+      unfolding judgeKind judgeWeight
       fine so m h =
-          ap (λ (x : CertificateKind). judgeKind stakes x cert) (kind-back size k)
-          ∙ all-passed (isOtherKind k) (slotOk s) (blockMisfits k b) (badSigners size k cert) (reaches (fifthsOf k) (totalTo stakes size) (signedWeight stakes cert)) _ z so m signers-fine (heavy h)
+          all-passed (isOtherKind k) (slotOk s) (blockMisfits k b) (badSigners size k cert) (reaches (fifthsOf k) (totalTo stakes size) (signedWeight stakes cert)) _ z so m signers-fine (heavy h)
 
-      -- The answer is the true one.
-      true-answer : acceptedOf stakes cert ≡ acceptedFor l k s b
-      unfolding acceptedOf acceptedFor weigh
-      true-answer =
-          ap (λ (x : CertificateKind). answer x (countOf (signed cert) size) (signedWeight stakes cert)) (kind-back size k)
-          ∙ ap₂ (answer k) (signed-count ∙ ap (countOf who) (sym (t .count))) (signed-weight ∙ sym (weight-is who))
-        where
-          answer : CertificateKind → ℕ → ℕ → Accepted
-          answer x y w = record { kind = x; slot = record { 0 = s }; block = b; signers = y; weight = record { 0 = w } }
+    -- ---- what is asked of a written certificate
 
-    fits64 : isOtherKind k ≡ false → b < 2 ^ 64 → slotOk s ≡ true → Fits64 cert
-    unfolding slotOk
-    fits64 z h so =
-        let p : 2 ^ size ≤ 2 ^ (64 * wordsIn (numberIn size k)) = pow-mono (kind-words size k z few) in
-        let q = leb-true s lastSlot (and-both (leb 1 s) (leb s lastSlot) so .1) in
-        let big : 16 < 2 ^ 64 = lit< tt in
+    -- It is what was asked for, the checker accepts it, and answers how many it names, and their weight.
+    record Asked (c : Certificate) : Type 0 where
+      pub kind : c .kind ≡ numberIn size k
+      pub slot : c .slot ≡ s
+      pub block : c .block ≡ b
+      pub signers : badSigners size k c ≡ false
+      pub fine : judgeKind stakes k c ≡ verdict.Fine
+      pub answer : acceptedOf stakes c ≡ acceptedFor l k s b
+
+    abbrev answered : (ℕ → Bool) → Accepted
+    answered p = record { kind = k; slot = record { 0 = s }; block = b; signers = countOf p (l .count); weight = record { 0 = weight (l .stakes) (l .count) p } }
+
+    -- The answer counts the signers over the stakes, whoever they are.
+    answer-is : (c : Certificate) (p : ℕ → Bool) → c .kind ≡ numberIn size k → c .slot ≡ s → c .block ≡ b → countOf (signed c) size ≡ countOf p size → signedWeight stakes c ≡ weight stakes size p
+        → acceptedOf stakes c ≡ answered p
+    unfolding acceptedOf
+    answer-is c p ek es eb en ew =
+        let kd : kindIn size (c .kind) ≡ k = ap (kindIn size) ek ∙ kind-back size k in
+        let n : countOf (signed c) size ≡ countOf p (l .count) = en ∙ ap (countOf p) (sym (t .count)) in
+        let w : signedWeight stakes c ≡ weight (l .stakes) (l .count) p = ew ∙ sym (weight-is p) in
+        rw (n, w, kd, es, eb)
+
+    voted-asked : isOtherKind k ≡ false → slotOk s ≡ true → blockMisfits k b ≡ false → reached l k s b ≡ true → Asked (votedFor l k s b)
+    unfolding acceptedFor signersFor
+    voted-asked z so m h =
+        subst Asked (sym cert-is)
+        (record {
+          kind = refl;
+          slot = refl;
+          block = refl;
+          signers = signers-fine;
+          fine = fine z so m h;
+          answer = answer-is cert who refl refl refl (signed-count z) (signed-weight z) ∙ ap answered (sym (choose-on (reached l k s b) who (signed (certificateFor l k s b)) h));
+        })
+
+    weighed : (c : Certificate) → signedWeight stakes c ≡ weight stakes size (signed c)
+    unfolding signedWeight
+    weighed c = refl
+
+    kept-asked : isOtherKind k ≡ false → slotOk s ≡ true → blockMisfits k b ≡ false → reached l k s b ≡ false → (q : Kept) → Serving (certificatesAt l s) k b q
+        → certificateFor l k s b ≡ maskedBy l k s b q → Asked (maskedBy l k s b q)
+    unfolding maskedBy acceptedFor signersFor
+    kept-asked z so m off q v e =
+        let c : Certificate = maskedBy l k s b q in
+        let i = v .place in
+        let stands = subst (λ (x : Kept). isKept x ≡ true) (sym (v .stands)) (v .kept) in
+        let j = subst (λ (x : Kept). judgeKind stakes (placeKind i) (keptIn s x) ≡ verdict.Fine) (v .stands) (t .kept s i so stands) in
+        let g = serves-judged stakes (placeKind i) k (keptIn s q) c (v .serves) z m refl refl refl j in
+        let kd : c .kind ≡ numberIn size k = ap (λ (n : ℕ). numberIn n k) (t .count) in
         record {
-          kind = omega (arith, kind-small size k, big);
-          slot = omega (arith, q, big);
-          block = h;
-          maska = omega (arith, mask-lt pa size, p);
-          maskb = omega (arith, mask-lt pb size, p);
+          kind = kd;
+          slot = refl;
+          block = refl;
+          signers = g .0;
+          fine = g .1;
+          answer = answer-is c (signed c) kd refl refl refl (weighed c)
+              ∙ ap (λ (x : Certificate). answered (signed x)) (sym e) ∙ ap answered (sym (choose-off (reached l k s b) who (signed (certificateFor l k s b)) off));
         }
 
-    -- The certificate at the front of a packet.
-    reads : isOtherKind k ≡ false → b < 2 ^ 64 → slotOk s ≡ true → (rest : List ℕ) → certificateAt (certificateBytes cert ++ rest) 0 ≡ found.Whole cert (length (certificateBytes cert))
-    reads z h so rest =
-        certificate-in (certificateBytes cert ++ rest) [] cert rest 0 refl refl (fits64 z h so) ∙ ap (found.Whole cert) (zero-add (length (certificateBytes cert)))
+    abbrev taken : Kept
+    taken = keptFor k b (certificatesAt l s)
 
-    reads-alone : isOtherKind k ≡ false → b < 2 ^ 64 → slotOk s ≡ true → certificateAt (certificateBytes cert) 0 ≡ found.Whole cert (length (certificateBytes cert))
-    reads-alone z h so =
-        subst (λ (x : List ℕ). certificateAt x 0 ≡ found.Whole cert (length (certificateBytes cert))) (append-nil (certificateBytes cert)) (reads z h so [])
+    by-votes : reached l k s b ≡ true → certificateFor l k s b ≡ votedFor l k s b
+    unfolding certificateFor
+    by-votes t = choose-on (reached l k s b) (votedFor l k s b) (maskedBy l k s b taken) t
+
+    by-masks : reached l k s b ≡ false → certificateFor l k s b ≡ maskedBy l k s b taken
+    unfolding certificateFor
+    by-masks t = choose-off (reached l k s b) (votedFor l k s b) (maskedBy l k s b taken) t
+
+    serving : reached l k s b ≡ false → held l k s b ≡ true → Serving (certificatesAt l s) k b taken
+    unfolding held keptAs
+    serving off h = kept-serving (certificatesAt l s) k b (or-cases (reached l k s b) _ h (λ u. true-not-false (reached l k s b) u off) (λ u. u))
+
+    asked : isOtherKind k ≡ false → slotOk s ≡ true → blockMisfits k b ≡ false → held l k s b ≡ true → Asked (certificateFor l k s b)
+    asked z so m h =
+        by-test (reached l k s b)
+        (λ on. subst Asked (sym (by-votes on)) (voted-asked z so m on))
+        (λ off. subst Asked (sym (by-masks off)) (kept-asked z so m off taken (serving off h) (by-masks off)))
+
+    -- ---- it is read back
+
+    module _ (c : Certificate) (w : Asked c) where
+      kind-at : kindIn size (c .kind) ≡ k
+      kind-at = ap (kindIn size) (w .kind) ∙ kind-back size k
+
+      judged-fine : judge stakes c ≡ verdict.Fine
+      unfolding judge
+      judged-fine = ap (λ (x : CertificateKind). judgeKind stakes x c) kind-at ∙ w .fine
+
+      fits64 : isOtherKind k ≡ false → b < 2 ^ 64 → slotOk s ≡ true → Fits64 c
+      unfolding slotOk
+      fits64 z h so =
+          let p : 2 ^ size ≤ 2 ^ (64 * wordsIn (c .kind)) = subst (λ (x : ℕ). 2 ^ size ≤ 2 ^ (64 * wordsIn x)) (sym (w .kind)) (pow-mono (kind-words size k z few)) in
+          let q = leb-true s lastSlot (and-both (leb 1 s) (leb s lastSlot) so .1) in
+          let m = judged-masks stakes k c (w .signers) in
+          let big : 16 < 2 ^ 64 = lit< tt in
+          record {
+            kind = omega (arith, w .kind, kind-small size k, big);
+            slot = omega (arith, w .slot, q, big);
+            block = omega (arith, w .block, h);
+            maska = omega (arith, m .0, p);
+            maskb = omega (arith, m .1, p);
+          }
+
+      -- The certificate at the front of a packet.
+      reads : isOtherKind k ≡ false → b < 2 ^ 64 → slotOk s ≡ true → (rest : List ℕ) → certificateAt (certificateBytes c ++ rest) 0 ≡ found.Whole c (length (certificateBytes c))
+      reads z h so rest =
+          certificate-in (certificateBytes c ++ rest) [] c rest 0 refl refl (fits64 z h so) ∙ ap (found.Whole c) (zero-add (length (certificateBytes c)))
+
+      reads-alone : isOtherKind k ≡ false → b < 2 ^ 64 → slotOk s ≡ true → certificateAt (certificateBytes c) 0 ≡ found.Whole c (length (certificateBytes c))
+      reads-alone z h so =
+          subst (λ (x : List ℕ). certificateAt x 0 ≡ found.Whole c (length (certificateBytes c))) (append-nil (certificateBytes c)) (reads z h so [])
 
 -- ---- the two writers
 
@@ -261,13 +345,11 @@ module _ (l : Ledger) (stakes : List ℕ) (t : TableIs l stakes) where
       → (parts (certificateBytes (certificateFor l k s b)) ≡ certificateFor l k s b ∷ [])
       × (checkCertificate stakes (certificateBytes (certificateFor l k s b)) ≡ check.Accepted (acceptedFor l k s b))
   certificate-on k s b h z so m hd =
-      let c = cert l stakes t k s b in
+      let c = certificateFor l k s b in
       let bytes = certificateBytes c in
-      let r = reads-alone l stakes t k s b z h so in
-      let good : (parts bytes ≡ c ∷ []) × (checkCertificate stakes bytes ≡ check.Accepted (acceptedFor l k s b)) =
-      (parts-one bytes c r, accepts-one stakes bytes (t .fits) c (length bytes) r (fine l stakes t k s b z so m hd) refl ∙ ap check.Accepted (true-answer l stakes t k s b z)) in
-      subst (λ (x : Certificate). (parts (certificateBytes x) ≡ x ∷ []) × (checkCertificate stakes (certificateBytes x) ≡ check.Accepted (acceptedFor l k s b)))
-      (sym (cert-is l stakes t k s b)) good
+      let w = asked l stakes t k s b z so m hd in
+      let r = reads-alone l stakes t k s b c w z h so in
+      (parts-one bytes c r, accepts-one stakes bytes (t .fits) c (length bytes) r (judged-fine l stakes t k s b c w) refl ∙ ap check.Accepted (w .answer))
 
   fast-on : (s b : ℕ) → b < 2 ^ 64 → slotOk s ≡ true → none b ≡ false → held l certificate.FastFinal s b ≡ true
       → (parts (certificateBytes (certificateFor l certificate.FastFinal s b)) ≡ certificateFor l certificate.FastFinal s b ∷ [])
@@ -275,15 +357,13 @@ module _ (l : Ledger) (stakes : List ℕ) (t : TableIs l stakes) where
   unfolding isOtherKind blockMisfits
   fast-on s b h so m hd =
       let k = certificate.FastFinal in
-      let c = cert l stakes t k s b in
+      let c = certificateFor l k s b in
       let bytes = certificateBytes c in
-      let r = reads-alone l stakes t k s b refl h so in
-      let good : (parts bytes ≡ c ∷ []) × (checkProof stakes bytes ≡ check.Accepted (acceptedFor l k s b)) = (
+      let w = asked l stakes t k s b refl so m hd in
+      let r = reads-alone l stakes t k s b c w refl h so in (
         parts-one bytes c r,
-        accepts-fast stakes bytes (t .fits) c (length bytes) r (fine l stakes t k s b refl so m hd) (kind-back (length stakes) k) refl ∙ ap check.Accepted (true-answer l stakes t k s b refl),
-      ) in
-      subst (λ (x : Certificate). (parts (certificateBytes x) ≡ x ∷ []) × (checkProof stakes (certificateBytes x) ≡ check.Accepted (acceptedFor l k s b)))
-      (sym (cert-is l stakes t k s b)) good
+        accepts-fast stakes bytes (t .fits) c (length bytes) r (judged-fine l stakes t k s b c w) (kind-at l stakes t k s b c w) refl ∙ ap check.Accepted (w .answer),
+      )
 
   slow-on : (s b : ℕ) → b < 2 ^ 64 → slotOk s ≡ true → none b ≡ false → held l certificate.Notar s b ≡ true → held l certificate.Final s 0 ≡ true
       → (parts (certificateBytes (certificateFor l certificate.Notar s b) ++ certificateBytes (certificateFor l certificate.Final s 0))
@@ -293,24 +373,20 @@ module _ (l : Ledger) (stakes : List ℕ) (t : TableIs l stakes) where
   unfolding isOtherKind blockMisfits
   slow-on s b h so m hn hf =
       let k = certificate.Notar in
-      let c = cert l stakes t k s b in
-      let d = cert l stakes t certificate.Final s 0 in
+      let c = certificateFor l k s b in
+      let d = certificateFor l certificate.Final s 0 in
       let x = certificateBytes c in
       let y = certificateBytes d in
       let zero-lt : 0 < 2 ^ 64 = lit< tt in
-      let r = reads l stakes t k s b refl h so y in
-      let q = certificate-in (x ++ y) x d [] (length x) (ap (λ (z : List ℕ). x ++ z) (sym (append-nil y))) refl (fits64 l stakes t certificate.Final s 0 refl zero-lt so) in
-      let good : (parts (x ++ y) ≡ c ∷ d ∷ []) × (checkProof stakes (x ++ y) ≡ check.Accepted (acceptedFor l k s b)) = (
+      let w = asked l stakes t k s b refl so m hn in
+      let v = asked l stakes t certificate.Final s 0 refl so refl hf in
+      let r = reads l stakes t k s b c w refl h so y in
+      let q = certificate-in (x ++ y) x d [] (length x) (ap (λ (z : List ℕ). x ++ z) (sym (append-nil y))) refl (fits64 l stakes t certificate.Final s 0 d v refl zero-lt so) in (
         parts-two (x ++ y) c d (length x) (length x + length y) r q,
-        accepts-slow stakes (x ++ y) (t .fits) c d (length x) (length x + length y) r (fine l stakes t k s b refl so m hn) (kind-back (length stakes) k) q
-            (fine l stakes t certificate.Final s 0 refl so refl hf) refl refl (sym (length-append x y))
-            ∙ ap check.Accepted (true-answer l stakes t k s b refl),
-      ) in
-      subst (λ (v : Certificate). (parts (certificateBytes v ++ certificateBytes (certificateFor l certificate.Final s 0)) ≡ v ∷ certificateFor l certificate.Final s 0 ∷ [])
-      × (checkProof stakes (certificateBytes v ++ certificateBytes (certificateFor l certificate.Final s 0)) ≡ check.Accepted (acceptedFor l k s b)))
-      (sym (cert-is l stakes t k s b))
-      (subst (λ (w : Certificate). (parts (x ++ certificateBytes w) ≡ c ∷ w ∷ []) × (checkProof stakes (x ++ certificateBytes w) ≡ check.Accepted (acceptedFor l k s b)))
-      (sym (cert-is l stakes t certificate.Final s 0)) good)
+        accepts-slow stakes (x ++ y) (t .fits) c d (length x) (length x + length y) r (judged-fine l stakes t k s b c w) (kind-at l stakes t k s b c w) q
+            (judged-fine l stakes t certificate.Final s 0 d v) (v .kind) (v .slot ∙ sym (w .slot)) (sym (length-append x y))
+            ∙ ap check.Accepted (w .answer),
+      )
 
 pub certificate-back : CertificateBack
 unfolding writeCertificate certificateVerdict

@@ -1,26 +1,25 @@
--- A well-formed record has the table of its first stakes.
-use mathlib.Core.Path.{_≡_, refl, sym, ap, _∙_}
-use mathlib.Core.Bool.{Bool, true, false, _&&_}
+-- A well-formed record has the table of its first stakes, and keeps certificates that the checker accepts with it.
+use mathlib.Core.Path.{_≡_, refl, sym, ap, _∙_, subst}
+use mathlib.Core.Bool.{Bool, true, _&&_}
 use mathlib.Core.List.{List}
-use Prim.Native.Nat.{ℕ, _≤_, _<_}
+use Prim.Native.Nat.{ℕ, _+_, _≤_, _<_}
 use native.Mathlib.Omega.{arith}
-use lib.ListN.{length, take}
+use lib.ListN.{length}
 use lib.Seq.{getD-take, length-take-le}
 use lib.Dec.{eqb, leb}
 use borrow.Author.Tests.{leb-true, eqb-true}
-use Rattle.rulebook.specs.Tools.{given, allTo}
-use Rattle.rulebook.specs.Weights.{mostNodes, placesFor, mostStake, stakeIn, totalTo, stakesFit}
-use Rattle.rulebook.specs.Ledger.{Ledger, places}
-use Rattle.rulebook.specs.WellFormed.{headFits, wellFormed}
+use Rattle.rulebook.specs.declared.Verdict.{Verdict}
+use Rattle.rulebook.specs.declared.Verdict.the-variants.{Fine, Refused}
+use Rattle.rulebook.specs.Tools.{allTo}
+use Rattle.rulebook.specs.Weights.{mostNodes, placesFor, mostStake, slotOk, stakeIn, totalTo, stakesFit}
+use Rattle.rulebook.specs.Ledger.{Ledger, none, places, tableOf, certificatesAt, keptAt, isKept}
+use Rattle.rulebook.specs.Pool.{placeKind}
+use Rattle.rulebook.specs.Checker.{judgeKind}
+use Rattle.rulebook.specs.WellFormed.{isFine, keptIn, eachKept, certificateFits, certificatesFit, headFits, wellFormed}
 use Rattle.rulebook.proofs.PlaceLaws.{nodes-placed}
-use Rattle.rulebook.proofs.ToolLaws.{and-both, all-same, sum-same}
+use Rattle.rulebook.proofs.ToolLaws.{given-both, given-on, and-both, all-same, sum-same}
+use Rattle.rulebook.proofs.CertificateLaws.{each-at, kept-within, record-certificates}
 use Rattle.packets.specs.Promises.{TableOfRecord}
-
--- A choice that passes was made.
-given-true : (b : Bool) (f : Unit {0} → Bool) → given b false f ≡ true → b ≡ true
-unfolding given
-given-true true f e = refl
-given-true false f e = e
 
 -- Stakes that agree below n fit alike, and have the same total.
 module _ (xs ys : List ℕ) (n : ℕ) (e : (i : ℕ) → i < n → stakeIn xs i ≡ stakeIn ys i) where
@@ -44,16 +43,32 @@ head-true : (l : Ledger) → wellFormed l ≡ true → (stakesFit (l .stakes) (l
 unfolding wellFormed headFits
 head-true l e =
     let g = and-both (eqb (places l) (placesFor (l .count))) _
-    (given-true (headFits l) _ e) in
+    (given-both (headFits l) _ e .0) in
     let h = and-both (stakesFit (l .stakes) (l .count) && eqb (totalTo (l .stakes) (l .count)) (l .total)) _ (g .1) .0 in
     let p = and-both (stakesFit (l .stakes) (l .count)) (eqb (totalTo (l .stakes) (l .count)) (l .total)) h in
     (p .0, eqb-true (totalTo (l .stakes) (l .count)) (l .total) (p .1), eqb-true (places l) (placesFor (l .count)) (g .0))
+
+fine-is : (v : Verdict) → isFine v ≡ true → v ≡ Fine
+unfolding isFine
+fine-is Fine e = refl
+fine-is (Refused r) e = let z : _≡_ {A = ℕ} 0 1 = cc in absurd (omega arith)
+
+kept-fine : (l : Ledger) → wellFormed l ≡ true → (s i : ℕ) → slotOk s ≡ true → isKept (keptAt l s i) ≡ true → judgeKind (tableOf l) (placeKind i) (keptIn s (keptAt l s i)) ≡ Fine
+unfolding certificatesFit certificateFits
+kept-fine l e s i so k =
+    let ws = tableOf l in
+    let qs = certificatesAt l s in
+    let q = keptAt l s i in
+    let a = and-both (eachKept (certificateFits ws s) 0 qs) _ (record-certificates l e s so) in
+    let here : 0 + i ≡ i = omega arith in
+    let f = subst (λ (j : ℕ). certificateFits ws s j q ≡ true) here (each-at (certificateFits ws s) 0 qs i (kept-within qs i k) (a .0)) in
+    fine-is (judgeKind ws (placeKind i) (keptIn s q)) (sym (given-on (isKept q) (none (q .block)) (λ _. isFine (judgeKind ws (placeKind i) (keptIn s q))) k) ∙ f)
 
 pub table-of-record : TableOfRecord
 table-of-record l e =
     let h = head-true l e in
     let n = l .count in
-    let ws = take n (l .stakes) in
+    let ws = tableOf l in
     let few : n ≤ length (l .stakes) = omega (arith, nodes-placed n (fit-few (l .stakes) n (h .0)), h .2) in
     let len : length ws ≡ n = length-take-le n (l .stakes) few in
     let same : (i : ℕ) → i < n → stakeIn (l .stakes) i ≡ stakeIn ws i = λ i k. sym (getD-take n (l .stakes) i 0 k) in
@@ -62,4 +77,5 @@ table-of-record l e =
       each = λ i k. same i (omega arith);
       total = sym (h .1) ∙ total-same (l .stakes) ws n same ∙ ap (totalTo ws) (sym len);
       fits = ap (stakesFit ws) len ∙ sym (fit-same (l .stakes) ws n same) ∙ h .0;
+      kept = kept-fine l e;
     }

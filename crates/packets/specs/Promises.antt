@@ -1,9 +1,9 @@
 -- What is promised of packets, over the definitions of the rule book.
 use mathlib.Core.Path.{_≡_}
-use mathlib.Core.Bool.{true, _||_}
+use mathlib.Core.Bool.{Bool, true, _||_}
 use mathlib.Core.List.{List, [], _∷_}
 use Prim.Native.Nat.{ℕ, _+_, _^_, _<_}
-use lib.ListN.{length, take, getD}
+use lib.ListN.{length, getD}
 use Rattle.rulebook.specs.declared.Accepted.{Accepted}
 use Rattle.rulebook.specs.Certificates.{Certificate, Found}
 use Rattle.rulebook.specs.declared.CertificateKind.{CertificateKind}
@@ -12,13 +12,14 @@ use Rattle.rulebook.specs.declared.CheckAnswer.the-variants as check
 use Rattle.rulebook.specs.Certificates as found
 use Rattle.rulebook.specs.declared.WriteAnswer.the-variants as write
 use Rattle.rulebook.specs.Tools.{given, choose}
-use Rattle.rulebook.specs.Weights.{stakeIn, weight, totalTo, stakesFit}
+use Rattle.rulebook.specs.declared.Verdict.the-variants.{Fine}
+use Rattle.rulebook.specs.Weights.{stakeIn, weight, totalTo, stakesFit, slotOk}
 use Rattle.rulebook.specs.PaperNumbers.{kindIn}
-use Rattle.rulebook.specs.Ledger.{Ledger, cellAt}
-use Rattle.rulebook.specs.Pool.{counts, signersOf, weigh, held}
+use Rattle.rulebook.specs.Ledger.{Ledger, cellAt, keptAt, isKept, tableOf}
+use Rattle.rulebook.specs.Pool.{counts, signersOf, reached, placeKind, held}
 use Rattle.rulebook.specs.Packets.{certificateAt, bit, countOf}
-use Rattle.rulebook.specs.WellFormed.{wellFormed}
-use Rattle.rulebook.specs.Checker.{checkCertificate, checkProof}
+use Rattle.rulebook.specs.WellFormed.{keptIn, wellFormed}
+use Rattle.rulebook.specs.Checker.{signed, judgeKind, checkCertificate, checkProof}
 use Rattle.rulebook.specs.Writers.{certificateFor, writeCertificate, writeProof}
 
 -- ---- one spelling
@@ -76,26 +77,31 @@ ProofCounted = (stakes packet : List ℕ) (a : Accepted) → checkProof stakes p
 
 -- ---- what a writer gives
 
--- The ledger's table is that of lent stakes.
+-- The ledger's table is that of lent stakes, and with it the checker accepts every kept certificate as what its place says.
 pub record TableIs (l : Ledger) (stakes : List ℕ) : Type 0 where
   pub count : l .count ≡ length stakes
   pub each : (n : ℕ) → n < length stakes → stakeIn (l .stakes) n ≡ stakeIn stakes n
   pub total : l .total ≡ totalTo stakes (length stakes)
   pub fits : stakesFit stakes (length stakes) ≡ true
+  pub kept : (s i : ℕ) → slotOk s ≡ true → isKept (keptAt l s i) ≡ true → judgeKind stakes (placeKind i) (keptIn s (keptAt l s i)) ≡ Fine
 
 -- Every record that is not answered 17 has such a table: the first of its stakes.
 abbrev pub TableOfRecord : Type 0
-TableOfRecord = (l : Ledger) → wellFormed l ≡ true → TableIs l (take (l .count) (l .stakes))
+TableOfRecord = (l : Ledger) → wellFormed l ≡ true → TableIs l (tableOf l)
 
--- The true answer: the nodes whose stored votes count, and their weight in the pool.
+-- Whom a written certificate names: the nodes whose stored votes count, where these reach it, else those of the kept masks.
+unfoldable pub signersFor : Ledger → CertificateKind → ℕ → ℕ → ℕ → Bool
+signersFor l k s b = choose (reached l k s b) (λ n. counts (signersOf k b) (cellAt l s n)) (signed (certificateFor l k s b))
+
+-- The true answer: how many they are, and their weight.
 unfoldable pub acceptedFor : Ledger → CertificateKind → ℕ → ℕ → Accepted
 acceptedFor l k s b =
     record {
       kind = k;
       slot = record { 0 = s };
       block = b;
-      signers = countOf (λ n. counts (signersOf k b) (cellAt l s n)) (l .count);
-      weight = record { 0 = weigh l s (signersOf k b) };
+      signers = countOf (signersFor l k s b) (l .count);
+      weight = record { 0 = weight (l .stakes) (l .count) (signersFor l k s b) };
     }
 
 -- A held certificate that was written reads back to that very certificate and is accepted with its true count and weight.

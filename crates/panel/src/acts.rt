@@ -13,6 +13,7 @@ use telling::block;
 use telling::look;
 use telling::node_words;
 use telling::start;
+use telling::take;
 use telling::timeout;
 use telling::tray;
 use telling::vote;
@@ -66,6 +67,7 @@ pub fn obey(
         Command::Timeout => answered(timeout(page, line, at, rec, outbox)),
         Command::Look => answered(look(page, rec, outbox)),
         Command::Tray => answered(tray(page, line, at, rec, outbox)),
+        Command::Take => answered(take(page, line, at, rec, outbox)),
         Command::Piece => answered(piece(page, line, at, pieces, front)),
         Command::End => answered(end(page, pieces, front)),
         _ => others(page, c, line, at, rec, aside),

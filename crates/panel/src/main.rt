@@ -18,7 +18,7 @@ const LONGEST: usize = 65536;
 const PAGE_ROOM: usize = 506912;
 
 // The words of the largest record, that of 2,048 nodes.
-const RECORD_WORDS: usize = 246108;
+const RECORD_WORDS: usize = 260473;
 
 const OUTBOX_WORDS: usize = 480;
 

@@ -14,7 +14,7 @@ use Rattle.rulebook.specs.declared.CertificateKind.the-variants as certificate
 use Rattle.rulebook.specs.Tools.{anyOf, part}
 use Rattle.rulebook.specs.Weights.{reaches, missing}
 use Rattle.rulebook.specs.Ledger.{Ledger, none, rowAt}
-use Rattle.rulebook.specs.Pool.{weigh, weighs, held, missingTo, names, signersOf, fifthsOf}
+use Rattle.rulebook.specs.Pool.{weigh, weighs, reached, held, missingTo, names, signersOf, fifthsOf}
 use Rattle.rulebook.specs.Cards.{recount, leader, most}
 use Rattle.rulebook.proofs.ToolLaws.{by-test, and-both, or-cases, or-left, or-right, part-on, part-off, part-le, true-not-false}
 use Rattle.rulebook.proofs.WeightLaws.{reaches-more, reaches-missing, reaches-found, none-missing}
@@ -25,7 +25,7 @@ use Rattle.recounting.proofs.Leading.{lead-recount}
 use Rattle.recounting.proofs.Using.{notar-card, reached-some}
 use Rattle.pool.specs.Weighing.{Carded}
 use Rattle.pool.specs.OnCard.{leadWeight, onCard, isOnCard, isBehind}
-use Rattle.pool.proofs.HeldLaws.{weigh-mono, counts-fallback, held-fallback}
+use Rattle.pool.proofs.HeldLaws.{weigh-mono, counts-fallback, reached-held, reached-fallback}
 
 module _ (l : Ledger) (s : ℕ) where
   -- the leader's weight is the card's
@@ -103,7 +103,7 @@ module _ (l : Ledger) (s : ℕ) (t : Tally) (card : t ≡ recount l s) where
   card-whole w v e f =
       f ∙ ap (λ (x : Tally). onCard x w) card ∙ shown-whole l s w (ap (λ (x : Tally). isOnCard x w) (sym card) ∙ e)
 
-  -- nothing is missing to a certificate that the card shows to be held
+  -- nothing is missing to a certificate that the card shows to be reached
   pub card-enough : (k : CertificateKind) (b n all v m : ℕ) → n ≡ fifthsOf k → all ≡ l .total → (w : Who) → w ≡ signersOf k b → v ≡ onCard t w
       → m ≡ missing n all v → m ≡ 0 → m ≡ missingTo l k s b
   unfolding missingTo
@@ -115,8 +115,8 @@ module _ (l : Ledger) (s : ℕ) (t : Tally) (card : t ≡ recount l s) where
       z ∙ sym (eqb-true (missing n all (weigh l s w)) 0 q) ∙ (λ i. missing (e i) (a i) (weigh l s (d i)))
 
   -- a block that does not lead
-  pub card-behind : Tabled l → (k : CertificateKind) (b : ℕ) (w : Who) → w ≡ signersOf k b → isBehind t w ≡ true → held l k s b ≡ false
-  unfolding held weighs
+  pub card-behind : Tabled l → (k : CertificateKind) (b : ℕ) (w : Who) → w ≡ signersOf k b → isBehind t w ≡ true → reached l k s b ≡ false
+  unfolding reached weighs
   card-behind h k b w d e =
       ap (λ (x : Who). reaches (fifthsOf k) (l .total) (weigh l s x)) (sym d)
       ∙ shown-behind l s h (fifthsOf k) (fifths-most k) w (ap (λ (x : Tally). isBehind x w) (sym card) ∙ e)
@@ -138,9 +138,9 @@ any-among p b (x ∷ bs) h e =
 
 module _ (l : Ledger) (s : ℕ) (k : Tabled l) where
   pub leader-held : reaches 3 (l .total) (most l s) ≡ true → anyOf (held l certificate.NotarFallback s) (names l s) ≡ true
-  unfolding held weighs signersOf fifthsOf
+  unfolding reached weighs signersOf fifthsOf
   leader-held e = any-among (held l certificate.NotarFallback s) (leader l s) (names l s) (heavy-named l s (leader l s) b (omega (arith, w, m)))
-      (held-fallback l s (leader l s) (ap (reaches 3 (l .total)) w ∙ e))
+      (reached-held l certificate.NotarFallback s (leader l s) (reached-fallback l s (leader l s) (ap (reaches 3 (l .total)) w ∙ e)))
     where
       m : 1 ≤ most l s
       m = reached-some l s (k .sum) (k .some) 3 (most l s) (omega arith) e

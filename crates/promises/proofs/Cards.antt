@@ -18,18 +18,19 @@ use Rattle.soundness.specs.Sound.{soundWords}
 use Rattle.soundness.proofs.Laws.{disagreeing-unsound}
 use Rattle.lines.specs.Answers.{missingLine, checkLine}
 use Rattle.node.specs.Stepping.{stepLeaves}
+use Rattle.taking.specs.Taking.{takeLeaves}
 use Rattle.trays.specs.Lent.{trayLeaves}
 use Rattle.writers.specs.Writing.{certificateOn, proofOn}
 use Rattle.cards.specs.declared.CardAnswer.{CardAnswer}
 use Rattle.cards.specs.declared.CardAnswer.the-variants as card
 use Rattle.cards.specs.Asked.{cardOn, cardPanel}
 use Rattle.cards.proofs.Ways.{unsound-card, slotless-card, card-recounted}
-use Rattle.promises.specs.Panels.{shown, besideIt, soundFirst, stepJudged, trayJudged}
+use Rattle.promises.specs.Panels.{shown, besideIt, soundFirst, stepJudged, takeJudged, trayJudged}
 use Rattle.promises.specs.Differs.{shownAs}
-use Rattle.promises.specs.Cards.{CardShown, FaceCardRefused, cardLine, CardPrinted, DisagreeingRefused, RefusedCards, FaceRefusedCards}
+use Rattle.promises.specs.Cards.{CardShown, FaceCardRefused, cardLine, CardPrinted, RefusedEverywhere, DisagreeingRefused, RefusedCards, FaceRefusedCards}
 use Rattle.promises.proofs.Numbered.{step-refusal}
-use Rattle.promises.proofs.Shown.{step-shown, tray-shown, certificate-shown, proof-shown}
-use Rattle.promises.proofs.Refused.{fed-kept, face-step-refused, face-tray-refused}
+use Rattle.promises.proofs.Shown.{step-shown, take-shown, tray-shown, certificate-shown, proof-shown}
+use Rattle.promises.proofs.Refused.{fed-kept, face-step-refused, face-take-refused, face-tray-refused}
 use Rattle.promises.proofs.Differs.{face-differ}
 use Rattle.promises.proofs.Printed.{sends}
 
@@ -74,16 +75,19 @@ card-printed ws s number values h =
     ((λ j. checkLine (record { number = h .numbered j; values = h .valued j }) 0)
     ∙ ap (λ (t : Bool). choose t (missingLine 0) (cardLine (cardPanel (cardOn ws s)))) (never-light ws s))
 
--- ---- a card that disagrees
+-- ---- words that are not sound, as with a card that disagrees
 
-pub disagreeing-refused : DisagreeingRefused
-unfolding cardPanel refusalNumber stepJudged trayJudged
-disagreeing-refused ws d =
-    let e = disagreeing-unsound ws (d .slot) (d .low) (d .high) (d .other) in
+pub unsound-refused : (ws : List ℕ) → soundWords ws ≡ false → RefusedEverywhere ws
+unfolding cardPanel refusalNumber stepJudged takeJudged trayJudged
+unsound-refused ws e =
     record {
       stepped = λ out i number made ws' left h.
           h .numbered
           ∙ ap (λ (p : Panel). p .number) (step-shown ws out i (stepLeaves ws out i .answer) _ _ (record { answered = refl; words = refl; outbox = refl }))
+          ∙ unsound-shown ws _ _ e;
+      taken = λ out packet number made ws' left h.
+          h .numbered
+          ∙ ap (λ (p : Panel). p .number) (take-shown ws out packet (takeLeaves ws out packet .answer) _ _ (record { answered = refl; words = refl; outbox = refl }))
           ∙ unsound-shown ws _ _ e;
       trayed = λ out votes places number made ws' left answers h.
           h .numbered
@@ -108,6 +112,9 @@ disagreeing-refused ws d =
         heads : {x y : ℕ} → x ∷ [] ≡ y ∷ [] → x ≡ y
         heads r = cc
 
+pub disagreeing-refused : DisagreeingRefused
+disagreeing-refused ws d = unsound-refused ws (disagreeing-unsound ws (d .slot) (d .low) (d .high) (d .other))
+
 -- ---- refusals
 
 pub refused-cards : RefusedCards
@@ -121,6 +128,8 @@ face-refused-cards =
     record {
       stepped = λ ws out i number made ws' left h ne s.
           ap (λ (x : List ℕ). rowAt (ledgerOf x) s .card) (face-step-refused ws out i number made ws' left h ne .1);
+      taken = λ ws out packet number made ws' left h ne s.
+          ap (λ (x : List ℕ). rowAt (ledgerOf x) s .card) (face-take-refused ws out packet number made ws' left h ne .0);
       trayed = λ ws out votes places number made ws' left answers h ne s.
           ap (λ (x : List ℕ). rowAt (ledgerOf x) s .card) (face-tray-refused ws out votes places number made ws' left answers h ne .2);
     }

@@ -1,6 +1,6 @@
--- No certificate is held or refused that was not before, and the figure beside 15 is the least that would do. Assumes nothing.
+-- No certificate is reached or refused that was not before, and the figure beside 15 is the least that would do. Assumes nothing.
 use mathlib.Core.Path.{_≡_, refl, sym, ap, _∙_, subst}
-use mathlib.Core.Bool.{Bool, true, false, not, _&&_}
+use mathlib.Core.Bool.{Bool, true, false, not, _&&_, _||_}
 use mathlib.Core.List.{List}
 use Prim.Native.Nat.{ℕ, _+_, _*_, _≤_, _<_}
 use native.Mathlib.Omega.{arith}
@@ -20,22 +20,23 @@ use Rattle.rulebook.specs.declared.Verdict.the-variants.{Fine, Refused}
 use Rattle.rulebook.specs.Tools.{choose, given}
 use Rattle.rulebook.specs.Weights.{reaches, totalTo, slotOk, stakesFit}
 use Rattle.rulebook.specs.PaperNumbers.{kindIn, numberIn, refusalNumber, refusalMissing, verdictNumber, checkNumber, checkMissing}
-use Rattle.rulebook.specs.Pool.{weigh, weighs, signersOf, fifthsOf, held, missingTo}
+use Rattle.rulebook.specs.Pool.{weigh, weighs, signersOf, fifthsOf, reached, keptAs, held, missingTo}
 use Rattle.rulebook.specs.Inputs.{refuseIf}
 use Rattle.rulebook.specs.Packets.{certificateAt}
 use Rattle.rulebook.specs.Checker.{One, good, bad, isOtherKind, blockMisfits, badSigners, signedWeight, lacking, judgeWeight, judgeKind, judge, acceptedOf, judged, oneOf, oneAt, ended, singleOf, checkCertificate, secondOf, firstIn, proofOf, checkProof}
-use Rattle.rulebook.proofs.WeightLaws.{reaches-fact, short-fact, missing-enough, missing-least, held-missing}
-use Rattle.promises.specs.Figures.{Least, HeldAsBefore, firstFailed, JudgedAsBefore, FirstOf, first, OneOf, theFirst, theSecond, ShortBy, FigureTold, CertificateFigure, ProofFigure, FaceCertificateFigure, FaceProofFigure}
+use Rattle.rulebook.proofs.WeightLaws.{reaches-fact, short-fact, missing-enough, missing-least, reached-missing}
+use Rattle.promises.specs.Figures.{Least, ReachedAsBefore, firstFailed, JudgedAsBefore, FirstOf, first, OneOf, theFirst, theSecond, ShortBy, FigureTold, CertificateFigure, ProofFigure, FaceCertificateFigure, FaceProofFigure}
 
--- ---- certificates held
+-- ---- certificates that the stored votes reach
 
-pub held-as-before : HeldAsBefore
-unfolding held weighs reaches missingTo
-held-as-before l k s b =
+pub reached-as-before : ReachedAsBefore
+unfolding reached held weighs reaches missingTo
+reached-as-before l k s b =
     let w = weigh l s (signersOf k b) in
     record {
       asBefore = refl;
-      nothingMissing = held-missing l k s b;
+      nothingMissing = reached-missing l k s b;
+      orKept = ap (λ (t : Bool). t || keptAs l k s b) (reached-missing l k s b);
       least =
           record {
             enough = reaches-fact (fifthsOf k) (l .total) (w + missingTo l k s b) (missing-enough (fifthsOf k) (l .total) w);

@@ -11,3 +11,4 @@ pub mod Families
 pub mod Differs
 pub mod Pieces
 pub mod Cards
+pub mod Certificates

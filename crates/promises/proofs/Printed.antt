@@ -7,7 +7,7 @@ use Rattle.rulebook.proofs.RuleLaws.{over-front}
 use Rattle.lines.specs.Answers.{numberLine, startLine, stepLine, trayLine, packetLine, messageLine, checkLine}
 use Rattle.lines.proofs.Putting.{stands-whole}
 use Rattle.trays.specs.Trays.{wholeVotes}
-use Rattle.promises.specs.Printed.{Sends, StartPrinted, StepPrinted, TrayPrinted, PacketPrinted, MessagePrinted, CheckPrinted}
+use Rattle.promises.specs.Printed.{Sends, StartPrinted, StepPrinted, TakePrinted, TrayPrinted, PacketPrinted, MessagePrinted, CheckPrinted}
 
 -- A text in other words is sent as it stands.
 pub sends : (made sent : List ℕ) → made ≡ sent → Sends made sent
@@ -20,6 +20,10 @@ start-printed ws stakes own genesis number left s = sends _ _ (ap numberLine (s 
 
 pub step-printed : StepPrinted
 step-printed ws out i number made ws' left s =
+    sends _ _ (λ j. stepLine (record { number = s .numbered j; values = s .counted j }) left)
+
+pub take-printed : TakePrinted
+take-printed ws out packet number made ws' left s =
     sends _ _ (λ j. stepLine (record { number = s .numbered j; values = s .counted j }) left)
 
 pub tray-printed : TrayPrinted

@@ -1,6 +1,6 @@
 -- A refusal leaves all lent memory as found. Assumes nothing.
 use mathlib.Core.Path.{_≡_, refl, sym, ap, _∙_}
-use mathlib.Core.Bool.{_&&_}
+use mathlib.Core.Bool.{true, false, _&&_}
 use mathlib.Core.List.{List, [], _∷_, _++_}
 use Prim.Native.Nat.{ℕ, _*_, _%_}
 use native.Mathlib.Omega.{arith}
@@ -20,24 +20,25 @@ use Rattle.rulebook.specs.declared.WriteAnswer.the-variants as write
 use Rattle.rulebook.specs.Ledger.{Ledger}
 use Rattle.rulebook.specs.PaperNumbers.{stepPanel, writePanel, checkValues}
 use Rattle.rulebook.specs.Inputs.{Fed, verdict, fedWith, refusedWith, fedOn, feed}
-use Rattle.rulebook.specs.WellFormed.{wellFormed, outboxWords, step}
+use Rattle.rulebook.specs.WellFormed.{wellFormed, outboxWords, step, takeCertificate}
 use Rattle.rulebook.specs.Writers.{Wrote, wroteOn, writeCertificate, writeProof, certificateVerdict, proofVerdict, proofBytes, certificateFor, over, Writes}
 use Rattle.rulebook.specs.Packets.{certificateBytes}
 use Rattle.rulebook.specs.Messages.{messageBytes, messageVerdict, writeVote}
 use Rattle.rulebook.proofs.ToolLaws.{given-on, given-off, given-keeps, by-test}
-use Rattle.record.specs.Layout.{isLong, ledgerOf}
-use Rattle.record.specs.Spelling.{wordsOf}
-use Rattle.record.proofs.Places.{long-true}
-use Rattle.record.proofs.Spelled.{words-ledger}
+use Rattle.rulebook.proofs.RuleLaws as rules
+use Rattle.record.specs.Layout.{ledgerOf}
+use Rattle.record.specs.Spelling.{wordsOf, isSpelled}
+use Rattle.record.proofs.Spelled.{spelled-words}
 use Rattle.soundness.specs.Sound.{soundWords}
 use Rattle.soundness.specs.Starting.{startJudged, startAnswer, startLeft}
 use Rattle.node.specs.Stepping.{Leaves, spelled, asFound, asFed, stepLeaves}
+use Rattle.taking.specs.Taking.{takeLeaves}
 use Rattle.trays.specs.Trays.{votesIn, wholeVotes, Served, serve, Tray, trayRefused, trayServed, tray}
 use Rattle.trays.specs.Lent as trays
 use Rattle.trays.specs.Lent.{asServed, trayLeaves}
 use Rattle.writers.specs.Writing.{unsound, kindOn, certificateOn, proofOn}
 use Rattle.answers.specs.Face.{Beside}
-use Rattle.promises.specs.Refusals.{StartRefused, StepRefused, TrayRefused, CertificateRefused, ProofRefused, MessageRefused, FaceStartRefused, FaceStepRefused, FaceTrayRefused, FaceCertificateRefused, FaceProofRefused, FaceMessageRefused, FaceCheckRefused}
+use Rattle.promises.specs.Refusals.{StartRefused, StepRefused, TakeRefused, TrayRefused, CertificateRefused, ProofRefused, MessageRefused, FaceStartRefused, FaceStepRefused, FaceTakeRefused, FaceTrayRefused, FaceCertificateRefused, FaceProofRefused, FaceMessageRefused, FaceCheckRefused}
 use Rattle.promises.proofs.Numbered.{start-refusal, step-refusal, write-refusal, check-refusal}
 
 -- ---- start
@@ -77,19 +78,34 @@ nothing-told : (rs : List _) (out : List ℕ) → rs ≡ [] → spelled rs ++ dr
 unfolding spelled
 nothing-told rs out e = rw e
 
+-- A refusal on words: those that spell no ledger stay, and so do those of a ledger that is kept.
+leaves-found : (ws out : List ℕ) (f : Fed) (a : Leaves) (r : Refusal) → (isSpelled ws ≡ true → a ≡ asFed f out)
+    → (isSpelled ws ≡ false → a ≡ asFound refusal.BadRecord ws out) → Kept (ledgerOf ws) f → step-answer.Refused r ≡ a .answer → (a .words ≡ ws) × (a .outbox ≡ out)
+leaves-found ws out f a r fed found kept e =
+    by-test (isSpelled ws)
+    (λ t.
+    let k = kept r (ap (λ (x : Leaves). x .answer) (sym (fed t)) ∙ sym e) in (
+      ap (λ (x : Leaves). x .words) (fed t) ∙ ap wordsOf (k .0) ∙ spelled-words ws t,
+      ap (λ (x : Leaves). x .outbox) (fed t) ∙ nothing-told (f .records) out (k .1),
+    ))
+    (λ t. (ap (λ (x : Leaves). x .words) (found t), ap (λ (x : Leaves). x .outbox) (found t)))
+
 pub step-refused : StepRefused
 unfolding stepLeaves
 step-refused ws out i r ws' left h =
-    by-test (isLong ws)
-    (λ t.
-    let q : stepLeaves ws out i ≡ asFed (step (ledgerOf ws) (length out) i) out = given-on _ _ _ t in
-    let k = step-kept (ledgerOf ws) (length out) i r (ap (λ (x : Leaves). x .answer) (sym q) ∙ sym (h .answered)) in (
-      h .words ∙ ap (λ (x : Leaves). x .words) q ∙ ap wordsOf (k .0) ∙ words-ledger ws (long-true ws t),
-      h .outbox ∙ ap (λ (x : Leaves). x .outbox) q ∙ nothing-told (step (ledgerOf ws) (length out) i .records) out (k .1),
-    ))
-    (λ t.
-    let q : stepLeaves ws out i ≡ asFound refusal.BadRecord ws out = given-off _ _ _ t in
-    (h .words ∙ ap (λ (x : Leaves). x .words) q, h .outbox ∙ ap (λ (x : Leaves). x .outbox) q))
+    let k = leaves-found ws out (step (ledgerOf ws) (length out) i) (stepLeaves ws out i) r (λ t. given-on _ _ _ t) (λ t. given-off _ _ _ t)
+    (step-kept (ledgerOf ws) (length out) i) (h .answered) in
+    (h .words ∙ k .0, h .outbox ∙ k .1)
+
+take-kept : (l : Ledger) (room : ℕ) (packet : List ℕ) → Kept l (takeCertificate l room packet)
+take-kept l room packet r e = let k = rules.take-refused l room packet r e in (k .ledger, k .records)
+
+pub take-refused : TakeRefused
+unfolding takeLeaves
+take-refused ws out packet r ws' left h =
+    let k = leaves-found ws out (takeCertificate (ledgerOf ws) (length out) packet) (takeLeaves ws out packet) r (λ t. given-on _ _ _ t) (λ t. given-off _ _ _ t)
+    (take-kept (ledgerOf ws) (length out) packet) (h .answered) in
+    (h .words ∙ k .0, h .outbox ∙ k .1)
 
 -- ---- the tray
 
@@ -115,12 +131,12 @@ tray-kept l room places votes =
 pub tray-refused : TrayRefused
 unfolding trayLeaves trayRefused serve spelled over
 tray-refused ws out votes places r ws' left answers h =
-    by-test (isLong ws)
+    by-test (isSpelled ws)
     (λ t.
     let q : trayLeaves ws out votes places ≡ asServed (tray (ledgerOf ws) (length out) (length places) votes) out places = given-on _ _ _ t in
     let k = tray-kept (ledgerOf ws) (length out) (length places) votes r (ap (λ (x : trays.Leaves). x .answer) (sym q) ∙ sym (h .answered)) in
     let f : trayLeaves ws out votes places ≡ asServed (trayRefused (ledgerOf ws) r) out places = q ∙ ap (λ (x : Tray). asServed x out places) k in (
-      h .words ∙ ap (λ (x : trays.Leaves). x .words) f ∙ words-ledger ws (long-true ws t),
+      h .words ∙ ap (λ (x : trays.Leaves). x .words) f ∙ spelled-words ws t,
       h .outbox ∙ ap (λ (x : trays.Leaves). x .outbox) f,
       h .answers ∙ ap (λ (x : trays.Leaves). x .answers) f,
     ))
@@ -198,6 +214,12 @@ face-step-refused ws out i number made ws' left h ne =
     let x = step-refusal (stepLeaves ws out i .answer) (λ e. ne (h .numbered ∙ e)) in
     let k = step-refused ws out i (x .0) ws' left (record { answered = sym (x .1); words = h .words; outbox = h .outbox }) in
     (step-none (stepLeaves ws out i .answer) made (x .0) (x .1) (h .counted), k .0, k .1)
+
+pub face-take-refused : FaceTakeRefused
+face-take-refused ws out packet number made ws' left h ne =
+    let x = step-refusal (takeLeaves ws out packet .answer) (λ e. ne (h .numbered ∙ e)) in
+    let k = take-refused ws out packet (x .0) ws' left (record { answered = sym (x .1); words = h .words; outbox = h .outbox }) in
+    (k .0, k .1, step-none (takeLeaves ws out packet .answer) made (x .0) (x .1) (h .counted))
 
 pub face-tray-refused : FaceTrayRefused
 face-tray-refused ws out votes places number made ws' left answers h ne =

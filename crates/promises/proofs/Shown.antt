@@ -1,11 +1,13 @@
--- What the panel shows of the answers of start, step, tray and the writers. Assumes nothing.
+-- What the panel shows of the answers of start, step, take, tray and the writers. Assumes nothing.
 use mathlib.Core.Path.{_≡_, refl, sym, ap, _∙_}
 use mathlib.Core.Bool.{Bool, true, false, not, _&&_}
 use mathlib.Core.List.{List, [], _∷_}
 use Prim.Native.Nat.{ℕ, _%_}
 use lib.ListN.{length, length-reverse}
 use lib.Dec.{eqb, leb, ltb}
-use borrow.Author.Tests.{ne-eqb, le-ltb, lt-leb, ltb-true, ltb-false}
+use borrow.Author.Tests.{ne-eqb, le-ltb, le-leb, lt-leb, ltb-true, ltb-false}
+use Rattle.rulebook.specs.Certificates.{Certificate, Found}
+use Rattle.rulebook.specs.Certificates as found
 use Rattle.rulebook.specs.declared.Input.{Input}
 use Rattle.rulebook.specs.declared.Input.the-variants as input
 use Rattle.rulebook.specs.declared.Place.{Place}
@@ -16,27 +18,31 @@ use Rattle.rulebook.specs.declared.Verdict.{Verdict}
 use Rattle.rulebook.specs.declared.Verdict.the-variants.{Fine, Refused}
 use Rattle.rulebook.specs.declared.Vote.{Vote}
 use Rattle.rulebook.specs.Tools.{given}
-use Rattle.rulebook.specs.PaperNumbers.{Panel, verdictNumber, placeNumber, startPanel, stepPanel, writePanel, refusalNumber}
-use Rattle.rulebook.specs.Ledger.{Ledger, cellAt}
+use Rattle.rulebook.specs.PaperNumbers.{Panel, kindIn, verdictNumber, placeNumber, startPanel, stepPanel, writePanel, refusalNumber}
+use Rattle.rulebook.specs.Weights.{stakesFit}
+use Rattle.rulebook.specs.Ledger.{Ledger, tableOf, cellAt, certificatesAt}
 use Rattle.rulebook.specs.Votes.{placeOf}
+use Rattle.rulebook.specs.Rules.{stateOf}
 use Rattle.rulebook.specs.Run.{run}
 use Rattle.rulebook.specs.Inputs.{Fed, refuseIf, placeVerdict, voteVerdict, verdict, intake, fedWith, refusedWith, fedOn, feed}
-use Rattle.rulebook.specs.WellFormed.{wellFormed, outboxWords, step}
-use Rattle.rulebook.specs.Packets.{certificateBytes}
+use Rattle.rulebook.specs.Taking.{keptVerdict, keepCertificate, takenOn, taken, takenFrom, takePacket}
+use Rattle.rulebook.specs.WellFormed.{wellFormed, outboxWords, step, takeCertificate}
+use Rattle.rulebook.specs.Packets.{certificateAt, certificateBytes}
+use Rattle.rulebook.specs.Checker.{judge, judged, oneOf, oneAt}
 use Rattle.rulebook.specs.Writers.{Wrote, certificateFor, wroteOn, writeCertificate, certificateVerdict, writeProof, proofVerdict, proofBytes}
 use Rattle.rulebook.proofs.ToolLaws.{given-on, given-off, by-test}
-use Rattle.settling.proofs.FeedLaws.{step-malformed, step-short, step-fed}
-use Rattle.record.specs.Layout.{isLong, ledgerOf}
-use Rattle.record.proofs.Places.{true-long}
+use Rattle.packets.proofs.Table.{table-of-record}
+use Rattle.record.specs.Layout.{ledgerOf}
+use Rattle.record.specs.Spelling.{isSpelled}
 use Rattle.soundness.specs.Sound.{soundWords}
 use Rattle.soundness.specs.Starting.{startJudged, startAnswer}
-use Rattle.soundness.proofs.Laws.{sound-long, sound-formed}
-use Rattle.node.specs.Stepping.{Leaves, stepLeaves}
+use Rattle.node.specs.Stepping.{asFound, asFed, stepLeaves}
+use Rattle.taking.specs.Taking.{takeLeaves}
 use Rattle.trays.specs.Trays.{votesIn, wholeVotes, serve, Tray, trayRefused, trayServed, tray}
 use Rattle.trays.specs.Lent as trays
 use Rattle.trays.specs.Lent.{trayLeaves}
 use Rattle.writers.specs.Writing.{unsound, kindOn, certificateOn, proofOn}
-use Rattle.promises.specs.Panels.{besideIt, shown, soundFirst, stepJudged, VotePassed, trayJudged, StartShown, StepShown, TrayShown, PlaceShown, CertificateShown, ProofShown}
+use Rattle.promises.specs.Panels.{besideIt, shown, soundFirst, stepJudged, VotePassed, trayJudged, elseThen, wholeThen, nothingAfter, certificateChecked, keptJudged, takeJudged, StartShown, StepShown, TakeShown, TrayShown, PlaceShown, CertificateShown, ProofShown}
 
 -- ---- start
 
@@ -50,67 +56,41 @@ start-shown ws stakes own genesis a left h = ap startPanel (h .answered) ∙ ver
 
 -- ---- step
 
-refused-shown : (l : Ledger) (r : Refusal) (n : ℕ) → stepPanel (refusedWith l r .answer) ≡ shown (Refused r) (n ∷ [])
-unfolding stepPanel refusedWith shown besideIt verdictNumber
-refused-shown l r n = refl
-
 fed-shown : (l : Ledger) (i : Input) (v : Verdict) → stepPanel (fedOn v l i .answer) ≡ shown v (length (fedOn v l i .records) ∷ [])
 unfolding stepPanel fedOn fedWith refusedWith shown besideIt verdictNumber
 fed-shown l i Fine = ap (λ (n : ℕ). record { number = 0; values = n ∷ [] }) (sym (length-reverse (run (intake l i) .records)))
 fed-shown l i (Refused r) = refl
 
--- 17, 9, and then the input's own refusals.
-module _ (ws out : List ℕ) (i : Input) where
-  unsound-first : (v : Verdict) → soundWords ws ≡ false → soundFirst ws v ≡ Refused refusal.BadRecord
-  unfolding soundFirst refuseIf
-  unsound-first v e = rw e
+-- An outbox that is too small, by either test.
+room-tested : (room : ℕ) → not (leb outboxWords room) ≡ ltb room outboxWords
+room-tested room =
+    by-test (ltb room outboxWords) (λ t. ap not (lt-leb outboxWords room (ltb-true room outboxWords t)) ∙ sym t)
+    (λ t. ap not (le-leb outboxWords room (ltb-false room outboxWords t)) ∙ sym t)
 
-  sound-first : (v : Verdict) → soundWords ws ≡ true → soundFirst ws v ≡ v
-  unfolding soundFirst refuseIf
-  sound-first v e = rw e
+-- 17, 9, and then what is due to what is given: an input or a packet.
+first-shown : (a b c : Bool) (ws out : List ℕ) (l : Ledger) (rest : Fed) (v : Verdict) (n : ℕ) → (b ≡ true → stepPanel (rest .answer) ≡ shown v (n ∷ []))
+    → stepPanel (given a (asFound refusal.BadRecord ws out) (λ _. asFed (given b (refusedWith l refusal.BadRecord) (λ _. given c (refusedWith l refusal.NoRoom) (λ _. rest))) out) .answer)
+    ≡ shown (refuseIf (not (a && b)) refusal.BadRecord (refuseIf (not c) refusal.NoRoom v)) (n ∷ [])
+unfolding given refuseIf refusedWith stepPanel shown besideIt verdictNumber
+first-shown false b c ws out l rest v n h = refl
+first-shown true false c ws out l rest v n h = refl
+first-shown true true false ws out l rest v n h = refl
+first-shown true true true ws out l rest v n h = h refl
 
-  -- Words that are not sound: of another length, or a record that is not well formed.
-  unsound-answer : soundWords ws ≡ false → stepLeaves ws out i .answer ≡ refusedWith (ledgerOf ws) refusal.BadRecord .answer
-  unfolding stepLeaves soundWords refusedWith
-  unsound-answer e =
-      by-test (isLong ws)
-      (λ t.
-      let f : wellFormed (ledgerOf ws) ≡ false = rw t at e in
-      ap (λ (x : Leaves). x .answer) (given-on _ _ _ t) ∙ ap (λ (x : Fed). x .answer) (step-malformed (ledgerOf ws) i (length out) f))
-      (λ t. ap (λ (x : Leaves). x .answer) (given-off _ _ _ t))
+module _ (ws out : List ℕ) where
+  abbrev ledger : Ledger
+  ledger = ledgerOf ws
 
-  sound-answer : soundWords ws ≡ true → stepLeaves ws out i .answer ≡ step (ledgerOf ws) (length out) i .answer
-  unfolding stepLeaves
-  sound-answer e = ap (λ (x : Leaves). x .answer) (given-on _ _ _ (true-long ws (sound-long ws e)))
+  abbrev judgedFirst : Verdict → Bool → Verdict
+  judgedFirst v t = soundFirst ws (refuseIf t refusal.NoRoom v)
 
-  roomless : ltb (length out) outboxWords ≡ true → soundWords ws ≡ true
-      → stepPanel (step (ledgerOf ws) (length out) i .answer) ≡ shown (refuseIf (ltb (length out) outboxWords) refusal.NoRoom (verdict (ledgerOf ws) i)) (length (feed (ledgerOf ws) i .records) ∷ [])
-  unfolding refuseIf
-  roomless t e =
-      ap (λ (x : Fed). stepPanel (x .answer)) (step-short (ledgerOf ws) i (length out) (sound-formed ws e) (ltb-true (length out) outboxWords t))
-      ∙ refused-shown (ledgerOf ws) refusal.NoRoom (length (feed (ledgerOf ws) i .records))
-      ∙ ap (λ (b : Bool). shown (refuseIf b refusal.NoRoom (verdict (ledgerOf ws) i)) (length (feed (ledgerOf ws) i .records) ∷ [])) (sym t)
-
-  roomy : ltb (length out) outboxWords ≡ false → soundWords ws ≡ true
-      → stepPanel (step (ledgerOf ws) (length out) i .answer) ≡ shown (refuseIf (ltb (length out) outboxWords) refusal.NoRoom (verdict (ledgerOf ws) i)) (length (feed (ledgerOf ws) i .records) ∷ [])
-  unfolding refuseIf feed
-  roomy t e =
-      ap (λ (x : Fed). stepPanel (x .answer)) (step-fed (ledgerOf ws) i (length out) (sound-formed ws e) (ltb-false (length out) outboxWords t))
-      ∙ fed-shown (ledgerOf ws) i (verdict (ledgerOf ws) i)
-      ∙ ap (λ (b : Bool). shown (refuseIf b refusal.NoRoom (verdict (ledgerOf ws) i)) (length (feed (ledgerOf ws) i .records) ∷ [])) (sym t)
-
-  leaves-shown : stepPanel (stepLeaves ws out i .answer) ≡ shown (stepJudged ws out i) (length (feed (ledgerOf ws) i .records) ∷ [])
-  unfolding stepJudged
-  leaves-shown =
-      let later : Verdict = refuseIf (ltb (length out) outboxWords) refusal.NoRoom (verdict (ledgerOf ws) i) in
-      let values : List ℕ = length (feed (ledgerOf ws) i .records) ∷ [] in
-      by-test (soundWords ws)
-      (λ e.
-      ap stepPanel (sound-answer e) ∙ by-test (ltb (length out) outboxWords) (λ t. roomless t e) (λ t. roomy t e)
-      ∙ ap (λ (v : Verdict). shown v values) (sym (sound-first later e)))
-      (λ e.
-      ap stepPanel (unsound-answer e) ∙ refused-shown (ledgerOf ws) refusal.BadRecord (length (feed (ledgerOf ws) i .records))
-      ∙ ap (λ (v : Verdict). shown v values) (sym (unsound-first later e)))
+  leaves-shown : (i : Input) → stepPanel (stepLeaves ws out i .answer) ≡ shown (stepJudged ws out i) (length (feed ledger i .records) ∷ [])
+  unfolding stepLeaves step feed stepJudged soundFirst soundWords
+  leaves-shown i =
+      let v = verdict ledger i in
+      let n = length (fedOn v ledger i .records) in
+      first-shown (isSpelled ws) (wellFormed ledger) (leb outboxWords (length out)) ws out ledger (fedOn v ledger i) v n (λ _. fed-shown ledger i v)
+      ∙ ap (λ (t : Bool). shown (judgedFirst v t) (n ∷ [])) (room-tested (length out))
 
 pub step-shown : StepShown
 step-shown ws out i a ws' left h = ap stepPanel (h .answered) ∙ leaves-shown ws out i
@@ -141,6 +121,60 @@ unfolding shown
 place-shown ws out v a ws' left p h =
     ap (λ (x : Panel). x .number) (step-shown ws out (input.Vote v) a ws' left h) ∙ ap verdictNumber (vote-judged ws out v p)
     ∙ place-number (placeOf (cellAt (ledgerOf ws) (v .slot .0) (v .node .0)) (v .kind) (v .block))
+
+-- ---- a certificate from another firm
+
+module _ (l : Ledger) (packet : List ℕ) where
+  module _ (c : Certificate) where
+    abbrev kept : Verdict
+    kept = keptVerdict (certificatesAt l (c .slot)) (kindIn (l .count) (c .kind)) (c .block)
+
+    kept-shown : (v : Verdict) → stepPanel (takenOn v l c .answer) ≡ shown v (length (takenOn v l c .records) ∷ [])
+    unfolding stepPanel takenOn fedWith refusedWith shown besideIt verdictNumber
+    kept-shown Fine = ap (λ (n : ℕ). record { number = 0; values = n ∷ [] }) (sym (length-reverse (run (stateOf (keepCertificate l c) []) .records)))
+    kept-shown (Refused r) = refl
+
+    after-shown : (t : Bool)
+        → stepPanel (given (not t) (refusedWith l refusal.BadLength) (λ _. taken l c) .answer)
+        ≡ shown (elseThen (refuseIf t refusal.BadLength Fine) kept) (length (given (not t) (refusedWith l refusal.BadLength) (λ _. taken l c) .records) ∷ [])
+    unfolding given refuseIf refusedWith stepPanel shown besideIt verdictNumber elseThen taken
+    after-shown true = refl
+    after-shown false = kept-shown kept
+
+    judged-shown : (n : ℕ) (v : Verdict)
+        → stepPanel (takenFrom l packet (judged v c n) .answer)
+        ≡ shown (elseThen (elseThen v (nothingAfter packet n)) kept) (length (takenFrom l packet (judged v c n) .records) ∷ [])
+    unfolding takenFrom judged elseThen nothingAfter refusedWith stepPanel shown besideIt verdictNumber
+    judged-shown n Fine = after-shown (ltb n (length packet))
+    judged-shown n (Refused r) = refl
+
+  read-shown : (x : Found)
+      → stepPanel (takenFrom l packet (oneOf (tableOf l) x) .answer)
+      ≡ shown (elseThen (wholeThen (tableOf l) x (λ c n. nothingAfter packet n)) (keptJudged l x)) (length (takenFrom l packet (oneOf (tableOf l) x) .records) ∷ [])
+  unfolding takenFrom oneOf wholeThen keptJudged elseThen refusedWith stepPanel shown besideIt verdictNumber
+  read-shown (found.Whole c n) = judged-shown c n (judge (tableOf l) c)
+  read-shown found.Early = refl
+  read-shown found.Malformed = refl
+
+  -- What the checker refuses, then 7 and 8.
+  packet-shown : stakesFit (tableOf l) (length (tableOf l)) ≡ true
+      → stepPanel (takePacket l packet .answer)
+      ≡ shown (elseThen (certificateChecked (tableOf l) packet) (keptJudged l (certificateAt packet 0))) (length (takePacket l packet .records) ∷ [])
+  unfolding takePacket oneAt certificateChecked refuseIf
+  packet-shown e = rw e (read-shown (certificateAt packet 0))
+
+take-leaves-shown : (ws out packet : List ℕ)
+    → stepPanel (takeLeaves ws out packet .answer) ≡ shown (takeJudged ws out packet) (length (takePacket (ledgerOf ws) packet .records) ∷ [])
+unfolding takeLeaves takeCertificate takeJudged soundFirst soundWords
+take-leaves-shown ws out packet =
+    let l = ledgerOf ws in
+    let v = elseThen (certificateChecked (tableOf l) packet) (keptJudged l (certificateAt packet 0)) in
+    let n = length (takePacket l packet .records) in
+    first-shown (isSpelled ws) (wellFormed l) (leb outboxWords (length out)) ws out l (takePacket l packet) v n (λ f. packet-shown l packet (table-of-record l f .fits))
+    ∙ ap (λ (t : Bool). shown (judgedFirst ws out v t) (n ∷ [])) (room-tested (length out))
+
+pub take-shown : TakeShown
+take-shown ws out packet a ws' left h = ap stepPanel (h .answered) ∙ take-leaves-shown ws out packet
 
 -- ---- the tray
 
@@ -173,7 +207,7 @@ unfolding trayLeaves trayJudged soundFirst soundWords refuseIf stepPanel shown b
 tray-leaves-shown ws out votes places =
     let values : List ℕ = length (serve (ledgerOf ws) (votesIn votes) .records) ∷ [] in
     let first : Bool → Panel = λ b. shown (refuseIf (not (b && wellFormed (ledgerOf ws))) refusal.BadRecord (roomThenPart out votes places)) values in
-    by-test (isLong ws)
+    by-test (isSpelled ws)
     (λ t. ap (λ (x : trays.Leaves). stepPanel (x .answer)) (given-on _ _ _ t) ∙ tray-tested (ledgerOf ws) out votes places ∙ ap first (sym t))
     (λ t. ap (λ (x : trays.Leaves). stepPanel (x .answer)) (given-off _ _ _ t) ∙ ap first (sym t))
 

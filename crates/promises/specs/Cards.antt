@@ -19,7 +19,7 @@ use Rattle.lines.specs.Answers.{answerLine, fiveValues, checkLine}
 use Rattle.writers.specs.Writing.{certificateOn, proofOn}
 use Rattle.cards.specs.declared.CardAnswer.{CardAnswer}
 use Rattle.cards.specs.Asked.{cardOn, cardValues, cardPanel}
-use Rattle.answers.specs.Face.{Stepped, Trayed, Wrote, CardRead, Compared}
+use Rattle.answers.specs.Face.{Stepped, Taken, Trayed, Wrote, CardRead, Compared}
 use Rattle.promises.specs.Panels.{shown, soundFirst}
 use Rattle.promises.specs.Printed.{Sends}
 
@@ -55,10 +55,11 @@ pub record Disagrees (ws : List ℕ) : Type 0 where
   pub high : slot ≤ lastSlot
   pub other : ¬ (rowAt (ledgerOf ws) slot .card ≡ recount (ledgerOf ws) slot)
 
--- Every function of the face that is lent a node's record answers 17: qr_vote, qr_block, qr_timeout and qr_look; qr_tray; the two writers;
--- qr_card; qr_differ with the side whose record it is.
+-- Every function of the face that is lent a node's record answers 17: qr_vote, qr_block, qr_timeout and qr_look; qr_take; qr_tray; the two
+-- writers; qr_card; qr_differ with the side whose record it is.
 pub record RefusedEverywhere (ws : List ℕ) : Type 0 where
   pub stepped : (out : List ℕ) (i : Input) (number made : ℕ) (ws' left : List ℕ) → Stepped ws out i number made ws' left → number ≡ 17
+  pub taken : (out packet : List ℕ) (number made : ℕ) (ws' left : List ℕ) → Taken ws out packet number made ws' left → number ≡ 17
   pub trayed : (out votes places : List ℕ) (number made : ℕ) (ws' left answers : List ℕ) → Trayed ws out votes places number made ws' left answers
       → number ≡ 17
   pub certificate : (buffer : List ℕ) (kind s b number written : ℕ) (after : List ℕ)
@@ -83,9 +84,11 @@ SameCards l m = (s : ℕ) → rowAt m s .card ≡ rowAt l s .card
 abbrev pub RefusedCards : Type 0
 RefusedCards = (l : Ledger) (i : Input) → ¬ (stepPanel (feed l i .answer) .number ≡ 0) → SameCards l (feed l i .ledger)
 
--- So does a call of qr_vote, qr_block, qr_timeout, qr_look or qr_tray that is not answered 0.
+-- So does a call of qr_vote, qr_block, qr_timeout, qr_look, qr_take or qr_tray that is not answered 0.
 pub record FaceRefusedCards : Type 0 where
   pub stepped : (ws out : List ℕ) (i : Input) (number made : ℕ) (ws' left : List ℕ) → Stepped ws out i number made ws' left → ¬ (number ≡ 0)
+      → SameCards (ledgerOf ws) (ledgerOf ws')
+  pub taken : (ws out packet : List ℕ) (number made : ℕ) (ws' left : List ℕ) → Taken ws out packet number made ws' left → ¬ (number ≡ 0)
       → SameCards (ledgerOf ws) (ledgerOf ws')
   pub trayed : (ws out votes places : List ℕ) (number made : ℕ) (ws' left answers : List ℕ)
       → Trayed ws out votes places number made ws' left answers → ¬ (number ≡ 0) → SameCards (ledgerOf ws) (ledgerOf ws')

@@ -1,6 +1,6 @@
--- "No certificate is held or refused that was not before", and what stands beside 15, over the contracts.
+-- "No certificate is held or refused that was not before": of the stored votes; and what stands beside 15, over the contracts.
 use mathlib.Core.Path.{_≡_}
-use mathlib.Core.Bool.{not}
+use mathlib.Core.Bool.{not, _||_}
 use mathlib.Core.List.{List}
 use Prim.Native.Nat.{ℕ, _+_, _*_, _≤_, _<_}
 use lib.ListN.{length}
@@ -14,7 +14,7 @@ use Rattle.rulebook.specs.Tools.{choose}
 use Rattle.rulebook.specs.Weights.{totalTo, slotOk}
 use Rattle.rulebook.specs.PaperNumbers.{kindIn, verdictNumber, checkNumber, checkMissing}
 use Rattle.rulebook.specs.Ledger.{Ledger}
-use Rattle.rulebook.specs.Pool.{weigh, signersOf, fifthsOf, held, missingTo}
+use Rattle.rulebook.specs.Pool.{weigh, signersOf, fifthsOf, reached, keptAs, held, missingTo}
 use Rattle.rulebook.specs.Packets.{certificateAt}
 use Rattle.rulebook.specs.Checker.{isOtherKind, blockMisfits, badSigners, signedWeight, judge, checkCertificate, checkProof}
 use Rattle.answers.specs.Face.{Checked}
@@ -24,15 +24,16 @@ pub record Least (k t w x : ℕ) : Type 0 where
   pub enough : k * t ≤ 5 * (w + x)
   pub noLess : (y : ℕ) → y < x → 5 * (w + y) < k * t
 
--- "No certificate is held .. that was not before": it is held exactly where five times its signers' stake is at least its fifths of the total,
--- and exactly where nothing is missing.
-pub record HeldAs (l : Ledger) (k : CertificateKind) (s b : ℕ) : Type 0 where
-  pub asBefore : held l k s b ≡ leb (fifthsOf k * l .total) (5 * weigh l s (signersOf k b))
-  pub nothingMissing : held l k s b ≡ eqb (missingTo l k s b) 0
+-- "No certificate is held .. that was not before": the stored votes reach it exactly where five times its signers' stake is at least its
+-- fifths of the total, and exactly where nothing is missing. ""Held" now means reached by stored votes or kept".
+pub record ReachedAs (l : Ledger) (k : CertificateKind) (s b : ℕ) : Type 0 where
+  pub asBefore : reached l k s b ≡ leb (fifthsOf k * l .total) (5 * weigh l s (signersOf k b))
+  pub nothingMissing : reached l k s b ≡ eqb (missingTo l k s b) 0
   pub least : Least (fifthsOf k) (l .total) (weigh l s (signersOf k b)) (missingTo l k s b)
+  pub orKept : held l k s b ≡ (eqb (missingTo l k s b) 0 || keptAs l k s b)
 
-abbrev pub HeldAsBefore : Type 0
-HeldAsBefore = (l : Ledger) (k : CertificateKind) (s b : ℕ) → HeldAs l k s b
+abbrev pub ReachedAsBefore : Type 0
+ReachedAsBefore = (l : Ledger) (k : CertificateKind) (s b : ℕ) → ReachedAs l k s b
 
 -- The number of the first test that a certificate does not pass, 0 where it passes all: 4, 3, 5, 14, and 15 by the threshold alone.
 unfoldable pub firstFailed : List ℕ → CertificateKind → Certificate → ℕ

@@ -9,3 +9,4 @@ pub mod Families
 pub mod Differs
 pub mod Pieces
 pub mod Cards
+pub mod Certificates

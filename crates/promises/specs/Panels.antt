@@ -22,17 +22,19 @@ use Rattle.rulebook.specs.declared.Vote.{Vote}
 use Rattle.rulebook.specs.declared.WriteAnswer.{WriteAnswer}
 use Rattle.rulebook.specs.PaperNumbers.{Panel, kindIn, numberIn, verdictNumber, placeNumber, foundPanel, startPanel, stepPanel, writePanel, checkNumber, checkPanel}
 use Rattle.rulebook.specs.Weights.{slotOk, stakesFit}
-use Rattle.rulebook.specs.Ledger.{cellAt}
+use Rattle.rulebook.specs.Ledger.{Ledger, tableOf, cellAt, certificatesAt}
 use Rattle.rulebook.specs.Votes.{placeOf}
 use Rattle.rulebook.specs.Inputs.{refuseIf, isOther, misfits, verdict, feed}
 use Rattle.rulebook.specs.WellFormed.{outboxWords}
 use Rattle.rulebook.specs.Packets.{certificateAt, certificateBytes, countOf}
+use Rattle.rulebook.specs.Taking.{keptVerdict, takePacket}
 use Rattle.rulebook.specs.Checker.{signed, signedWeight, judge, checkCertificate, checkProof}
 use Rattle.rulebook.specs.Writers.{certificateFor, certificateVerdict, proofVerdict, proofBytes, Writes}
 use Rattle.record.specs.Layout.{ledgerOf}
 use Rattle.soundness.specs.Sound.{soundWords}
 use Rattle.soundness.specs.Starting.{startJudged, StartOf}
 use Rattle.node.specs.Stepping.{StepOf}
+use Rattle.taking.specs.Taking.{TakeOf}
 use Rattle.trays.specs.Trays.{votesIn, wholeVotes, serve}
 use Rattle.trays.specs.Lent.{TrayOf}
 use Rattle.writers.specs.Writing.{kindOn, certificateOn, proofOn}
@@ -130,6 +132,25 @@ unfoldable pub certificateChecked : List ℕ → List ℕ → Verdict
 certificateChecked stakes packet =
     refuseIf (not (stakesFit stakes (length stakes))) refusal.BadSizes
     (wholeThen stakes (certificateAt packet 0) (λ c next. nothingAfter packet next))
+
+-- 7 and 8, of a certificate that was read: what it finds kept in its slot.
+unfoldable pub keptJudged : Ledger → Found → Verdict
+keptJudged l (found.Whole c next) = keptVerdict (certificatesAt l (c .slot)) (kindIn (l .count) (c .kind)) (c .block)
+keptJudged l found.Early = Fine
+keptJudged l found.Malformed = Fine
+
+-- "Order: 17, 9, checker's, 7, 8": a certificate from another firm. The checker has the record's stakes, to which its 1 is never due.
+unfoldable pub takeJudged : List ℕ → List ℕ → List ℕ → Verdict
+takeJudged ws out packet =
+    soundFirst ws
+    (refuseIf (ltb (length out) outboxWords) refusal.NoRoom
+    (elseThen (certificateChecked (tableOf (ledgerOf ws)) packet) (keptJudged (ledgerOf ws) (certificateAt packet 0))))
+
+-- It is answered with the number of its records.
+abbrev pub TakeShown : Type 0
+TakeShown =
+    (ws out packet : List ℕ) (a : StepAnswer) (ws' left : List ℕ) → TakeOf ws out packet a ws' left
+    → stepPanel a ≡ shown (takeJudged ws out packet) (length (takePacket (ledgerOf ws) packet .records) ∷ [])
 
 -- "16 if its kind is not 1 or 2": what follows a first certificate of kind 1, and of kind 2.
 unfoldable pub firstThen : CertificateKind → Verdict → Verdict → Verdict

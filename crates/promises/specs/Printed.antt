@@ -13,9 +13,10 @@ use Rattle.lines.specs.Put.{Put}
 use Rattle.lines.specs.Answers.{numberLine, startLine, stepLine, trayLine, packetLine, messageLine, checkLine}
 use Rattle.soundness.specs.Starting.{startJudged, startAnswer}
 use Rattle.node.specs.Stepping.{stepLeaves}
+use Rattle.taking.specs.Taking.{takeLeaves}
 use Rattle.trays.specs.Trays.{wholeVotes}
 use Rattle.trays.specs.Lent.{trayLeaves}
-use Rattle.answers.specs.Face.{Started, Stepped, Trayed, Wrote, MessageRead, Checked}
+use Rattle.answers.specs.Face.{Started, Stepped, Taken, Trayed, Wrote, MessageRead, Checked}
 
 -- A page in which one text was put, and the other is what is sent of it.
 abbrev pub Sends : List ℕ → List ℕ → Type 0
@@ -32,6 +33,12 @@ abbrev pub StepPrinted : Type 0
 StepPrinted =
     (ws out : List ℕ) (i : Input) (number made : ℕ) (ws' left : List ℕ) → Stepped ws out i number made ws' left
     → Sends (stepLine (record { number = number; values = made ∷ [] }) left) (stepLine (stepPanel (stepLeaves ws out i .answer)) left)
+
+-- take: likewise.
+abbrev pub TakePrinted : Type 0
+TakePrinted =
+    (ws out packet : List ℕ) (number made : ℕ) (ws' left : List ℕ) → Taken ws out packet number made ws' left
+    → Sends (stepLine (record { number = number; values = made ∷ [] }) left) (stepLine (stepPanel (takeLeaves ws out packet .answer)) left)
 
 -- tray: the votes' numbers stand at the front of the answer buffer that it left, as many as there are whole votes.
 abbrev pub TrayPrinted : Type 0

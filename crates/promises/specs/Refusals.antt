@@ -16,9 +16,10 @@ use Rattle.rulebook.specs.Writers.{Writes}
 use Rattle.rulebook.specs.Messages.{writeVote}
 use Rattle.soundness.specs.Starting.{StartOf}
 use Rattle.node.specs.Stepping.{StepOf}
+use Rattle.taking.specs.Taking.{TakeOf}
 use Rattle.trays.specs.Lent.{TrayOf}
 use Rattle.writers.specs.Writing.{certificateOn, proofOn}
-use Rattle.answers.specs.Face.{Started, Stepped, Trayed, Wrote, Checked}
+use Rattle.answers.specs.Face.{Started, Stepped, Taken, Trayed, Wrote, Checked}
 
 -- ---- the public operations
 
@@ -31,6 +32,11 @@ StartRefused =
 abbrev pub StepRefused : Type 0
 StepRefused =
     (ws out : List ℕ) (i : Input) (r : Refusal) (ws' left : List ℕ) → StepOf ws out i (step.Refused r) ws' left → (ws' ≡ ws) × (left ≡ out)
+
+-- A refused certificate from another firm leaves the record and the outbox as found.
+abbrev pub TakeRefused : Type 0
+TakeRefused =
+    (ws out packet : List ℕ) (r : Refusal) (ws' left : List ℕ) → TakeOf ws out packet (step.Refused r) ws' left → (ws' ≡ ws) × (left ≡ out)
 
 -- A refused tray leaves the record, the outbox and the answer buffer as found.
 abbrev pub TrayRefused : Type 0
@@ -68,6 +74,12 @@ abbrev pub FaceStepRefused : Type 0
 FaceStepRefused =
     (ws out : List ℕ) (i : Input) (number made : ℕ) (ws' left : List ℕ) → Stepped ws out i number made ws' left → ¬ (number ≡ 0)
     → (made ≡ 0) × (ws' ≡ ws) × (left ≡ out)
+
+-- qr_take: 0 records made.
+abbrev pub FaceTakeRefused : Type 0
+FaceTakeRefused =
+    (ws out packet : List ℕ) (number made : ℕ) (ws' left : List ℕ) → Taken ws out packet number made ws' left → ¬ (number ≡ 0)
+    → (ws' ≡ ws) × (left ≡ out) × (made ≡ 0)
 
 -- qr_tray: 0 records made.
 abbrev pub FaceTrayRefused : Type 0

@@ -11,7 +11,7 @@ ghost use Rattle.writers.specs.Writing.{certificateOn, proofOn};
 ghost use Rattle.rulebook.specs.declared.Input.the-variants as input;
 ghost use Rattle.cards.specs.Asked.{cardOn};
 ghost use Rattle.pieces.specs.State.{stateWords, frontBytes};
-ghost use Rattle.answers.specs.Face.{voteInput, blockInput, timeoutInput, Started, Stepped, Trayed, Wrote, MessageRead, CardRead, Checked, Compared, Pieced, Ended};
+ghost use Rattle.answers.specs.Face.{voteInput, blockInput, timeoutInput, Started, Stepped, Taken, Trayed, Wrote, MessageRead, CardRead, Checked, Compared, Pieced, Ended};
 use answers::bytes_written;
 use answers::card_number;
 use answers::card_values;
@@ -48,6 +48,7 @@ use rulebook::Input;
 use rulebook::Node;
 use rulebook::Slot;
 use soundness::start;
+use taking::take;
 use trays::tray;
 use writers::write_certificate;
 use writers::write_proof;
@@ -133,6 +134,21 @@ pub extern "C" fn qr_look(rec: &mut [u64], outbox: &mut [u64], made: &mut usize)
     ensures { λ r. ⌜ Stepped (now (rec .entry)) (now (outbox .entry)) input.Look r (now (made .exit)) (now (rec .exit)) (now (outbox .exit)) ⌝ }
 {
     let a = step(rec, outbox, Input::Look);
+    *made = records_made(a);
+    step_number(a)
+}
+
+// Gives the node a certificate that another node wrote.
+#[no_mangle]
+pub extern "C" fn qr_take(
+    rec: &mut [u64],
+    outbox: &mut [u64],
+    made: &mut usize,
+    packet: &[u8],
+) -> u64
+    ensures { λ r. ⌜ Taken (now (rec .entry)) (now (outbox .entry)) (now (packet .entry)) r (now (made .exit)) (now (rec .exit)) (now (outbox .exit)) ⌝ }
+{
+    let a = take(rec, outbox, packet);
     *made = records_made(a);
     step_number(a)
 }

@@ -13,8 +13,8 @@ ghost use Rattle.writers.specs.Writing.{kindOn, certificateOn, proofOn};
 ghost use Rattle.readback.specs.ReadBack.{ReadsBack};
 ghost use Rattle.packets.specs.Promises.{acceptedFor, proofKind};
 
-// Writes a certificate, asked for by its kind's number, and has it checked: one that is written is accepted, with the stored signers
-// and their weight.
+// Writes a certificate, asked for by its kind's number, and has it checked: one that is written is accepted, with its signers and
+// their weight.
 pub fn certificate_read_back(
     rec: &[u64],
     buffer: &mut [u8],

@@ -10,11 +10,11 @@ use lib.ListN.{length, getD, set}
 use lib.Seq.{set-getD, set-out}
 use Rattle.rulebook.specs.declared.Block.{Block}
 use Rattle.rulebook.specs.Tools.{choose, allTo, someTo}
-use Rattle.rulebook.specs.Ledger.{Ledger, Row, noBlock, noRow, rowAt, blocksAt, someBlock, allBlocks, isFree, hasNumber, fillBlock, putRow, putBlocks}
+use Rattle.rulebook.specs.Ledger.{Ledger, Row, noBlock, noRow, blocksAt, someBlock, allBlocks, isFree, hasNumber, fillBlock, putBlocks}
 use Rattle.rulebook.specs.Rules.{findBlock}
 use Rattle.rulebook.specs.Inputs.{keepBlock}
 use Rattle.rulebook.specs.WellFormed.{inOrder, blocksApart}
-use Rattle.rulebook.proofs.ToolLaws.{choose-on, choose-off, all-none, all-same}
+use Rattle.rulebook.proofs.ToolLaws.{choose-on, choose-off, all-same}
 use Rattle.record.specs.BlockPlaces.{freePlace, behind}
 
 -- ---- a test of every place, of some place
@@ -42,17 +42,17 @@ and-swap true false false d = refl
 and-swap false b c d = refl
 
 -- The first number's test in front.
-some-first : (n : ℕ) (f : ℕ → Bool) → someTo (suc n) f ≡ (f 0 || someTo n (λ i. f (suc i)))
+pub some-first : (n : ℕ) (f : ℕ → Bool) → someTo (suc n) f ≡ (f 0 || someTo n (λ i. f (suc i)))
 unfolding someTo
 some-first zero f = or-end (f 0)
 some-first (suc n) f = ap (λ (b : Bool). b || f (suc n)) (some-first n f) ∙ or-more (f 0) (someTo n (λ i. f (suc i))) (f (suc n))
 
-all-first : (n : ℕ) (f : ℕ → Bool) → allTo (suc n) f ≡ (f 0 && allTo n (λ i. f (suc i)))
+pub all-first : (n : ℕ) (f : ℕ → Bool) → allTo (suc n) f ≡ (f 0 && allTo n (λ i. f (suc i)))
 unfolding allTo
 all-first zero f = and-end (f 0)
 all-first (suc n) f = ap (λ (b : Bool). b && f (suc n)) (all-first n f) ∙ and-more (f 0) (allTo n (λ i. f (suc i))) (f (suc n))
 
-all-and : (n : ℕ) (f g : ℕ → Bool) → (allTo n f && allTo n g) ≡ allTo n (λ i. f i && g i)
+pub all-and : (n : ℕ) (f g : ℕ → Bool) → (allTo n f && allTo n g) ≡ allTo n (λ i. f i && g i)
 unfolding allTo
 all-and zero f g = refl
 all-and (suc n) f g = and-swap (allTo n f) (f n) (allTo n g) (g n) ∙ ap (λ (b : Bool). b && (f n && g n)) (all-and n f g)

@@ -2,13 +2,12 @@
 use mathlib.Core.Path.{_≡_, refl, sym, ap, _∙_}
 use mathlib.Core.List.{List}
 use native.Mathlib.Omega.{arith}
-use Prim.Native.Nat.{ℕ, suc, _+_, _*_, _≤_, _<_}
+use Prim.Native.Nat.{ℕ, suc, _+_, _≤_, _<_}
 use lib.ListN.{length, getD}
-use Rattle.rulebook.specs.declared.Cell.{Cell}
 use Rattle.rulebook.specs.Weights.{lastSlot, windows, windowOf, stakeIn}
-use Rattle.rulebook.specs.Ledger.{Ledger, Row, noRow, noCell, noBlock, mostBlocks, blocksAt, places, rowAt, cellAt}
+use Rattle.rulebook.specs.Ledger.{Row, noRow, noCell, noBlock, noKept, mostBlocks, mostCertificates, blocksAt, certificatesAt, places, rowAt, cellAt}
 use Rattle.rulebook.specs.WellFormed.{Shaped}
-use Rattle.record.specs.Layout.{wordAt, armedStart, stakeStart, rowStart, timeoutAt, finalAt, clashAt, cardAt, cardStart, blockStart, cellStart, tabulate, placesIn, cellFrom, blockFrom, cardFrom, blockOf, cellOf, rowOf, ledgerAt, ledgerOf, Placed, InSlot, InBlocks, InWindow}
+use Rattle.record.specs.Layout.{wordAt, armedStart, stakeStart, rowStart, timeoutAt, finalAt, clashAt, cardStart, blockStart, keptStart, cellStart, placesIn, maskWords, cellFrom, blockFrom, cardFrom, keptFrom, blockOf, keptOf, cellOf, rowOf, ledgerAt, ledgerOf, Placed, InSlot, InBlocks, InKept, InWindow}
 use Rattle.record.proofs.Tables.{length-tabulate, getD-tabulate}
 use Rattle.record.proofs.Places.{node-placed}
 
@@ -47,6 +46,9 @@ module _ (p : ℕ) (ws : List ℕ) where
   pub block-words : (s n : ℕ) → s < suc lastSlot → n < mostBlocks → getD (blocksAt (ledgerAt p ws) s) n noBlock ≡ blockOf p ws s n
   block-words s n h k = ap (λ (r : Row). getD (r .blocks) n noBlock) (row-words s h) ∙ getD-tabulate mostBlocks n (blockOf p ws s) noBlock k
 
+  pub kept-words : (s n : ℕ) → s < suc lastSlot → n < mostCertificates → getD (certificatesAt (ledgerAt p ws) s) n noKept ≡ keptOf p ws s n
+  kept-words s n h k = ap (λ (r : Row). getD (r .certificates) n noKept) (row-words s h) ∙ getD-tabulate mostCertificates n (keptOf p ws s) noKept k
+
   shaped : Shaped (places (ledgerAt p ws)) (ledgerAt p ws)
   unfolding ledgerAt
   shaped =
@@ -55,6 +57,8 @@ module _ (p : ℕ) (ws : List ℕ) where
         stakes = refl;
         rows = length-tabulate (suc lastSlot) (rowOf p ws);
         blocks = λ s h. ap (λ (r : Row). length (r .blocks)) (getD-tabulate (suc lastSlot) s (rowOf p ws) noRow h) ∙ length-tabulate mostBlocks (blockOf p ws s);
+        certificates = λ s h.
+            ap (λ (r : Row). length (r .certificates)) (getD-tabulate (suc lastSlot) s (rowOf p ws) noRow h) ∙ length-tabulate mostCertificates (keptOf p ws s);
         cells = λ s h.
             ap (λ (r : Row). length (r .cells)) (getD-tabulate (suc lastSlot) s (rowOf p ws) noRow h)
             ∙ length-tabulate p (cellOf p ws s)
@@ -72,6 +76,9 @@ cell-read ws s n i h e = ap (cellFrom ws) e ∙ sym (cell-words (placesIn ws) ws
 
 pub block-read : (ws : List ℕ) (s n i : ℕ) → InBlocks ws s n → i ≡ blockStart (placesIn ws) s n → blockFrom ws i ≡ getD (blocksAt (ledgerOf ws) s) n noBlock
 block-read ws s n i h e = ap (blockFrom ws) e ∙ sym (block-words (placesIn ws) ws s n (h .slot) (h .place))
+
+pub kept-read : (ws : List ℕ) (s n i : ℕ) → InKept ws s n → i ≡ keptStart (placesIn ws) s n → keptFrom (maskWords (placesIn ws)) ws i ≡ getD (certificatesAt (ledgerOf ws) s) n noKept
+kept-read ws s n i h e = ap (keptFrom (maskWords (placesIn ws)) ws) e ∙ sym (kept-words (placesIn ws) ws s n (h .slot) (h .place))
 
 module _ (ws : List ℕ) (s i : ℕ) (h : InSlot ws s) (e : i ≡ rowStart (placesIn ws) s) where
   here : rowOf (placesIn ws) ws s ≡ rowAt (ledgerOf ws) s

@@ -1,19 +1,19 @@
 -- Setting a record up: words that are all 0, the head's words stored, the stakes as a part of the words.
 use mathlib.Core.Path.{_≡_, refl, sym, ap, _∙_}
-use mathlib.Core.List.{List, [], _∷_, _++_}
+use mathlib.Core.List.{List, [], _∷_}
 use mathlib.Core.Logic.{⊎-elim, inl, inr}
-use Prim.Native.Nat.{ℕ, zero, suc, _+_, _*_, _<_, _≤_}
+use Prim.Native.Nat.{ℕ, zero, suc, _+_, _<_, _≤_}
 use native.Mathlib.Omega.{arith}
 use native.Mathlib.Nat.{eq-or-lt-of-le}
-use lib.ListN.{length, getD, set, take, drop, replicate, length-drop, length-replicate, length-set}
-use lib.Seq.{getD-set-same, getD-set-other, getD-take, getD-drop, ext-getD, length-take-le, sets, length-sets}
-use Rattle.rulebook.specs.declared.Cell.{Cell}
+use lib.ListN.{length, set, take, drop, replicate, length-replicate, length-set}
+use lib.Seq.{getD-set-same, getD-set-other, getD-take, ext-getD, length-take-le, sets, length-sets}
 use Rattle.rulebook.specs.Weights.{lastSlot, windows}
-use Rattle.rulebook.specs.Ledger.{Ledger, Row, cardOf, noCell, noBlock, mostBlocks, blankRow, places}
-use Rattle.record.specs.Layout.{wordAt, armedStart, stakeStart, rowStart, timeoutAt, finalAt, clashAt, cardStart, blockStart, cellStart, recordWords, placesIn, tabulate, blockOf, cellOf, rowOf, ledgerAt, ledgerOf, Long, InTable}
+use Rattle.rulebook.specs.Ledger.{cardOf, noCell, noBlock, noKept, mostBlocks, mostCertificates, blankRow, places}
+use Rattle.record.specs.Layout.{wordAt, armedStart, stakeStart, rowStart, timeoutAt, finalAt, clashAt, cardStart, blockStart, keptStart, cellStart, maskWords, recordWords, placesIn, tabulate, blockOf, keptOf, cellOf, rowOf, ledgerAt, ledgerOf, Long, InTable}
 use Rattle.record.specs.Setting.{noLedger, putHead, putStake}
-use Rattle.record.proofs.Tables.{lt-or-gt, length-tabulate, getD-tabulate, tabulate-same, tabulate-set, sets-out, sets-in}
+use Rattle.record.proofs.Tables.{lt-or-gt, length-tabulate, getD-tabulate, tabulate-same, tabulate-set, tabulate-back, part-table, sets-out, sets-in}
 use Rattle.record.proofs.Places.{head-before, places-words, node-placed, same-shape}
+use Rattle.record.proofs.Masks.{mask-none}
 use Rattle.record.proofs.Replacing.{Apart, row-kept}
 
 -- ---- all 0
@@ -49,6 +49,14 @@ module _ (p m : ℕ) where
   block-zeros s n =
       λ i. record { number = zeros m (blockStart p s n) i; parentslot = record { 0 = zeros m (blockStart p s n + 1) i }; parent = zeros m (blockStart p s n + 2) i }
 
+  kept-zeros : (s n : ℕ) → keptOf p (replicate m 0) s n ≡ noKept
+  kept-zeros s n =
+      λ i. record {
+        block = zeros m (keptStart p s n) i;
+        maska = mask-none (maskWords p) (λ j. wordAt (replicate m 0) (keptStart p s n + 1 + j)) (λ j. zeros m (keptStart p s n + 1 + j)) i;
+        maskb = mask-none (maskWords p) (λ j. wordAt (replicate m 0) (keptStart p s n + 1 + maskWords p + j)) (λ j. zeros m (keptStart p s n + 1 + maskWords p + j)) i;
+      }
+
   row-zeros : (s : ℕ) → rowOf p (replicate m 0) s ≡ blankRow p
   unfolding blankRow
   row-zeros s =
@@ -58,6 +66,7 @@ module _ (p m : ℕ) where
         final = zeros m (rowStart p s + finalAt) i;
         clash = zeros m (rowStart p s + clashAt) i;
         card = cardOf (zeros m (cardStart p s) i) (zeros m (cardStart p s + 1) i) (zeros m (cardStart p s + 2) i) (zeros m (cardStart p s + 3) i) (zeros m (cardStart p s + 4) i);
+        certificates = tabulate-all mostCertificates (keptOf p (replicate m 0) s) noKept (kept-zeros s) i;
         cells = tabulate-all p (cellOf p (replicate m 0) s) noCell (cell-zeros s) i;
       }
 
@@ -139,10 +148,7 @@ unfolding ledgerAt
 stakes-part ws m e h =
     let p : ℕ = placesIn ws in
     let few : m ≤ placesIn ws = omega (arith, h, places-words (placesIn ws) ws) in
-    let a : m ≤ length (drop stakeStart ws) = omega (arith, length-drop stakeStart ws, head-before p (suc lastSlot)) in
     let b : m ≤ length (tabulate p (λ n. wordAt ws (stakeStart + n))) = omega (arith, length-tabulate p (λ n. wordAt ws (stakeStart + n))) in
-    let la : length (take m (drop stakeStart ws)) ≡ m = length-take-le m (drop stakeStart ws) a in
-    let lb : length (take m (tabulate p (λ n. wordAt ws (stakeStart + n)))) ≡ m = length-take-le m (tabulate p (λ n. wordAt ws (stakeStart + n))) b in
-    ext-getD 0 (take m (drop stakeStart ws)) (take m (tabulate p (λ n. wordAt ws (stakeStart + n)))) (la ∙ sym lb)
-    (λ i l. getD-take m (drop stakeStart ws) i 0 (omega arith) ∙ getD-drop stakeStart ws i 0
-    ∙ sym (getD-take m (tabulate p (λ n. wordAt ws (stakeStart + n))) i 0 (omega arith) ∙ getD-tabulate p i (λ n. wordAt ws (stakeStart + n)) 0 (omega arith)))
+    part-table ws 0 stakeStart m (omega (arith, head-before p (suc lastSlot)))
+    ∙ tabulate-back (take m (tabulate p (λ n. wordAt ws (stakeStart + n)))) 0 (λ n. wordAt ws (stakeStart + n)) m (length-take-le m (tabulate p (λ n. wordAt ws (stakeStart + n))) b)
+    (λ i l. sym (getD-take m (tabulate p (λ n. wordAt ws (stakeStart + n))) i 0 l ∙ getD-tabulate p i (λ n. wordAt ws (stakeStart + n)) 0 (omega arith)))

@@ -1,5 +1,5 @@
 // The node's record: words lent by the host, and the ledger that they hold. Every other crate reads and changes a
-// record through these functions.
+// record through these functions, and kept certificates through those of kept_certificates.
 ghost use mathlib.Core.Path.{_≡_};
 ghost use mathlib.Core.Bool.{not};
 ghost use Prim.Native.Nat.{_<_};
@@ -8,7 +8,8 @@ ghost use Rattle.rulebook.specs.Weights.{placesFor, windows, stakeIn};
 ghost use Rattle.rulebook.specs.Ledger.{none, noBlock, places, rowAt, cellAt, ownCell, blocksAt, isArmed, putCell, putCard, putBlocks, putTimedOut, putFinal, putClash, putArmed};
 ghost use Rattle.rulebook.specs.Rules.{findBlock};
 ghost use Rattle.rulebook.specs.Inputs.{keepBlock};
-ghost use Rattle.record.specs.Layout.{recordWords, isLong, Long, InSlot, InWindow, InTable, InBlocks, Placed, RowAt, BlockAt, CardAt, CellAt, OwnIn, Counted, ledgerOf};
+ghost use Rattle.record.specs.Layout.{maskWords, masksOf, rowHead, recordWords, Long, InSlot, InWindow, InTable, InBlocks, InKept, Placed, RowAt, BlockAt, CardAt, KeptAt, CellAt, OwnIn, Counted, ledgerOf};
+ghost use Rattle.record.specs.Spelling.{isSpelled};
 ghost use Rattle.record.specs.Setting.{putHead, putStake};
 ghost use Rattle.record.specs.BlockPlaces.{freePlace};
 use rulebook::Block;
@@ -27,8 +28,12 @@ pub const WINDOWS: usize = 4;
 // How many blocks of a slot are kept.
 pub const MOST_BLOCKS: usize = 4;
 
+// How many certificates of a slot are kept.
+pub const MOST_CERTIFICATES: usize = 13;
+
 // The layout: 4 numbers, the armed windows, the stakes; then a row for slot 0 and each slot: 3 words for each kept block, the
-// timeout's mark, the final block, the mark of another, 5 words of the tally card, and 7 words for each node.
+// timeout's mark, the final block, the mark of another, 5 words of the tally card, a word and two masks for each kept
+// certificate, and 7 words for each node.
 const ARMED_START: usize = 4;
 
 const STAKE_START: usize = ARMED_START + WINDOWS;
@@ -47,12 +52,22 @@ const CARD_AT: usize = CLASH_AT + 1;
 
 const CARD_WORDS: usize = 5;
 
-const ROW_HEAD: usize = CARD_AT + CARD_WORDS;
+const KEPT_AT: usize = CARD_AT + CARD_WORDS;
 
-// The words of a record without any place, and how many more each place takes.
-const BARE_WORDS: usize = STAKE_START + ROW_HEAD * (LAST_SLOT + 1);
+// The most places with which a mask has one word, and the words of a mask above them.
+const SMALL_PLACES: usize = 64;
+
+const LARGE_MASK: usize = 32;
+
+// The words of a record without any place and without masks, how many more the words of a mask take, and how many each place.
+const BARE_WORDS: usize = STAKE_START + (KEPT_AT + MOST_CERTIFICATES) * (LAST_SLOT + 1);
+
+const MASK_WORDS: usize = 2 * MOST_CERTIFICATES * (LAST_SLOT + 1);
 
 const PLACE_WORDS: usize = 1 + CELL_WORDS * (LAST_SLOT + 1);
+
+// The words of the least record whose masks are large.
+const LARGE_WORDS: usize = BARE_WORDS + MASK_WORDS * LARGE_MASK + PLACE_WORDS * (SMALL_PLACES + 1);
 
 // How many places for nodes a record has, by the number of stakes.
 pub fn places_for(count: usize) -> usize
@@ -64,28 +79,58 @@ pub fn places_for(count: usize) -> usize
     count
 }
 
+// How many words a signer mask has in a record of so many places.
+pub fn mask_words(places: usize) -> usize
+    ensures { λ r. ⌜ r ≡ maskWords places ⌝ }
+{
+    if SMALL_PLACES < places {
+        return LARGE_MASK;
+    }
+    1
+}
+
 // How many words the host lends a node, by the number of stakes.
 pub fn record_words(count: usize) -> usize
     ensures { λ r. ⌜ r ≡ recordWords (placesFor count) ⌝ }
 {
-    BARE_WORDS + PLACE_WORDS * places_for(count)
+    let p = places_for(count);
+    BARE_WORDS + MASK_WORDS * mask_words(p) + PLACE_WORDS * p
+}
+
+// How many words a signer mask has in a record of so many words.
+fn masks_of(words: usize) -> usize
+    ensures { λ r. ⌜ r ≡ masksOf words ⌝ }
+{
+    if words < LARGE_WORDS {
+        return 1;
+    }
+    LARGE_MASK
 }
 
 // How many places for nodes the words have.
 pub fn places_in(rec: &[u64]) -> usize
     ensures { λ r. ⌜ r ≡ places (ledgerOf (now (rec .entry))) ⌝ }
 {
-    if rec.len() < BARE_WORDS {
+    let bare = BARE_WORDS + MASK_WORDS * masks_of(rec.len());
+    if rec.len() < bare {
         return 0;
     }
-    (rec.len() - BARE_WORDS) / PLACE_WORDS
+    (rec.len() - bare) / PLACE_WORDS
 }
 
-// Whether the words are as many as their places ask for.
+// Whether the words spell a ledger: they are as many as their places ask for.
 pub fn is_long(rec: &[u64]) -> bool
-    ensures { λ r. ⌜ r ≡ isLong (now (rec .entry)) ⌝ }
+    ensures { λ r. ⌜ r ≡ isSpelled (now (rec .entry)) ⌝ }
 {
-    rec.len() == BARE_WORDS + PLACE_WORDS * places_in(rec)
+    let p = places_in(rec);
+    rec.len() == BARE_WORDS + MASK_WORDS * mask_words(p) + PLACE_WORDS * p
+}
+
+// The words of a row before its cells, in a record of so many places.
+fn row_head(places: usize) -> usize
+    ensures { λ r. ⌜ r ≡ rowHead places ⌝ }
+{
+    KEPT_AT + MOST_CERTIFICATES * (1 + 2 * mask_words(places))
 }
 
 // The first word of a slot's row.
@@ -94,7 +139,7 @@ fn row_start(rec: &[u64], s: Slot) -> usize
     ensures { λ r. ⌜ RowAt (now (rec .entry)) (s .0) r ⌝ }
 {
     let p = places_in(rec);
-    STAKE_START + p + (ROW_HEAD + CELL_WORDS * p) * s.0
+    STAKE_START + p + (row_head(p) + CELL_WORDS * p) * s.0
 }
 
 // The first word of a node's cell in a slot's row.
@@ -102,7 +147,7 @@ fn cell_start(rec: &[u64], s: Slot, n: Node) -> usize
     requires { ⌜ Placed (now rec) (s .0) (n .0) ⌝ }
     ensures { λ r. ⌜ CellAt (now (rec .entry)) (s .0) (n .0) r ⌝ }
 {
-    row_start(rec, s) + ROW_HEAD + CELL_WORDS * n.0
+    row_start(rec, s) + row_head(places_in(rec)) + CELL_WORDS * n.0
 }
 
 // What the pool keeps of a node in a slot.
@@ -322,6 +367,14 @@ pub fn store_card(rec: &mut [u64], s: Slot, t: Tally)
     rec[i + 2] = skipcert.0;
     rec[i + 3] = t.leader;
     rec[i + 4] = weight.0;
+}
+
+// The first word of one of a slot's places for certificates: the block, then the words of its masks.
+pub fn kept_start(rec: &[u64], s: Slot, n: usize) -> usize
+    requires { ⌜ InKept (now rec) (s .0) n ⌝ }
+    ensures { λ r. ⌜ KeptAt (now (rec .entry)) (s .0) n r ⌝ }
+{
+    row_start(rec, s) + KEPT_AT + (1 + 2 * mask_words(places_in(rec))) * n
 }
 
 // The word that marks a window as armed, whatever stands in it.

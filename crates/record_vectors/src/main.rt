@@ -20,7 +20,7 @@ use writers::write_certificate;
 use writers::write_proof;
 
 // The words of a record with two places.
-const RECORD_WORDS: usize = 588;
+const RECORD_WORDS: usize = 1251;
 
 const MOST_NUMBERS: usize = 64;
 
@@ -191,24 +191,24 @@ fn as_two(rec: &mut [u64], stakes: &[u64]) {
 
 // A record of a wrong length: a word more or less; a place more or less than the count says.
 fn lengths() {
-    let mut short = [0u64; 587];
-    let other = [0u64; 587];
-    say(b"587 words");
+    let mut short = [0u64; 1250];
+    let other = [0u64; 1250];
+    say(b"1250 words");
     ask(&mut short, &other);
-    let mut long = [0u64; 589];
-    let another = [0u64; 589];
-    say(b"589 words");
+    let mut long = [0u64; 1252];
+    let another = [0u64; 1252];
+    say(b"1252 words");
     ask(&mut long, &another);
     let one = [1u64; 1];
-    let mut single = [0u64; 468];
-    let mut same = [0u64; 468];
+    let mut single = [0u64; 1131];
+    let mut same = [0u64; 1131];
     as_two(&mut single, &one);
     as_two(&mut same, &one);
     say(b"two nodes on one place");
     ask(&mut single, &same);
     let three = [1u64; 3];
-    let mut triple = [0u64; 708];
-    let mut again = [0u64; 708];
+    let mut triple = [0u64; 1371];
+    let mut again = [0u64; 1371];
     as_two(&mut triple, &three);
     as_two(&mut again, &three);
     say(b"two nodes on three places");
@@ -217,11 +217,11 @@ fn lengths() {
 
 // Start: 17 for a length that the number of stakes does not ask for, then 1.
 fn starts() {
-    let mut none = [0u64; 348];
-    let mut two = [0u64; 588];
-    let mut small = [0u64; 8028];
-    let mut large = [0u64; 8148];
-    let mut most = [0u64; 246108];
+    let mut none = [0u64; 1011];
+    let mut two = [0u64; 1251];
+    let mut small = [0u64; 8691];
+    let mut large = [0u64; 22513];
+    let mut most = [0u64; 260473];
     let stakes = [1u64; 2049];
     say(b"no stakes on no place");
     tell_start(start(&mut none, &stakes[..0], Node(0), 1));

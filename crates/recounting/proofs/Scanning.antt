@@ -1,23 +1,23 @@
--- What a scan of the rules learns from the card: where the others of the leader stay short of 40 no other block falls back; F's
--- block is the leader; who has voted. Assumes nothing.
-use mathlib.Core.Path.{_≡_, refl, sym, ap, _∙_}
-use mathlib.Core.Bool.{Bool, true, false, not, _&&_, _||_}
+-- What a scan of the rules learns from the card: where the others of the leader stay short of 40 no other block falls back; who has
+-- voted. Assumes nothing.
+use mathlib.Core.Path.{_≡_, refl}
+use mathlib.Core.Bool.{true, false, _&&_, _||_}
 use Prim.Native.Nat.{ℕ, _+_, _-_, _≤_, _<_}
 use native.Mathlib.Omega.{arith}
 use lib.Dec.{eqb, leb}
-use borrow.Author.Tests.{eq-eqb, eqb-true, eqb-false, leb-true, leb-false, not-true}
+use borrow.Author.Tests.{eq-eqb, eqb-false, leb-true, leb-false, not-true}
 use Rattle.rulebook.specs.declared.Who.{Who}
 use Rattle.rulebook.specs.declared.Who.the-variants as who
-use Rattle.rulebook.specs.Tools.{part, someTo, choose, lowest}
+use Rattle.rulebook.specs.Tools.{part, someTo}
 use Rattle.rulebook.specs.Weights.{stakeIn, weight, totalTo, reaches, dWeights}
-use Rattle.rulebook.specs.Ledger.{Ledger, none, rowAt, cellAt}
-use Rattle.rulebook.specs.Pool.{counts, weigh, names}
-use Rattle.rulebook.specs.Rules.{fallbackWeights, isFinal, isNewcomer}
+use Rattle.rulebook.specs.Ledger.{Ledger, none, cellAt}
+use Rattle.rulebook.specs.Pool.{counts, weigh}
+use Rattle.rulebook.specs.Rules.{fallbackWeights}
 use Rattle.rulebook.specs.Cards.{most, leader}
-use Rattle.rulebook.proofs.ToolLaws.{choose-on, choose-off, by-test, and-both, or-cases, or-none, true-not-false, part-on, sum-term, some-find, some-each}
+use Rattle.rulebook.proofs.ToolLaws.{by-test, and-both, or-cases, part-on, sum-term, some-find, some-each}
 use Rattle.rulebook.proofs.WeightLaws.{reaches-fact, short-fact, weight-none}
 use Rattle.recounting.proofs.Leading.{lead-recount}
-use Rattle.recounting.proofs.Using.{notar-apart, initial-within, most-any, final-card, newcomer-lead}
+use Rattle.recounting.proofs.Using.{notar-apart, initial-within, most-any}
 
 -- Weight is that of some node.
 pub weigh-some : (l : Ledger) (s : ℕ) (w : Who) → 1 ≤ weigh l s w → someTo (l .count) (λ n. counts w (cellAt l s n)) ≡ true
@@ -25,10 +25,6 @@ unfolding weigh
 weigh-some l s w h =
     by-test (someTo (l .count) (λ n. counts w (cellAt l s n))) (λ t. t)
     (λ t. absurd (omega (arith, weight-none (l .stakes) (l .count) (λ n. counts w (cellAt l s n)) (λ i d. some-each (l .count) i (λ n. counts w (cellAt l s n)) t d))))
-
-and-last : (a b : Bool) → b ≡ true → (a && b) ≡ a
-and-last true b e = e
-and-last false b e = refl
 
 module _ (l : Ledger) (s : ℕ) (sum : totalTo (l .stakes) (l .count) ≡ l .total) (some : 1 ≤ l .total) where
   -- ---- rule D
@@ -56,29 +52,6 @@ module _ (l : Ledger) (s : ℕ) (sum : totalTo (l .stakes) (l .count) ≡ l .tot
         (λ u. absurd (omega (arith, a, f, reaches-fact 2 (l .total) w u)))
         (λ u. absurd (omega (arith, a, f, reaches-fact 3 (l .total) (k + w) (and-both (reaches 1 (l .total) w) (reaches 3 (l .total) (k + w)) u .1)))))
         (λ t. t)
-
-  -- ---- rule F: the leader, b here, beside the slot's final block f
-
-  module _ (b f : ℕ) (lead : b ≡ leader l s) (told : f ≡ rowAt l s .final) where
-    abbrev topFinal : Bool
-    topFinal = reaches 4 (l .total) (most l s) || (reaches 3 (l .total) (most l s) && reaches 3 (l .total) (weigh l s who.Final))
-
-    found-is : lowest (isNewcomer l s) (names l s) ≡ choose (topFinal && not (eqb b f)) b 0
-    found-is = newcomer-lead l s sum some ∙ (λ i. choose (topFinal && not (eqb (sym lead i) (sym told i))) (sym lead i) 0)
-
-    -- no leader, or the final block itself
-    pub newcomer-none : (eqb b 0 || eqb b f) ≡ true → lowest (isNewcomer l s) (names l s) ≡ 0
-    newcomer-none e =
-        found-is ∙ or-cases (eqb b 0) (eqb b f) e
-        (λ t. by-test (topFinal && not (eqb b f)) (λ u. choose-on (topFinal && not (eqb b f)) b 0 u ∙ eqb-true b 0 t) (λ u. choose-off (topFinal && not (eqb b f)) b 0 u))
-        (λ t. by-test (topFinal && not (eqb b f)) (λ u. true-not-false (eqb b f) t (not-true (eqb b f) (and-both topFinal (not (eqb b f)) u .1))) (λ u. choose-off (topFinal && not (eqb b f)) b 0 u))
-
-    pub newcomer-other : (eqb b 0 || eqb b f) ≡ false → lowest (isNewcomer l s) (names l s) ≡ choose (isFinal l s b) b 0
-    newcomer-other e =
-        let h = or-none (eqb b 0) (eqb b f) e in
-        let g = final-card l s sum some b (omega (arith, eqb-false b 0 (h .0))) in
-        let q = eq-eqb (leader l s) b (sym lead) in
-        found-is ∙ sym (ap (λ (x : Bool). choose x b 0) (g ∙ (λ i. q i && topFinal) ∙ sym (and-last topFinal (not (eqb b f)) (ap not (h .1)))))
 
   -- ---- who has voted
 

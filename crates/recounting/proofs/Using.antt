@@ -1,24 +1,28 @@
 -- What the card says without weighing: a claimed leader that no other block can overtake; a block that reaches 60 is the leader, so
--- kinds 1 and 2 and rule F ask the card; kinds 4 and 5 are on it; what rules D and E can be told from it. Assumes nothing.
-use mathlib.Core.Path.{_≡_, refl, sym, ap, _∙_}
+-- kinds 1 and 2 by votes and rule F ask the card; kinds 4 and 5 are on it; what rules D and E can be told from it. Assumes nothing.
+use mathlib.Core.Path.{_≡_, refl, sym, ap, _∙_, subst}
+use mathlib.Core.List.{List, []}
 use mathlib.Core.Bool.{Bool, true, false, not, _&&_, _||_}
 use Prim.Native.Nat.{ℕ, zero, suc, _+_, _-_, _≤_, _<_, _^_}
 use native.Mathlib.Omega.{arith}
+use lib.ListN.{getD}
 use lib.Dec.{eqb, leb}
 use borrow.Author.Tests.{eq-eqb, ne-eqb, eqb-true, eqb-false, leb-true, leb-false, not-true}
 use Rattle.rulebook.specs.declared.Tally.{Tally}
 use Rattle.rulebook.specs.declared.Who.{Who}
 use Rattle.rulebook.specs.declared.Who.the-variants as who
+use Rattle.rulebook.specs.declared.CertificateKind.{CertificateKind}
 use Rattle.rulebook.specs.declared.CertificateKind.the-variants as certificate
-use Rattle.rulebook.specs.Tools.{choose, lowest}
+use Rattle.rulebook.specs.Tools.{anyOf, lowest}
 use Rattle.rulebook.specs.Weights.{totalTo, reaches, dWeights}
-use Rattle.rulebook.specs.Ledger.{Ledger, none, noCell, noCard, cardOf, rowAt, cellAt}
-use Rattle.rulebook.specs.Pool.{counts, weigh, weighs, held, signersOf, fifthsOf, names}
+use Rattle.rulebook.specs.Ledger.{Ledger, none, noCell, noKept, noCard, cardOf, rowAt, cellAt, certificatesAt}
+use Rattle.rulebook.specs.Pool.{counts, weigh, weighs, signersOf, fifthsOf, reached, placeKind, servesAs, someKept, isFor, keptAs, held, named, names, keptNames, certifiable}
 use Rattle.rulebook.specs.Rules.{fallbackWeights, skipWeights, isFinal, isNewcomer}
 use Rattle.rulebook.specs.Cards.{Light, most, leader, recount, sameCard}
-use Rattle.rulebook.proofs.ToolLaws.{choose-on, choose-off, by-test, and-both, both-and, or-cases, same-test, true-not-false}
+use Rattle.rulebook.proofs.ToolLaws.{by-test, and-both, both-and, or-cases, same-test, true-not-false}
 use Rattle.rulebook.proofs.WeightLaws.{reaches-fact, short-fact, fact-short, reaches-more, reaches-fewer, reaches-nothing, weight-none, weight-same, weight-mono, weight-both, weight-total, weight-apart}
-use Rattle.rulebook.proofs.LowestLaws.{low-find, low-le, names-free, heavy-named}
+use Rattle.rulebook.proofs.LowestLaws.{Among, among-name, named-cases, free-none, free-named, free-positive, lowest-same, names-free, heavy-named}
+use Rattle.rulebook.proofs.CertificateLaws.{some-place, kept-free, kept-name, kept-beside, kept-names-cases}
 use Rattle.rulebook.proofs.FourthLaws.{weights-more}
 use Rattle.recounting.proofs.Leading.{Lead, lead-one, lead-recount, lead-same}
 
@@ -96,10 +100,6 @@ module _ (l : Ledger) (s : ℕ) where
   pub recount-leader : (b w : ℕ) → Lead l s b w → (leader l s ≡ b) × (most l s ≡ w)
   recount-leader b w h = lead-one l s (leader l s) (most l s) b w (lead-recount l s) h
 
-spread : (e x y z : Bool) → ((e && x) || ((e && y) && z)) ≡ (e && (x || (y && z)))
-spread true x y z = refl
-spread false x y z = refl
-
 -- ---- the card in the rules: with a total that is the sum, and some stake
 
 module _ (l : Ledger) (s : ℕ) (sum : totalTo (l .stakes) (l .count) ≡ l .total) (some : 1 ≤ l .total) where
@@ -129,89 +129,74 @@ module _ (l : Ledger) (s : ℕ) (sum : totalTo (l .stakes) (l .count) ≡ l .tot
       ap (reaches k (l .total)) (sym z ∙ w) ∙ r .1)
 
   -- Kinds 1, 2, 4 and 5 by the card.
-  pub held-one : (b : ℕ) → 1 ≤ b → held l certificate.FastFinal s b ≡ (eqb (leader l s) b && reaches 4 (l .total) (most l s))
-  unfolding held weighs signersOf fifthsOf
-  held-one b h = notar-card 4 b (omega arith) h
+  pub reached-one : (b : ℕ) → 1 ≤ b → reached l certificate.FastFinal s b ≡ (eqb (leader l s) b && reaches 4 (l .total) (most l s))
+  unfolding reached weighs signersOf fifthsOf
+  reached-one b h = notar-card 4 b (omega arith) h
 
-  pub held-two : (b : ℕ) → 1 ≤ b → held l certificate.Notar s b ≡ (eqb (leader l s) b && reaches 3 (l .total) (most l s))
-  unfolding held weighs signersOf fifthsOf
-  held-two b h = notar-card 3 b (omega arith) h
+  pub reached-two : (b : ℕ) → 1 ≤ b → reached l certificate.Notar s b ≡ (eqb (leader l s) b && reaches 3 (l .total) (most l s))
+  unfolding reached weighs signersOf fifthsOf
+  reached-two b h = notar-card 3 b (omega arith) h
 
-  pub held-four : (b : ℕ) → held l certificate.Skip s b ≡ reaches 3 (l .total) (recount l s .skipcert .0)
-  unfolding held weighs signersOf fifthsOf recount
-  held-four b = refl
+  pub reached-four : (b : ℕ) → reached l certificate.Skip s b ≡ reaches 3 (l .total) (recount l s .skipcert .0)
+  unfolding reached weighs signersOf fifthsOf recount
+  reached-four b = refl
 
-  pub held-five : (b : ℕ) → held l certificate.Final s b ≡ reaches 3 (l .total) (recount l s .finals .0)
-  unfolding held weighs signersOf fifthsOf recount
-  held-five b = refl
+  pub reached-five : (b : ℕ) → reached l certificate.Final s b ≡ reaches 3 (l .total) (recount l s .finals .0)
+  unfolding reached weighs signersOf fifthsOf recount
+  reached-five b = refl
 
-  -- ---- rule F: its block is the leader or none
+  -- ---- rule F: its block leads, or a kept certificate names it
 
-  abbrev topFinal : Bool
-  topFinal = reaches 4 (l .total) (most l s) || (reaches 3 (l .total) (most l s) && reaches 3 (l .total) (weigh l s who.Final))
+  abbrev pub leading : List ℕ
+  leading = named (leader l s) []
 
-  -- F's test of a block is that of the card, where the block leads
-  pub final-card : (b : ℕ) → 1 ≤ b → isFinal l s b ≡ (eqb (leader l s) b && topFinal)
-  unfolding isFinal held weighs signersOf fifthsOf
-  final-card b h =
-      rw (notar-card 4 b (omega arith) h, notar-card 3 b (omega arith) h)
-      (spread (eqb (leader l s) b) (reaches 4 (l .total) (most l s)) (reaches 3 (l .total) (most l s)) (reaches 3 (l .total) (weigh l s who.Final)))
+  -- a block for which a certificate is held is the leader, where votes reach it, or named by a kept one
+  held-leads : (k : CertificateKind) (b : ℕ) → 1 ≤ b → (reached l k s b ≡ true → leader l s ≡ b) → held l k s b ≡ true → Among b (keptNames (certificatesAt l s) leading)
+  unfolding held keptAs isFor
+  held-leads k b h lead e =
+      let qs = certificatesAt l s in
+      let nb : none b ≡ false = ne-eqb b 0 (λ z. omega arith) in
+      or-cases (reached l k s b) (someKept (λ i q. servesAs (placeKind i) k && eqb (q .block) b) 0 qs) e
+      (λ t. let z = lead t in kept-beside qs leading b (among-name b (leader l s) [] (sym z) (ap none z ∙ nb)))
+      (λ t.
+      let r = some-place (λ i q. servesAs (placeKind i) k && eqb (q .block) b) 0 qs t in
+      kept-name qs leading (r .0) b (eqb-true (getD qs (r .0) noKept .block) b (and-both (servesAs (placeKind (0 + r .0)) k) (eqb (getD qs (r .0) noKept .block) b) (r .2) .1)) nb)
 
-  -- a block that passes is the leader
-  final-is : (b : ℕ) → 1 ≤ b → isFinal l s b ≡ true → (leader l s ≡ b) × (topFinal ≡ true)
-  final-is b h e =
-      let r = and-both (eqb (leader l s) b) topFinal (sym (final-card b h) ∙ e) in (eqb-true (leader l s) b (r .0), r .1)
+  pub final-leads : (b : ℕ) → 1 ≤ b → isFinal l s b ≡ true → Among b (keptNames (certificatesAt l s) leading)
+  unfolding isFinal
+  final-leads b h e =
+      or-cases (held l certificate.FastFinal s b) (held l certificate.Notar s b && held l certificate.Final s 0) e
+      (λ t. held-leads certificate.FastFinal b h (λ u. eqb-true (leader l s) b (and-both (eqb (leader l s) b) _ (sym (reached-one b h) ∙ u) .0)) t)
+      (λ t.
+      held-leads certificate.Notar b h (λ u. eqb-true (leader l s) b (and-both (eqb (leader l s) b) _ (sym (reached-two b h) ∙ u) .0))
+      (and-both (held l certificate.Notar s b) (held l certificate.Final s 0) t .0))
 
-  -- with any further test q, the lowest block that passes is the leader or there is none
-  module _ (q : ℕ → Bool) where
-    abbrev passes : ℕ → Bool
-    passes b = isFinal l s b && q b
+  leader-named : (b : ℕ) → none (leader l s) ≡ false → b ≡ leader l s → Among b (names l s)
+  leader-named b z e =
+      let g = lead-recount l s in
+      let one : 1 ≤ leader l s = positive (leader l s) z in
+      let some : 1 ≤ most l s = by-test (leb 1 (most l s)) (λ t. leb-true 1 (most l s) t) (λ t. absurd (empty (leader l s) one (g .empty (omega (arith, leb-false 1 (most l s) t))))) in
+      subst (λ (x : ℕ). Among x (names l s)) (sym e) (heavy-named l s (leader l s) one (omega (arith, g .weight some)))
+    where
+      positive : (x : ℕ) → none x ≡ false → 1 ≤ x
+      positive x t = omega (arith, eqb-false x 0 t)
 
-    abbrev found : ℕ
-    found = lowest passes (names l s)
+      empty : (x : ℕ) → 1 ≤ x → x ≡ 0 → ⊥
+      empty x h t = omega arith
 
-    abbrev topPasses : Bool
-    topPasses = topFinal && q (leader l s)
-
-    top-some : topFinal ≡ true → 1 ≤ most l s
-    top-some t =
-        or-cases (reaches 4 (l .total) (most l s)) (reaches 3 (l .total) (most l s) && reaches 3 (l .total) (weigh l s who.Final)) t
-        (λ x. reached-some 4 (most l s) (omega arith) x)
-        (λ x. reached-some 3 (most l s) (omega arith) (and-both (reaches 3 (l .total) (most l s)) (reaches 3 (l .total) (weigh l s who.Final)) x .0))
-
-    passes-top : (b : ℕ) → 1 ≤ b → passes b ≡ true → (leader l s ≡ b) × (topPasses ≡ true)
-    passes-top b h e =
-        let p = and-both (isFinal l s b) (q b) e in
-        let r = final-is b h (p .0) in
-        (r .0, both-and topFinal (q (leader l s)) (r .1) (ap q (r .0) ∙ p .1))
-
-    when-top : topPasses ≡ true → found ≡ choose topPasses (leader l s) 0
-    unfolding names
-    when-top t =
-        let u = and-both topFinal (q (leader l s)) t in
-        let m = top-some (u .0) in
-        let g = lead-recount l s in
-        let b = g .block m in
-        let n = heavy-named l s (leader l s) b (omega (arith, g .weight m)) in
-        let f = final-card (leader l s) b ∙ both-and (eqb (leader l s) (leader l s)) topFinal (eq-eqb (leader l s) (leader l s) refl) (u .0) in
-        let d = low-le passes (names l s) (leader l s) (names-free l s (l .count)) n (both-and (isFinal l s (leader l s)) (q (leader l s)) f (u .1)) in
-        sym (passes-top found (d .0) (low-find passes (names l s) (d .0) .1) .0) ∙ sym (choose-on topPasses (leader l s) 0 t)
-
-    when-not : topPasses ≡ false → found ≡ choose topPasses (leader l s) 0
-    when-not t =
-        by-test (leb 1 found)
-        (λ u.
-        let i = leb-true 1 found u in
-        true-not-false topPasses (passes-top found i (low-find passes (names l s) i .1) .1) t)
-        (λ u. omega (arith, leb-false 1 found u, choose-off topPasses (leader l s) 0 t))
-
-    pub final-lead : lowest (λ b. isFinal l s b && q b) (names l s) ≡ choose (topFinal && q (leader l s)) (leader l s) 0
-    final-lead = by-test topPasses (λ t. when-top t) (λ t. when-not t)
-
-  -- F's newcomer
-  pub newcomer-lead : lowest (isNewcomer l s) (names l s) ≡ choose (topFinal && not (eqb (leader l s) (rowAt l s .final))) (leader l s) 0
-  unfolding isNewcomer
-  newcomer-lead = final-lead (λ b. not (eqb b (rowAt l s .final)))
+  -- F's newcomer is looked for among the leader and the kept certificates' blocks.
+  pub newcomer-lead : lowest (isNewcomer l s) (certifiable l s) ≡ lowest (isNewcomer l s) (keptNames (certificatesAt l s) (named (leader l s) []))
+  unfolding certifiable names isNewcomer anyOf
+  newcomer-lead =
+      let qs = certificatesAt l s in
+      let passes : ℕ → Bool = λ b. isFinal l s b && not (eqb b (rowAt l s .final)) in
+      let free = kept-free qs (names l s) (names-free l s (l .count)) in
+      let few = kept-free qs leading (free-named (leader l s) [] free-none) in
+      lowest-same passes (keptNames qs (names l s)) (keptNames qs leading) free few
+      (λ b h e. final-leads b (free-positive (keptNames qs (names l s)) b free h) (and-both (isFinal l s b) (not (eqb b (rowAt l s .final))) e .0))
+      (λ b h e. kept-names-cases qs leading b h
+      (λ n t. kept-name qs (names l s) n b t (ne-eqb b 0 (λ z. omega (arith, free-positive (keptNames qs leading) b few h))))
+      (λ t. kept-beside qs (names l s) b (named-cases b (leader l s) [] t (leader-named b) (λ u. true-not-false false u refl))))
 
   -- ---- rule D: where the leader's weights do not suffice, no block's do
 

@@ -120,7 +120,7 @@ abbrev marks : Bool
 marks =
     let r = rowAt odd 2 in
     let blankBut : Block → Bool = (λ b. wellFormed (withBlock odd 0 b)) in
-    let withMarks : ℕ → ℕ → Bool = (λ t c. wellFormed (putRow odd 2 (record { blocks = r .blocks; timedOut = t; final = r .final; clash = c; card = r .card; cells = r .cells }))) in
+    let withMarks : ℕ → ℕ → Bool = (λ t c. wellFormed (putRow odd 2 (record { blocks = r .blocks; timedOut = t; final = r .final; clash = c; card = r .card; certificates = r .certificates; cells = r .cells }))) in
     all (withMarks 1 1 ∷ not (withMarks 2 0) ∷ not (withMarks 0 2) ∷ not (wellFormed (putTimedOut odd 0)) ∷ not (wellFormed (putClash odd 0))
     ∷ not (wellFormed (putFinal odd 0 7)) ∷ not (blankBut (blockOf 7 0 0)) ∷ not (blankBut (blockOf 0 1 0)) ∷ not (blankBut (blockOf 0 0 1))
     ∷ not (wellFormed (withBlocks odd 0 noBlock noBlock noBlock (blockOf 7 0 0))) ∷ [])

@@ -2,22 +2,24 @@
 use mathlib.Core.Bool.{Bool, true, false, not, _&&_, _||_}
 use mathlib.Core.List.{List, [], _∷_, _++_}
 use Prim.Native.Nat.{ℕ, zero, suc, _+_, _-_}
-use lib.ListN.{length, getD, set, replicate}
+use lib.ListN.{length, getD, set, take, replicate}
 use lib.Dec.{eqb}
 use Rattle.rulebook.specs.declared.Cell.{Cell}
 use Rattle.rulebook.specs.declared.Block.{Block}
 use Rattle.rulebook.specs.declared.Tally.{Tally}
+use Rattle.rulebook.specs.Certificates.{Kept}
 use Rattle.rulebook.specs.Tools.{choose}
 use Rattle.rulebook.specs.Weights.{placesFor, lastSlot, windows, windowOf, totalTo}
 
 -- One slot: places for blocks with their parents, the first announced in front; whether its timeout was taken; the block reported
--- final; whether another was, a mark; the tally card; a cell for each node.
+-- final; whether another was, a mark; the tally card; places for certificates from other firms; a cell for each node.
 pub record Row : Type 0 where
   pub blocks : List Block
   pub timedOut : ℕ
   pub final : ℕ
   pub clash : ℕ
   pub card : Tally
+  pub certificates : List Kept
   pub cells : List Cell
 
 pub record Ledger : Type 0 where
@@ -54,13 +56,20 @@ cardOf skip finals skipcert leader weight =
 abbrev pub noCard : Tally
 noCard = cardOf 0 0 0 0 0
 
+abbrev pub noKept : Kept
+noKept = record { block = 0; maska = 0; maskb = 0 }
+
 -- "up to four announced blocks are kept per slot".
 abbrev pub mostBlocks : ℕ
 mostBlocks = 4
 
+-- "Per slot keep one each of kinds 1, 2, 4, 5 and up to nine of kind 3."
+abbrev pub mostCertificates : ℕ
+mostCertificates = 13
+
 -- A row of so many places with nothing in it; one without a place stands for a slot that has none.
 unfoldable pub blankRow : ℕ → Row
-blankRow places = record { blocks = replicate mostBlocks noBlock; timedOut = 0; final = 0; clash = 0; card = noCard; cells = replicate places noCell }
+blankRow places = record { blocks = replicate mostBlocks noBlock; timedOut = 0; final = 0; clash = 0; card = noCard; certificates = replicate mostCertificates noKept; cells = replicate places noCell }
 
 unfoldable pub noRow : Row
 noRow = blankRow 0
@@ -68,6 +77,10 @@ noRow = blankRow 0
 -- The places that a ledger has for nodes.
 abbrev pub places : Ledger → ℕ
 places l = length (l .stakes)
+
+-- The stake table: one stake a node.
+abbrev pub tableOf : Ledger → List ℕ
+tableOf l = take (l .count) (l .stakes)
 
 -- ---- reading
 
@@ -129,6 +142,20 @@ isBlock b p x k = not (isFree k) && (hasNumber b k && (eqb (k .parentslot .0) p 
 unfoldable pub keepsBlock : Ledger → ℕ → ℕ → ℕ → ℕ → Bool
 keepsBlock l s b p x = someBlock (isBlock b p x) (blocksAt l s)
 
+-- ---- kept certificates
+
+-- The places of slot s for certificates: kinds 1, 2, 4, 5, then nine of kind 3.
+abbrev pub certificatesAt : Ledger → ℕ → List Kept
+certificatesAt l s = rowAt l s .certificates
+
+-- What place i of slot s keeps.
+abbrev pub keptAt : Ledger → ℕ → ℕ → Kept
+keptAt l s i = getD (certificatesAt l s) i noKept
+
+-- A place that keeps a certificate: one without a signer has no weight.
+abbrev pub isKept : Kept → Bool
+isKept q = not (none (q .maska) && none (q .maskb))
+
 -- ---- writing: each touches what it names
 
 abbrev pub putRow : Ledger → ℕ → Row → Ledger
@@ -146,39 +173,44 @@ putRow l s r =
 abbrev pub putCell : Ledger → ℕ → ℕ → Cell → Ledger
 putCell l s n c =
     let r = rowAt l s in
-    putRow l s (record { blocks = r .blocks; timedOut = r .timedOut; final = r .final; clash = r .clash; card = r .card; cells = set (r .cells) n c })
+    putRow l s (record { blocks = r .blocks; timedOut = r .timedOut; final = r .final; clash = r .clash; card = r .card; certificates = r .certificates; cells = set (r .cells) n c })
 
 abbrev pub putCard : Ledger → ℕ → Tally → Ledger
 putCard l s t =
     let r = rowAt l s in
-    putRow l s (record { blocks = r .blocks; timedOut = r .timedOut; final = r .final; clash = r .clash; card = t; cells = r .cells })
+    putRow l s (record { blocks = r .blocks; timedOut = r .timedOut; final = r .final; clash = r .clash; card = t; certificates = r .certificates; cells = r .cells })
 
 -- A node's cell and the slot's card together.
 abbrev pub putVote : Ledger → ℕ → ℕ → Cell → Tally → Ledger
 putVote l s n c t =
     let r = rowAt l s in
-    putRow l s (record { blocks = r .blocks; timedOut = r .timedOut; final = r .final; clash = r .clash; card = t; cells = set (r .cells) n c })
+    putRow l s (record { blocks = r .blocks; timedOut = r .timedOut; final = r .final; clash = r .clash; card = t; certificates = r .certificates; cells = set (r .cells) n c })
 
 abbrev pub putBlocks : Ledger → ℕ → List Block → Ledger
 putBlocks l s bs =
     let r = rowAt l s in
-    putRow l s (record { blocks = bs; timedOut = r .timedOut; final = r .final; clash = r .clash; card = r .card; cells = r .cells })
+    putRow l s (record { blocks = bs; timedOut = r .timedOut; final = r .final; clash = r .clash; card = r .card; certificates = r .certificates; cells = r .cells })
+
+abbrev pub putCertificates : Ledger → ℕ → List Kept → Ledger
+putCertificates l s qs =
+    let r = rowAt l s in
+    putRow l s (record { blocks = r .blocks; timedOut = r .timedOut; final = r .final; clash = r .clash; card = r .card; certificates = qs; cells = r .cells })
 
 abbrev pub putTimedOut : Ledger → ℕ → Ledger
 putTimedOut l s =
     let r = rowAt l s in
-    putRow l s (record { blocks = r .blocks; timedOut = 1; final = r .final; clash = r .clash; card = r .card; cells = r .cells })
+    putRow l s (record { blocks = r .blocks; timedOut = 1; final = r .final; clash = r .clash; card = r .card; certificates = r .certificates; cells = r .cells })
 
 abbrev pub putFinal : Ledger → ℕ → ℕ → Ledger
 putFinal l s b =
     let r = rowAt l s in
-    putRow l s (record { blocks = r .blocks; timedOut = r .timedOut; final = b; clash = r .clash; card = r .card; cells = r .cells })
+    putRow l s (record { blocks = r .blocks; timedOut = r .timedOut; final = b; clash = r .clash; card = r .card; certificates = r .certificates; cells = r .cells })
 
 -- The mark of a slot: another final block was reported.
 abbrev pub putClash : Ledger → ℕ → Ledger
 putClash l s =
     let r = rowAt l s in
-    putRow l s (record { blocks = r .blocks; timedOut = r .timedOut; final = r .final; clash = 1; card = r .card; cells = r .cells })
+    putRow l s (record { blocks = r .blocks; timedOut = r .timedOut; final = r .final; clash = 1; card = r .card; certificates = r .certificates; cells = r .cells })
 
 abbrev pub putArmed : Ledger → ℕ → Ledger
 putArmed l s =

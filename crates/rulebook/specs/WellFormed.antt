@@ -9,19 +9,27 @@ use Rattle.rulebook.specs.declared.Cell.{Cell}
 use Rattle.rulebook.specs.declared.Block.{Block}
 use Rattle.rulebook.specs.declared.Input.{Input}
 use Rattle.rulebook.specs.declared.Refusal.the-variants as refusal
+use Rattle.rulebook.specs.declared.Verdict.{Verdict}
+use Rattle.rulebook.specs.declared.Verdict.the-variants as verdict
+use Rattle.rulebook.specs.Certificates.{Certificate, Kept}
 use Rattle.rulebook.specs.Tools.{given, allTo}
 use Rattle.rulebook.specs.Weights.{placesFor, lastSlot, windows, stakeIn, stakesFit, totalTo}
-use Rattle.rulebook.specs.Ledger.{Ledger, none, places, rowAt, cellAt, ownCell, mostBlocks, blocksAt, allBlocks, isFree, noCard}
+use Rattle.rulebook.specs.Ledger.{Ledger, none, places, tableOf, rowAt, cellAt, ownCell, mostBlocks, mostCertificates, blocksAt, allBlocks, isFree, noCard, certificatesAt, isKept}
+use Rattle.rulebook.specs.Pool.{placeKind, sameKind}
 use Rattle.rulebook.specs.Cards.{sameCard, recount}
 use Rattle.rulebook.specs.Rules.{fallbackWeights}
 use Rattle.rulebook.specs.Inputs.{Fed, refusedWith, feed, badParent}
+use Rattle.rulebook.specs.Checker.{judgeKind}
+use Rattle.rulebook.specs.Taking.{takePacket}
 
--- The ledger has a row for every slot with four places for blocks, a mark for every window, and p places for nodes wherever there are any.
+-- The ledger has a row for every slot with four places for blocks and 13 for certificates, a mark for every window, and p places for
+-- nodes wherever there are any.
 pub record Shaped (p : ℕ) (l : Ledger) : Type 0 where
   pub armed : length (l .armed) ≡ windows
   pub stakes : length (l .stakes) ≡ p
   pub rows : length (l .rows) ≡ suc lastSlot
   pub blocks : (s : ℕ) → s < suc lastSlot → length (rowAt l s .blocks) ≡ mostBlocks
+  pub certificates : (s : ℕ) → s < suc lastSlot → length (rowAt l s .certificates) ≡ mostCertificates
   pub cells : (s : ℕ) → s < suc lastSlot → length (rowAt l s .cells) ≡ p
 
 -- A flag is 0 or 1.
@@ -75,9 +83,44 @@ backs l s b = none b || fallbackWeights l s b
 unfoldable pub ownFits : Ledger → ℕ → Bool
 ownFits l s = let c = ownCell l s in backs l s (c .fallback1) && (backs l s (c .fallback2) && backs l s (c .fallback3))
 
+-- The verdict is no refusal.
+unfoldable pub isFine : Verdict → Bool
+isFine verdict.Fine = true
+isFine (verdict.Refused r) = false
+
+-- A kept certificate of slot s as a certificate; which kind it is its place tells.
+abbrev pub keptIn : ℕ → Kept → Certificate
+keptIn s q = record { kind = 0; slot = s; block = q .block; maska = q .maska; maskb = q .maskb }
+
+-- The test holds of every place for certificates, from place i on.
+unfoldable pub eachKept : (ℕ → Kept → Bool) → ℕ → List Kept → Bool
+eachKept p i [] = true
+eachKept p i (q ∷ qs) = p i q && eachKept p (suc i) qs
+
+-- "A record whose kept certificate the checker refuses .. is 17": judged as the kind of its place; where none is kept all is 0.
+unfoldable pub certificateFits : List ℕ → ℕ → ℕ → Kept → Bool
+certificateFits stakes s i q = given (isKept q) (none (q .block)) (λ _. isFine (judgeKind stakes (placeKind i) (keptIn s q)))
+
+-- Two places of one kind: the later is filled only after the earlier, and not with the same block.
+unfoldable pub inTurn : Kept → Kept → Bool
+inTurn q r = isKept q && not (eqb (q .block) (r .block))
+
+-- ".. or repeats another".
+unfoldable pub certificatesApart : ℕ → List Kept → Bool
+certificatesApart i [] = true
+certificatesApart i (q ∷ qs) =
+    eachKept (λ j r. given (isKept r && sameKind (placeKind i) (placeKind j)) true (λ _. inTurn q r)) (suc i) qs && certificatesApart (suc i) qs
+
+-- The kept certificates of a slot.
+unfoldable pub certificatesFit : List ℕ → ℕ → List Kept → Bool
+certificatesFit stakes s qs = eachKept (certificateFits stakes s) 0 qs && certificatesApart 0 qs
+
 -- One of the slots 1 to 16.
 unfoldable pub rowFits : Ledger → ℕ → Bool
-rowFits l s = blocksFit l s (blocksAt l s) && ((flag (rowAt l s .timedOut) && flag (rowAt l s .clash)) && (cellsFit l s (l .count) && ownFits l s))
+rowFits l s =
+    blocksFit l s (blocksAt l s)
+    && ((flag (rowAt l s .timedOut) && flag (rowAt l s .clash))
+    && (certificatesFit (tableOf l) s (certificatesAt l s) && (cellsFit l s (l .count) && ownFits l s)))
 
 -- "A node record whose card disagrees with the recount is 17."
 unfoldable pub cardFits : Ledger → ℕ → Bool
@@ -87,12 +130,15 @@ cardFits l s = sameCard (rowAt l s .card) (recount l s)
 unfoldable pub blockBlank : Block → Bool
 blockBlank b = isFree b && (none (b .parentslot .0) && none (b .parent))
 
+unfoldable pub keptBlank : Kept → Bool
+keptBlank q = not (isKept q) && none (q .block)
+
 -- Row 0 is unused.
 unfoldable pub rowBlank : Ledger → Bool
 rowBlank l =
     let r = rowAt l 0 in
     allBlocks blockBlank (r .blocks)
-    && ((none (r .timedOut) && (none (r .final) && none (r .clash))) && (sameCard (r .card) noCard && cellsFit l 0 0))
+    && ((none (r .timedOut) && (none (r .final) && none (r .clash))) && (sameCard (r .card) noCard && (eachKept (λ i q. keptBlank q) 0 (r .certificates) && cellsFit l 0 0)))
 
 -- "node record of wrong length": as many places as the count asks for. Then count, own number, genesis, stakes and "a total that is not
 -- the sum".
@@ -119,3 +165,9 @@ unfoldable pub step : Ledger → ℕ → Input → Fed
 step l room i =
     given (wellFormed l) (refusedWith l refusal.BadRecord)
     (λ _. given (leb outboxWords room) (refusedWith l refusal.NoRoom) (λ _. feed l i))
+
+-- "Order: 17, 9, checker's, 7, 8": a certificate packet for such a node.
+unfoldable pub takeCertificate : Ledger → ℕ → List ℕ → Fed
+takeCertificate l room packet =
+    given (wellFormed l) (refusedWith l refusal.BadRecord)
+    (λ _. given (leb outboxWords room) (refusedWith l refusal.NoRoom) (λ _. takePacket l packet))

@@ -2,12 +2,13 @@
 use mathlib.Core.Bool.{Bool, not, _&&_, _||_}
 use mathlib.Core.List.{List}
 use Prim.Native.Nat.{ℕ, _-_, _≤_, _<_}
+use lib.ListN.{length}
 use lib.Dec.{eqb}
 use Rattle.rulebook.specs.declared.Cell.{Cell}
 use Rattle.rulebook.specs.declared.Who.the-variants as who
 use Rattle.rulebook.specs.Tools.{someTo}
 use Rattle.rulebook.specs.Weights.{isFirst, stakeIn}
-use Rattle.rulebook.specs.Ledger.{Ledger, none, rowAt, firstBlock, cellAt, ownCell, noInitial, isArmed}
+use Rattle.rulebook.specs.Ledger.{Ledger, none, rowAt, firstBlock, cellAt, ownCell, noInitial, isArmed, certificatesAt, keptAt, isKept}
 use Rattle.rulebook.specs.Pool.{counts}
 use Rattle.record.specs.Layout.{ledgerOf}
 use Rattle.pool.specs.Weighing.{Carded}
@@ -27,14 +28,26 @@ supports c =
     (not (none (c .notar)) || not (none (c .skip)))
     || ((not (none (c .fallback1)) || not (none (c .fallback2))) || (not (none (c .fallback3)) || not (none (c .skipfallback))))
 
--- A has a window to arm; and it is slot 1, whose parent is genesis, or there is such a vote in the slot before.
+-- Some place for certificates of slot s names a block.
+unfoldable pub namesKept : Ledger → ℕ → Bool
+namesKept l s = someTo (length (certificatesAt l s)) (λ n. not (none (keptAt l s n .block)))
+
+-- Slot s may make a parent ready: a kept certificate names a block or is of kind 4, whose place is the third, or there is such a vote.
+unfoldable pub isSupported : Ledger → ℕ → Bool
+isSupported l s = (namesKept l s || isKept (keptAt l s 2)) || someNode l s supports
+
+-- A has a window to arm; and it is slot 1, whose parent is genesis, or the slot before may make one ready.
 unfoldable pub seeksParent : Ledger → ℕ → Bool
-seeksParent l s = (isFirst s && not (isArmed l s)) && (eqb s 1 || someNode l (s - 1) supports)
+seeksParent l s = (isFirst s && not (isArmed l s)) && (eqb s 1 || isSupported l (s - 1))
 
 -- No own initial vote, which C, D and E ask for, and no kept block, which B asks for.
 unfoldable pub isIdle : Ledger → ℕ → Bool
 isIdle l s = noInitial (ownCell l s) && none (firstBlock l s .number)
 
--- Nothing for A, idle, for F no notar vote, and for G no final block.
+-- A notar vote or a kept certificate names a block.
+unfoldable pub isNamed : Ledger → ℕ → Bool
+isNamed l s = someNode l s (counts who.AnyNotar) || namesKept l s
+
+-- Nothing for A, idle, for F no block named, and for G no final block.
 unfoldable pub isDormant : Ledger → ℕ → Bool
-isDormant l s = not (seeksParent l s) && (isIdle l s && (none (rowAt l s .final) && not (someNode l s (counts who.AnyNotar))))
+isDormant l s = not (seeksParent l s) && (isIdle l s && (none (rowAt l s .final) && not (isNamed l s)))

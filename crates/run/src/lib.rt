@@ -4,16 +4,19 @@ ghost use mathlib.Core.Path.{_≡_};
 ghost use Rattle.rulebook.specs.declared.Who.the-variants as who;
 ghost use Rattle.rulebook.specs.Pool.{counts};
 ghost use Rattle.rulebook.specs.Run.{firstRule, scan, run};
-ghost use Rattle.record.specs.Layout.{OwnIn, ledgerOf};
+ghost use Rattle.record.specs.Layout.{InSlot, OwnIn, ledgerOf};
 ghost use Rattle.pool.specs.Weighing.{Carded};
 ghost use Rattle.voter.specs.Outbox.{stateIn};
 ghost use Rattle.voter.specs.Voting.{Onward};
 ghost use Rattle.fallbacks.specs.UnderWay.{UnderWay, UnderWayAt};
-ghost use Rattle.run.specs.Idle.{Looking, someNode, supports, seeksParent, isIdle, isDormant};
+ghost use Rattle.run.specs.Idle.{Looking, someNode, supports, namesKept, isSupported, seeksParent, isIdle, isDormant};
 use fallbacks::rule_d;
 use fallbacks::rule_e;
 use finality::rule_f;
 use finality::rule_g;
+use kept_certificates::block_at;
+use kept_certificates::is_kept;
+use record::MOST_CERTIFICATES;
 use record::count;
 use record::final_block;
 use record::load_block;
@@ -57,7 +60,7 @@ fn supports(c: Cell) -> bool
 }
 
 // Whether a node has such a vote in a slot: the card tells of every one but the notar-fallbacks.
-fn has_support(rec: &[u64], s: Slot) -> bool
+fn votes_support(rec: &[u64], s: Slot) -> bool
     requires { ⌜ Carded (now rec) (s .0) ⌝ }
     ensures { λ r. ⌜ r ≡ someNode (ledgerOf (now (rec .entry))) (s .0) supports ⌝ }
 {
@@ -74,6 +77,33 @@ fn has_support(rec: &[u64], s: Slot) -> bool
         }
     }
     false
+}
+
+// Whether a kept certificate of a slot names a block.
+fn names_kept(rec: &[u64], s: Slot) -> bool
+    requires { ⌜ InSlot (now rec) (s .0) ⌝ }
+    ensures { λ r. ⌜ r ≡ namesKept (ledgerOf (now (rec .entry))) (s .0) ⌝ }
+{
+    for n in 0..MOST_CERTIFICATES {
+        let b = block_at(rec, s, n);
+        if b != 0 {
+            return true;
+        }
+    }
+    false
+}
+
+// Whether a slot may make a parent ready: by a block that a kept certificate names, by a kept one of kind 4, which stands in the
+// third place, or by votes.
+fn has_support(rec: &[u64], s: Slot) -> bool
+    requires { ⌜ Carded (now rec) (s .0) ⌝ }
+    ensures { λ r. ⌜ r ≡ isSupported (ledgerOf (now (rec .entry))) (s .0) ⌝ }
+{
+    let kept = names_kept(rec, s) | is_kept(rec, s, 2);
+    if kept {
+        return true;
+    }
+    votes_support(rec, s)
 }
 
 // Whether rule A has a window to arm and may find a parent: genesis in slot 1, else support in the slot before.
@@ -101,7 +131,7 @@ fn is_dormant(rec: &[u64], s: Slot) -> bool
     if final_block(rec, s) != 0 {
         return false;
     }
-    !has_notar(rec, s)
+    !(has_notar(rec, s) | names_kept(rec, s))
 }
 
 // The first of rules B to E that applies in a slot. In an idle one none is tried.

@@ -12,15 +12,17 @@ use Rattle.rulebook.specs.declared.CertificateKind.{CertificateKind}
 use Rattle.rulebook.specs.declared.CertificateKind.the-variants as certificate
 use Rattle.rulebook.specs.Tools.{allTo}
 use Rattle.rulebook.specs.Weights.{weight, reaches, dWeights, isFirst}
-use Rattle.rulebook.specs.Ledger.{Ledger, none, noBlock, cellAt, ownCell, blocksAt, firstBlock, someBlock, isFree, hasNumber, isBlock, keepsBlock}
-use Rattle.rulebook.specs.Pool.{hasFallback, counts, weigh, weighs, signersOf, fifthsOf, held, parentHeld, skippedBetween, ready}
+use Rattle.rulebook.specs.Ledger.{Ledger, none, noBlock, cellAt, ownCell, blocksAt, firstBlock, someBlock, isFree, hasNumber, isBlock, keepsBlock, certificatesAt, keptAt, isKept}
+use Rattle.rulebook.specs.Certificates.{Kept}
+use Rattle.rulebook.specs.Pool.{hasFallback, counts, weigh, weighs, signersOf, fifthsOf, reached, placeKind, servesAs, someKept, isFor, keptAs, held, parentHeld, skippedBetween, ready}
 use Rattle.rulebook.specs.Checker.{isOtherKind, blockMisfits}
 use Rattle.rulebook.specs.Rules.{parentFits, fallbackWeights, parentBacked, isBacked, isGrounded, isFinal, findBlock}
 use Rattle.rulebook.proofs.ToolLaws.{all-at}
 use Rattle.rulebook.proofs.BlockLaws.{find-kept}
+use Rattle.rulebook.proofs.CertificateLaws.{some-place, serves-on}
 use Rattle.safety.specs.Slot.{notar, notarFallback, skip}
 use Rattle.safety.specs.Ballots.{has}
-use Rattle.safety.specs.Grounds.{signs, weightOf, Held, byVotes, BackedAt, ReadyParent, HeldParent, NotarGrounds, FinalIn, fast, slow}
+use Rattle.safety.specs.Grounds.{signs, weightOf, Held, byVotes, byKept, BackedAt, ReadyParent, HeldParent, NotarGrounds, FinalIn, fast, slow}
 use Rattle.safety.proofs.Tests.{T-true, true-T, not-false, and-T, T-and, or-T, T-left, T-right}
 use Rattle.safety.proofs.Weighing.{reaches-more, reaches-less, weights-more, weight-mono}
 use Rattle.safety.proofs.Cells.{is-notar}
@@ -80,10 +82,17 @@ first-some (k ∷ ks) h =
 
 module _ (l : Ledger) where
   pub held-Held : (k : CertificateKind) (s b : ℕ) → T (not (isOtherKind k)) → T (not (blockMisfits k b)) → T (held l k s b) → Held l k s b
-  unfolding held weighs weigh
+  unfolding held reached keptAs isFor weighs weigh
   held-Held k s b z m t =
-      byVotes (reaches-more (fifthsOf k) (l .total) (weight (l .stakes) (l .count) (λ n. counts (signersOf k b) (cellAt l s n))) (weight (l .stakes) (l .count) (λ n. signs k b (cellAt l s n)))
-      (weight-mono (l .stakes) (l .count) (λ n. counts (signersOf k b) (cellAt l s n)) (λ n. signs k b (cellAt l s n)) (λ n. counts-signs k b (cellAt l s n) z m)) t)
+      or-T (reached l k s b) (keptAs l k s b) t
+      (λ u. byVotes (reaches-more (fifthsOf k) (l .total) (weight (l .stakes) (l .count) (λ n. counts (signersOf k b) (cellAt l s n))) (weight (l .stakes) (l .count) (λ n. signs k b (cellAt l s n)))
+      (weight-mono (l .stakes) (l .count) (λ n. counts (signersOf k b) (cellAt l s n)) (λ n. signs k b (cellAt l s n)) (λ n. counts-signs k b (cellAt l s n) z m)) u))
+      (λ u.
+      let p : ℕ → Kept → Bool = λ i q. servesAs (placeKind i) k && eqb (q .block) b in
+      let r = some-place p 0 (certificatesAt l s) (T-true (someKept p 0 (certificatesAt l s)) u) in
+      let i = r .0 in
+      let a = and-T (servesAs (placeKind i) k) (eqb (keptAt l s i .block) b) (true-T (p i (keptAt l s i)) (subst (λ (j : ℕ). p j (keptAt l s i) ≡ true) (omega arith) (r .2))) in
+      byKept i (true-T (isKept (keptAt l s i)) (r .1)) (a .0) (eqb→eq (keptAt l s i .block) b (a .1)))
 
   -- A held kind 2 counts as 3.
   two-three : (s b : ℕ) → Held l certificate.Notar s b → Held l certificate.NotarFallback s b
@@ -93,6 +102,8 @@ module _ (l : Ledger) where
       (weight-mono (l .stakes) (l .count) (λ n. signs certificate.Notar b (cellAt l s n)) (λ n. signs certificate.NotarFallback b (cellAt l s n))
       (λ n u. or-T (has (cellAt l s n) (notar b)) (has (cellAt l s n) (notar b)) u
       (λ w. T-left (has (cellAt l s n) (notar b)) (has (cellAt l s n) (notarFallback b)) w) (λ w. T-left (has (cellAt l s n) (notar b)) (has (cellAt l s n) (notarFallback b)) w))) t)
+  two-three s b (byKept i t u e) =
+      byKept i t (true-T (servesAs (placeKind i) certificate.NotarFallback) (serves-on (placeKind i) (T-true (servesAs (placeKind i) certificate.Notar) u))) e
 
   backed-at : (p x : ℕ) → T (not (none x)) → T (parentHeld l p x) → BackedAt l p x
   unfolding parentHeld isOtherKind blockMisfits

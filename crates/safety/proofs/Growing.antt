@@ -1,39 +1,48 @@
 -- What stands behind votes and final blocks stays as a ledger grows.
-use mathlib.Core.Path.{sym, subst}
+use mathlib.Core.Path.{_≡_, refl, sym, ap, _∙_, subst}
 use mathlib.Core.Bool.{_||_}
+use mathlib.Core.List.{List}
 use Prim.Native.Nat.{ℕ, zero, suc, _≤_}
+use lib.ListN.{getD}
 use lib.Dec.{T}
 use Rattle.rulebook.specs.declared.CertificateKind.{CertificateKind}
 use Rattle.rulebook.specs.declared.CertificateKind.the-variants as certificate
 use Rattle.rulebook.specs.Weights.{weight, reaches, dWeights}
-use Rattle.rulebook.specs.Ledger.{Ledger, rowAt, cellAt, keepsBlock}
+use Rattle.rulebook.specs.Ledger.{Ledger, noKept, rowAt, cellAt, keepsBlock, keptAt, isKept}
+use Rattle.rulebook.specs.Certificates as found
 use Rattle.rulebook.specs.Pool.{fifthsOf}
 use Rattle.rulebook.specs.Rules.{Record}
 use Rattle.safety.specs.Slot.{Ballot, notar, notarFallback, skip, skipFallback, final}
 use Rattle.safety.specs.Ballots.{has}
 use Rattle.safety.specs.Ring.{ballotA, ballotB}
-use Rattle.safety.specs.Grounds.{weightOf, Held, byVotes, BackedAt, Grounds, FinalIn, fast, slow, ancestor, ClashIn, Behind}
+use Rattle.safety.specs.Grounds.{weightOf, Held, byVotes, byKept, BackedAt, Grounds, FinalIn, fast, slow, ancestor, ClashIn, Behind}
 use Rattle.safety.specs.Moves.{SameTable, SameRest}
 use Rattle.safety.proofs.Tests.{or-T, T-left, T-right}
 use Rattle.safety.proofs.Weighing.{reaches-more, weights-more, weight-mono}
 use Rattle.safety.proofs.Cells.{Kept, kept-same, kept-trans, kept-has}
 
--- All that was there stays: cells, kept blocks only grow.
+-- All that was there stays: cells, kept blocks and kept certificates only grow.
 pub record Grow (l m : Ledger) : Type 0 where
   pub cells : (s n : ℕ) → Kept (cellAt l s n) (cellAt m s n)
   pub blocks : (s b p x : ℕ) → T (keepsBlock l s b p x) → T (keepsBlock m s b p x)
+  pub certificates : (s j : ℕ) → T (isKept (keptAt l s j)) → keptAt m s j ≡ keptAt l s j
 
 pub grow-same : (l : Ledger) → Grow l l
-grow-same l = record { cells = λ s n. kept-same (cellAt l s n); blocks = λ s b p x t. t }
+grow-same l = record { cells = λ s n. kept-same (cellAt l s n); blocks = λ s b p x t. t; certificates = λ s j t. refl }
+
+-- What equals a place that keeps a certificate keeps it.
+pub kept-still : (q r : found.Kept) → r ≡ q → T (isKept q) → T (isKept r)
+kept-still q r e t = subst (λ (x : found.Kept). T (isKept x)) (sym e) t
 
 pub grow-trans : (k l m : Ledger) → Grow k l → Grow l m → Grow k m
 grow-trans k l m f g =
     record {
       cells = λ s n. kept-trans (cellAt k s n) (cellAt l s n) (cellAt m s n) (f .cells s n) (g .cells s n);
       blocks = λ s b p x t. g .blocks s b p x (f .blocks s b p x t);
+      certificates = λ s j t. let e = f .certificates s j t in g .certificates s j (kept-still (keptAt k s j) (keptAt l s j) e t) ∙ e;
     }
 
--- A row that stays but for its cells keeps the same blocks.
+-- A row that stays but for its cells keeps the same blocks and certificates.
 module _ (l m : Ledger) (rest : (s : ℕ) → SameRest (rowAt l s) (rowAt m s)) where
   pub rest-blocks : (s b p x : ℕ) → T (keepsBlock l s b p x) → T (keepsBlock m s b p x)
   unfolding keepsBlock
@@ -42,6 +51,9 @@ module _ (l m : Ledger) (rest : (s : ℕ) → SameRest (rowAt l s) (rowAt m s)) 
   pub rest-blocks-back : (s b p x : ℕ) → T (keepsBlock m s b p x) → T (keepsBlock l s b p x)
   unfolding keepsBlock
   rest-blocks-back s b p x t = rw (rest s .blocks) at t
+
+  pub rest-kept : (s j : ℕ) → keptAt m s j ≡ keptAt l s j
+  rest-kept s j = ap (λ (qs : List found.Kept). getD qs j noKept) (rest s .certificates)
 
 module _ (l m : Ledger) (table : SameTable l m) (grow : Grow l m) where
   pub weight-grow : (k s : ℕ) (p : Ballot) (q : Ballot)
@@ -84,6 +96,9 @@ module _ (l m : Ledger) (table : SameTable l m) (grow : Grow l m) where
 
   pub held-grow : (k : CertificateKind) (s b : ℕ) → Held l k s b → Held m k s b
   held-grow k s b (byVotes t) = byVotes (weight-grow (fifthsOf k) s (ballotA k b) (ballotB k b) t)
+  held-grow k s b (byKept j t u e) =
+      let q = grow .certificates s j t in
+      byKept j (kept-still (keptAt l s j) (keptAt m s j) q t) u (ap (λ (x : found.Kept). x .block) q ∙ e)
 
   backed-grow : (p x : ℕ) → BackedAt l p x → BackedAt m p x
   backed-grow zero x e = rw (table .genesis) e

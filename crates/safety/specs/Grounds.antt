@@ -8,8 +8,8 @@ use Rattle.rulebook.specs.declared.Cell.{Cell}
 use Rattle.rulebook.specs.declared.CertificateKind.{CertificateKind}
 use Rattle.rulebook.specs.declared.CertificateKind.the-variants as certificate
 use Rattle.rulebook.specs.Weights.{weight, reaches, dWeights, isFirst}
-use Rattle.rulebook.specs.Ledger.{Ledger, cellAt, keepsBlock}
-use Rattle.rulebook.specs.Pool.{fifthsOf}
+use Rattle.rulebook.specs.Ledger.{Ledger, cellAt, keepsBlock, keptAt, isKept}
+use Rattle.rulebook.specs.Pool.{fifthsOf, placeKind, servesAs}
 use Rattle.rulebook.specs.Rules.{Record}
 use Rattle.safety.specs.Slot.{Ballot, notar, notarFallback, skip, skipFallback, final}
 use Rattle.safety.specs.Ballots.{has}
@@ -19,9 +19,10 @@ use Rattle.safety.specs.Ring.{ballotA, ballotB}
 abbrev pub signs : CertificateKind → ℕ → Cell → Bool
 signs k b c = has c (ballotA k b) || has c (ballotB k b)
 
--- A certificate is held: reached by stored votes.
+-- A certificate is held: reached by stored votes, or kept, where a kept one serves.
 pub data Held (l : Ledger) (k : CertificateKind) (s b : ℕ) : Type 0 where
   byVotes : T (reaches (fifthsOf k) (l .total) (weight (l .stakes) (l .count) (λ n. signs k b (cellAt l s n)))) → Held l k s b
+  byKept : (i : ℕ) → T (isKept (keptAt l s i)) → T (servesAs (placeKind i) k) → keptAt l s i .block ≡ b → Held l k s b
 
 -- Genesis, or a block that holds kind 3.
 abbrev pub BackedAt : Ledger → ℕ → ℕ → Type 0

@@ -14,13 +14,14 @@ use Rattle.rulebook.specs.Cards.{CardsAgree, recount, leader}
 use Rattle.rulebook.specs.Rules.{State}
 use Rattle.rulebook.specs.Run.{ruleAt, run}
 use Rattle.rulebook.specs.Inputs.{startVerdict, refusedWith, feed}
+use Rattle.rulebook.specs.Taking.{takePacket, Arrival}
 use Rattle.rulebook.specs.WellFormed.{wellFormed, step}
 use Rattle.rulebook.proofs.ToolLaws.{by-test, given-off}
 use Rattle.recounting.proofs.Leading.{Lead, lead-recount}
 use Rattle.settling.specs.Facts.{Sound}
 use Rattle.settling.specs.Steps.{after}
 use Rattle.settling.proofs.FactLaws.{formed}
-use Rattle.settling.proofs.Soundness.{rule-sound, run-sound, feed-sound, step-sound}
+use Rattle.settling.proofs.Soundness.{rule-sound, run-sound, feed-sound, step-sound, packet-sound}
 use Rattle.settling.proofs.Start.{fresh-sound, start-sound}
 
 -- ---- at every moment
@@ -38,9 +39,9 @@ module _ (stakes : List ℕ) (own genesis : ℕ) where
   pub cards-started : startVerdict stakes own genesis ≡ Fine → CardsAgree (fresh stakes own genesis)
   cards-started e = cards-agree (fresh stakes own genesis) (fresh-sound stakes own genesis e)
 
-  -- After a start and any inputs, accepted and refused ones in any order.
-  pub cards-for-life : startVerdict stakes own genesis ≡ Fine → (is : List Input) → CardsAgree (after (fresh stakes own genesis) is)
-  cards-for-life e is = cards-agree (after (fresh stakes own genesis) is) (start-sound stakes own genesis e is)
+  -- After a start and whatever arrives, accepted and refused in any order.
+  pub cards-for-life : startVerdict stakes own genesis ≡ Fine → (cs : List Arrival) → CardsAgree (after (fresh stakes own genesis) cs)
+  cards-for-life e cs = cards-agree (after (fresh stakes own genesis) cs) (start-sound stakes own genesis e cs)
 
 -- After an input, accepted or refused; 17 and 9 among the refusals.
 module _ (l : Ledger) (h : Sound l) (i : Input) where
@@ -49,6 +50,11 @@ module _ (l : Ledger) (h : Sound l) (i : Input) where
 
   pub cards-stepped : (room : ℕ) → CardsAgree (step l room i .ledger)
   cards-stepped room = cards-agree (step l room i .ledger) (step-sound l h room i)
+
+-- After a certificate packet: what it keeps leaves every card, and the votes that the rules then cast are on theirs.
+module _ (l : Ledger) (h : Sound l) (packet : List ℕ) where
+  pub cards-taken : CardsAgree (takePacket l packet .ledger)
+  cards-taken = cards-agree (takePacket l packet .ledger) (packet-sound l h packet)
 
 -- Within a call, after each rule that ran.
 module _ (o : State) (h : Sound (o .ledger)) where

@@ -42,6 +42,7 @@ module _ (l : Ledger) (h : Shaped (places l) l) (s n : ℕ) (k : VoteKind) (x : 
         final = r .final;
         clash = r .clash;
         card = tallied (r .card) (changeOf l s n k x);
+        certificates = r .certificates;
         cells = set (r .cells) n (withVote (cellAt l s n) k x);
       }
 

@@ -1,5 +1,5 @@
 -- The one test of well-formedness and its facts, both ways.
-use mathlib.Core.Path.{_≡_, refl, sym, ap, _∙_, subst}
+use mathlib.Core.Path.{_≡_, sym, ap, _∙_, subst}
 use mathlib.Core.Bool.{Bool, true, false, not, _&&_, _||_}
 use Prim.Native.Nat.{ℕ, suc, _-_, _≤_}
 use native.Mathlib.Omega.{arith}
@@ -10,20 +10,15 @@ use Rattle.rulebook.specs.declared.Cell.{Cell}
 use Rattle.rulebook.specs.declared.Tally.{Tally}
 use Rattle.rulebook.specs.Tools.{given, allTo}
 use Rattle.rulebook.specs.Weights.{mostNodes, placesFor, mostStake, lastSlot, windows, stakeIn, stakesFit, totalTo}
-use Rattle.rulebook.specs.Ledger.{Ledger, Row, none, noCell, places, rowAt, cellAt}
+use Rattle.rulebook.specs.Ledger.{Ledger, Row, none, noCell, places, tableOf, rowAt, cellAt}
 use Rattle.rulebook.specs.Cards.{sameCard, recount}
-use Rattle.rulebook.specs.WellFormed.{flag, inOrder, cellFits, cellBlank, cellsFit, blocksFit, ownFits, rowFits, cardFits, rowBlank, headFits, wellFormed}
-use Rattle.rulebook.proofs.ToolLaws.{given-on, given-off, and-both, both-and, or-left, or-right, or-cases, by-test, true-not-false, all-at, all-each}
+use Rattle.rulebook.specs.WellFormed.{flag, inOrder, cellFits, cellBlank, cellsFit, blocksFit, certificatesFit, ownFits, rowFits, cardFits, rowBlank, headFits, wellFormed}
+use Rattle.rulebook.proofs.ToolLaws.{given-both, given-on, given-off, and-both, both-and, or-left, or-right, or-cases, by-test, true-not-false, all-at, all-each}
 use Rattle.rulebook.proofs.PlaceLaws.{nodes-placed}
 use Rattle.recounting.proofs.Using.{same-card, card-same}
 use Rattle.settling.specs.Facts.{CellFacts, RowFacts, HeadFacts, Formed}
 
 -- ---- two tests, the second only where the first passes
-
-pub given-both : (b : Bool) (f : Unit {0} → Bool) → given b false f ≡ true → (b ≡ true) × (f tt ≡ true)
-unfolding given
-given-both true f e = (refl, e)
-given-both false f e = let z : _≡_ {A = ℕ} 0 1 = cc in absurd (omega arith)
 
 pub both-given : (b : Bool) (f : Unit {0} → Bool) → b ≡ true → f tt ≡ true → given b false f ≡ true
 both-given b f e d = given-on b false f e ∙ d
@@ -70,12 +65,14 @@ unfolding rowFits cellsFit
 row-facts l s e =
     let r : Row = rowAt l s in
     let p = and-both (blocksFit l s (r .blocks)) _ e in
-    let z = and-both (flag (r .timedOut) && flag (r .clash)) (cellsFit l s (l .count) && ownFits l s) (p .1) in
-    let q = and-both (cellsFit l s (l .count)) (ownFits l s) (z .1) in
+    let z = and-both (flag (r .timedOut) && flag (r .clash)) (certificatesFit (tableOf l) s (r .certificates) && (cellsFit l s (l .count) && ownFits l s)) (p .1) in
+    let y = and-both (certificatesFit (tableOf l) s (r .certificates)) (cellsFit l s (l .count) && ownFits l s) (z .1) in
+    let q = and-both (cellsFit l s (l .count)) (ownFits l s) (y .1) in
     record {
       blocks = p .0;
       timedOut = leb-true (r .timedOut) 1 (and-both (flag (r .timedOut)) (flag (r .clash)) (z .0) .0);
       clash = leb-true (r .clash) 1 (and-both (flag (r .timedOut)) (flag (r .clash)) (z .0) .1);
+      certificates = y .0;
       cells = λ n a b. sym (given-on (ltb n (l .count)) (cellBlank (cellAt l s n)) (λ _. cellFits (cellAt l s n)) (lt-ltb n (l .count) b)) ∙ all-at (places l) n (cellOk r (l .count)) (q .0) a;
       beyond = λ n a b. sym (given-off (ltb n (l .count)) (cellBlank (cellAt l s n)) (λ _. cellFits (cellAt l s n)) (le-ltb n (l .count) (omega arith))) ∙ all-at (places l) n (cellOk r (l .count)) (q .0) a;
     }
@@ -86,21 +83,23 @@ unfolding rowFits
 row-own l s e =
     let r : Row = rowAt l s in
     let p = and-both (blocksFit l s (r .blocks)) _ e in
-    let z = and-both (flag (r .timedOut) && flag (r .clash)) (cellsFit l s (l .count) && ownFits l s) (p .1) in
-    and-both (cellsFit l s (l .count)) (ownFits l s) (z .1) .1
+    let z = and-both (flag (r .timedOut) && flag (r .clash)) (certificatesFit (tableOf l) s (r .certificates) && (cellsFit l s (l .count) && ownFits l s)) (p .1) in
+    let y = and-both (certificatesFit (tableOf l) s (r .certificates)) (cellsFit l s (l .count) && ownFits l s) (z .1) in
+    and-both (cellsFit l s (l .count)) (ownFits l s) (y .1) .1
 
 pub facts-row : (l : Ledger) (s : ℕ) → RowFacts l s (rowAt l s) → ownFits l s ≡ true → rowFits l s ≡ true
 unfolding rowFits cellsFit
 facts-row l s f o =
     let r : Row = rowAt l s in
     both-and (blocksFit l s (r .blocks)) _ (f .blocks)
-    (both-and (flag (r .timedOut) && flag (r .clash)) (cellsFit l s (l .count) && ownFits l s)
+    (both-and (flag (r .timedOut) && flag (r .clash)) (certificatesFit (tableOf l) s (r .certificates) && (cellsFit l s (l .count) && ownFits l s))
     (both-and (flag (r .timedOut)) (flag (r .clash)) (le-leb (r .timedOut) 1 (f .timedOut)) (le-leb (r .clash) 1 (f .clash)))
+    (both-and (certificatesFit (tableOf l) s (r .certificates)) (cellsFit l s (l .count) && ownFits l s) (f .certificates)
     (both-and (cellsFit l s (l .count)) (ownFits l s)
     (all-each (places l) (cellOk r (l .count)) (λ n a.
     by-test (ltb n (l .count))
     (λ t. given-on (ltb n (l .count)) (cellBlank (cellAt l s n)) (λ _. cellFits (cellAt l s n)) t ∙ f .cells n a (ltb-true n (l .count) t))
-    (λ t. given-off (ltb n (l .count)) (cellBlank (cellAt l s n)) (λ _. cellFits (cellAt l s n)) t ∙ f .beyond n a (ltb-false n (l .count) t)))) o))
+    (λ t. given-off (ltb n (l .count)) (cellBlank (cellAt l s n)) (λ _. cellFits (cellAt l s n)) t ∙ f .beyond n a (ltb-false n (l .count) t)))) o)))
 
 -- ---- the head
 

@@ -21,25 +21,30 @@ use Rattle.rulebook.specs.declared.Verdict.the-variants.{Fine, Refused}
 use Rattle.rulebook.specs.Tools.{part}
 use Rattle.rulebook.specs.Weights.{lastSlot}
 use Rattle.rulebook.specs.PaperNumbers.{voteNumber}
-use Rattle.rulebook.specs.Ledger.{Ledger, Row, none, noCell, noInitial, rowAt, cellAt, ownCell, fillBlock, putRow, putTimedOut, fresh}
+use Rattle.rulebook.specs.Ledger.{Ledger, Row, none, noCell, tableOf, noInitial, rowAt, cellAt, ownCell, fillBlock, certificatesAt, putRow, putTimedOut, fresh}
+use Rattle.rulebook.specs.Certificates.{Certificate, Kept}
 use Rattle.rulebook.specs.Cards.{tallied, changeOf}
 use Rattle.rulebook.specs.Votes.{placeOf, withVote, storeVote}
 use Rattle.rulebook.specs.Rules.{Record, State, stateOf, cast, castSkips}
 use Rattle.rulebook.specs.Run.{run}
-use Rattle.rulebook.specs.Inputs.{misfits, startVerdict, keepBlock, verdict, timeOut, intake, fedWith, refusedWith, fedOn, feed}
+use Rattle.rulebook.specs.Inputs.{Fed, misfits, startVerdict, keepBlock, verdict, timeOut, intake, fedWith, refusedWith, fedOn, feed}
+use Rattle.rulebook.specs.Checker.{judge}
+use Rattle.rulebook.specs.Taking.{fillKept, keptVerdict, keptOf, keepCertificate, takenOn, taken, takePacket, Arrival, ofInput, ofPacket, served}
+use Rattle.rulebook.proofs.AcceptedLaws.{packet-cases}
 use Rattle.rulebook.proofs.ToolLaws.{given-keeps, by-test, part-le, part-on, part-off}
 use Rattle.settling.specs.Spare.{one, fallbacksLeft}
 use Rattle.settling.specs.Facts.{Sound}
-use Rattle.settling.specs.Steps.{Placed, Lawful, VoteFine, after, life}
+use Rattle.settling.specs.Steps.{Placed, Lawful, VoteFine, kindFor, CertificateFine, after, life}
 use Rattle.settling.specs.Fallbacks.{fallbacksTold, Taken}
 use Rattle.settling.proofs.Places.{row-there, row-else}
 use Rattle.settling.proofs.VoteLaws.{vote-left}
 use Rattle.settling.proofs.FactLaws.{formed, count-placed}
 use Rattle.settling.proofs.Weighing.{row-cells, stored-cases}
-use Rattle.settling.proofs.Sounding.{sound-placed, sound-timedOut}
+use Rattle.settling.proofs.Sounding.{sound-placed, sound-certificate, sound-timedOut}
 use Rattle.settling.proofs.LawfulRules.{skips-keep, run-keeps}
-use Rattle.settling.proofs.Soundness.{sound-lawful, intake-sound, feed-sound}
+use Rattle.settling.proofs.Soundness.{sound-lawful, intake-sound, served-sound}
 use Rattle.settling.proofs.Verdicts.{vote-fine, block-fine, timeout-fine}
+use Rattle.settling.proofs.Life.{taken-fine}
 use Rattle.settling.proofs.Start.{fresh-sound}
 
 -- ---- told in any order
@@ -64,7 +69,7 @@ module _ (l : Ledger) (h : Placed l) (t : ℕ) (high : t ≤ lastSlot) (k : Vote
   abbrev voted : Row
   voted =
       let r = rowAt l t in
-      record { blocks = r .blocks; timedOut = r .timedOut; final = r .final; clash = r .clash; card = tallied (r .card) (changeOf l t (l .own) k b); cells = set (r .cells) (l .own) (withVote (ownCell l t) k b) }
+      record { blocks = r .blocks; timedOut = r .timedOut; final = r .final; clash = r .clash; card = tallied (r .card) (changeOf l t (l .own) k b); certificates = r .certificates; cells = set (r .cells) (l .own) (withVote (ownCell l t) k b) }
 
   -- The own cell of its slot has the vote, those of other slots stay.
   own-here : ownCell (storeVote l t (l .own) k b) t ≡ withVote (ownCell l t) k b
@@ -104,10 +109,10 @@ vote-taken s o h t high k b e m =
 -- ---- every rule
 
 -- A row with the same cells leaves what is left.
-left-row : (l : Ledger) (s t : ℕ) (bs : List Block) (x f c : ℕ) → t < length (l .rows)
-    → fallbacksLeft (ownCell (putRow l t (record { blocks = bs; timedOut = x; final = f; clash = c; card = rowAt l t .card; cells = rowAt l t .cells })) s) ≡ fallbacksLeft (ownCell l s)
-left-row l s t bs x f c h =
-    ap (λ (d : Cell). fallbacksLeft d) (row-cells l t (record { blocks = bs; timedOut = x; final = f; clash = c; card = rowAt l t .card; cells = rowAt l t .cells }) h refl s (l .own))
+left-row : (l : Ledger) (s t : ℕ) (bs : List Block) (x f c : ℕ) (qs : List Kept) → t < length (l .rows)
+    → fallbacksLeft (ownCell (putRow l t (record { blocks = bs; timedOut = x; final = f; clash = c; card = rowAt l t .card; certificates = qs; cells = rowAt l t .cells })) s) ≡ fallbacksLeft (ownCell l s)
+left-row l s t bs x f c qs h =
+    ap (λ (d : Cell). fallbacksLeft d) (row-cells l t (record { blocks = bs; timedOut = x; final = f; clash = c; card = rowAt l t .card; certificates = qs; cells = rowAt l t .cells }) h refl s (l .own))
 
 pub taken-lawful : (s left : ℕ) → Lawful (Taken s left)
 unfolding fallbacksTold part
@@ -126,14 +131,14 @@ taken-lawful s left =
             sound = sound-lawful .tell o t b low high e m (h .sound);
             balance =
                 let r : Row = rowAt (o .ledger) t in
-                omega (arith, part-le (eqb t s) 0, left-row (o .ledger) s t (r .blocks) (r .timedOut) b (r .clash) (omega (arith, h .sound .shaped .rows)), h .balance);
+                omega (arith, part-le (eqb t s) 0, left-row (o .ledger) s t (r .blocks) (r .timedOut) b (r .clash) (r .certificates) (omega (arith, h .sound .shaped .rows)), h .balance);
           };
       clash = λ o t b low high e h.
           record {
             sound = sound-lawful .clash o t b low high e (h .sound);
             balance =
                 let r : Row = rowAt (o .ledger) t in
-                omega (arith, part-le (eqb t s) 0, left-row (o .ledger) s t (r .blocks) (r .timedOut) (r .final) 1 (omega (arith, h .sound .shaped .rows)), h .balance);
+                omega (arith, part-le (eqb t s) 0, left-row (o .ledger) s t (r .blocks) (r .timedOut) (r .final) 1 (r .certificates) (omega (arith, h .sound .shaped .rows)), h .balance);
           };
     }
 
@@ -150,7 +155,7 @@ module _ (l : Ledger) (h : Sound l) (s : ℕ) where
   unfolding fallbacksTold
   timedOut-taken t low high =
       let r : Row = rowAt l t in
-      record { sound = sound-timedOut l h t low high; balance = omega (arith, left-row l s t (r .blocks) 1 (r .final) (r .clash) (rows-there t high)) }
+      record { sound = sound-timedOut l h t low high; balance = omega (arith, left-row l s t (r .blocks) 1 (r .final) (r .clash) (r .certificates) (rows-there t high)) }
 
   -- Another node's vote.
   outside-left : (v : Vote) → VoteFine l v → fallbacksLeft (ownCell (storeVote l (v .slot .0) (v .node .0) (v .kind) (v .block)) s) ≡ left
@@ -169,7 +174,7 @@ module _ (l : Ledger) (h : Sound l) (s : ℕ) where
       let r : Row = rowAt l (t .0) in
       record {
         sound = intake-sound l h (input.Block t b) e;
-        balance = omega (arith, left-row l s (t .0) (fillBlock b (r .blocks)) (r .timedOut) (r .final) (r .clash) (rows-there (t .0) (f .high)));
+        balance = omega (arith, left-row l s (t .0) (fillBlock b (r .blocks)) (r .timedOut) (r .final) (r .clash) (r .certificates) (rows-there (t .0) (f .high)));
       }
   intake-taken (input.Timeout t) e =
       let f = timeout-fine l (t .0) e in
@@ -190,27 +195,58 @@ module _ (l : Ledger) (h : Sound l) (s : ℕ) where
   unfolding feed
   feed-taken i = fedOn-taken (verdict l i) i refl
 
+  -- ---- every certificate
+
+  kept-taken : (c : Certificate) → CertificateFine l c → Taken s left (stateOf (keepCertificate l c) [])
+  unfolding keepCertificate fallbacksTold
+  kept-taken c f =
+      let r : Row = rowAt l (c .slot) in
+      record {
+        sound = sound-certificate l h c f;
+        balance = omega (arith, left-row l s (c .slot) (r .blocks) (r .timedOut) (r .final) (r .clash) (fillKept (kindFor l c) 0 (keptOf c) (r .certificates)) (rows-there (c .slot) (f .high)));
+      }
+
+  takenOn-taken : (v : Verdict) (c : Certificate) → judge (tableOf l) c ≡ Fine → keptVerdict (certificatesAt l (c .slot)) (kindFor l c) (c .block) ≡ v
+      → fallbacksTold s (takenOn v l c .records) + fallbacksLeft (ownCell (takenOn v l c .ledger) s) ≡ left
+  unfolding takenOn fedWith refusedWith fallbacksTold
+  takenOn-taken Fine c j e =
+      let o : State = stateOf (keepCertificate l c) [] in
+      let k = run-keeps (Taken s left) (taken-lawful s left) o (kept-taken c (taken-fine l h c j e)) in
+      omega (arith, told-reverse s (run o .records), k .balance)
+  takenOn-taken (Refused r) c j e = omega arith
+
+  pub packet-taken : (packet : List ℕ) → fallbacksTold s (takePacket l packet .records) + fallbacksLeft (ownCell (takePacket l packet .ledger) s) ≡ left
+  unfolding taken refusedWith fallbacksTold
+  packet-taken packet =
+      packet-cases (λ (f : Fed). fallbacksTold s (f .records) + fallbacksLeft (ownCell (f .ledger) s) ≡ left) l packet (λ r. omega arith)
+      (λ c next e j. takenOn-taken (keptVerdict (certificatesAt l (c .slot)) (kindFor l c) (c .block)) c j refl)
+
+  pub served-taken : (c : Arrival) → fallbacksTold s (served l c .records) + fallbacksLeft (ownCell (served l c .ledger) s) ≡ left
+  unfolding served
+  served-taken (ofInput i) = feed-taken i
+  served-taken (ofPacket bytes) = packet-taken bytes
+
 -- ---- a life
 
-pub life-taken : (l : Ledger) → Sound l → (s : ℕ) (is : List Input)
-    → fallbacksTold s (life l is) + fallbacksLeft (ownCell (after l is) s) ≡ fallbacksLeft (ownCell l s)
+pub life-taken : (l : Ledger) → Sound l → (s : ℕ) (cs : List Arrival)
+    → fallbacksTold s (life l cs) + fallbacksLeft (ownCell (after l cs) s) ≡ fallbacksLeft (ownCell l s)
 unfolding after life fallbacksTold
 life-taken l h s [] = omega arith
-life-taken l h s (i ∷ is) =
+life-taken l h s (c ∷ cs) =
     omega (
       arith,
-      told-append s (feed l i .records) (life (feed l i .ledger) is),
-      feed-taken l h s i,
-      life-taken (feed l i .ledger) (feed-sound l h i) s is,
+      told-append s (served l c .records) (life (served l c .ledger) cs),
+      served-taken l h s c,
+      life-taken (served l c .ledger) (served-sound l h c) s cs,
     )
 
 -- A sound node casts at most three in a slot for life.
-pub life-three : (l : Ledger) → Sound l → (s : ℕ) (is : List Input) → fallbacksTold s (life l is) ≤ 3
-life-three l h s is =
+pub life-three : (l : Ledger) → Sound l → (s : ℕ) (cs : List Arrival) → fallbacksTold s (life l cs) ≤ 3
+life-three l h s cs =
     let c : Cell = ownCell l s in
-    omega (arith, life-taken l h s is, part-le (none (c .fallback1)) 1, part-le (none (c .fallback2)) 1, part-le (none (c .fallback3)) 1)
+    omega (arith, life-taken l h s cs, part-le (none (c .fallback1)) 1, part-le (none (c .fallback2)) 1, part-le (none (c .fallback3)) 1)
 
 -- "Show that it cannot from a fresh start, whatever the others do, with no limit on faulty stake."
-pub start-three : (stakes : List ℕ) (own genesis : ℕ) → startVerdict stakes own genesis ≡ Fine → (s : ℕ) (is : List Input)
-    → fallbacksTold s (life (fresh stakes own genesis) is) ≤ 3
-start-three stakes own genesis e s is = life-three (fresh stakes own genesis) (fresh-sound stakes own genesis e) s is
+pub start-three : (stakes : List ℕ) (own genesis : ℕ) → startVerdict stakes own genesis ≡ Fine → (s : ℕ) (cs : List Arrival)
+    → fallbacksTold s (life (fresh stakes own genesis) cs) ≤ 3
+start-three stakes own genesis e s cs = life-three (fresh stakes own genesis) (fresh-sound stakes own genesis e) s cs

@@ -4,7 +4,7 @@ use mathlib.Core.Bool.{Bool, true, false, not, _&&_, _||_}
 use mathlib.Core.List.{List}
 use Prim.Native.Nat.{ℕ, _-_, _<_, _≤_}
 use native.Mathlib.Omega.{arith}
-use lib.ListN.{length, getD, set}
+use lib.ListN.{length, getD, set, take}
 use lib.Seq.{getD-set-same, getD-set-other}
 use lib.Dec.{eqb, ltb}
 use borrow.Author.Tests.{not-true, eqb-true, eqb-false}
@@ -15,12 +15,13 @@ use Rattle.rulebook.specs.declared.VoteKind.the-variants as vote
 use Rattle.rulebook.specs.declared.Place.the-variants.{Free}
 use Rattle.rulebook.specs.Tools.{given, allTo}
 use Rattle.rulebook.specs.Weights.{lastSlot, windowOf}
-use Rattle.rulebook.specs.Ledger.{Ledger, Row, none, noCell, noInitial, places, noCard, rowAt, cellAt, blocksAt, allBlocks, isFree, fillBlock, putRow, putBlocks, putTimedOut, putFinal, putClash, putArmed}
+use Rattle.rulebook.specs.Ledger.{Ledger, Row, none, noCell, noInitial, places, tableOf, noCard, rowAt, cellAt, blocksAt, allBlocks, isFree, fillBlock, putRow, putBlocks, putCertificates, putTimedOut, putFinal, putClash, putArmed}
 use Rattle.rulebook.specs.Pool.{hasFallback}
 use Rattle.rulebook.specs.Votes.{placeOf, withVote, fillFallback, storeVote}
 use Rattle.rulebook.specs.Cards.{tallied, recount, changeOf, sameCard}
 use Rattle.rulebook.specs.Inputs.{badParent, misfits}
-use Rattle.rulebook.specs.WellFormed.{Shaped, inOrder, cellFits, cellBlank, cellsFit, keptFits, blocksApart, blocksFit, blockBlank, ownFits, rowBlank}
+use Rattle.rulebook.specs.Certificates.{Kept}
+use Rattle.rulebook.specs.WellFormed.{Shaped, inOrder, cellFits, cellBlank, cellsFit, keptFits, blocksApart, blocksFit, certificatesFit, eachKept, blockBlank, keptBlank, ownFits, rowBlank}
 use Rattle.rulebook.proofs.ToolLaws.{given-on, and-both, both-and, or-left, or-right, or-cases, or-none, by-test, true-not-false}
 use Rattle.rulebook.proofs.BlockLaws.{all-mono, fill-all, fill-apart}
 use Rattle.settling.specs.Facts.{CellFacts, RowFacts, Formed}
@@ -158,13 +159,15 @@ blocks-same l m s bs e f =
     let p = and-both (allBlocks (keptFits l s) bs) (blocksApart bs) f in
     both-and (allBlocks (keptFits m s) bs) (blocksApart bs) (all-mono (keptFits l s) (keptFits m s) bs (λ k q. kept-same l m s k e ∙ q) (p .0)) (p .1)
 
--- So the facts of a row are the same in a ledger with the same genesis and count.
-pub row-same : (l m : Ledger) (s : ℕ) (r : Row) → m .genesis ≡ l .genesis → m .count ≡ l .count → places m ≡ places l → RowFacts l s r → RowFacts m s r
-row-same l m s r g n k f =
+-- So the facts of a row are the same in a ledger with the same genesis, count and stakes.
+pub row-same : (l m : Ledger) (s : ℕ) (r : Row) → m .genesis ≡ l .genesis → m .count ≡ l .count → m .stakes ≡ l .stakes → RowFacts l s r → RowFacts m s r
+row-same l m s r g n e f =
+    let k : places m ≡ places l = ap length e in
     record {
       blocks = blocks-same l m s (r .blocks) g (f .blocks);
       timedOut = f .timedOut;
       clash = f .clash;
+      certificates = subst (λ (ws : List ℕ). certificatesFit ws s (r .certificates) ≡ true) (sym (ap (λ (c : ℕ). take c (m .stakes)) n ∙ ap (λ (ws : List ℕ). take (l .count) ws) e)) (f .certificates);
       cells = λ i a b. f .cells i (omega arith) (omega arith);
       beyond = λ i a b. f .beyond i (omega arith) (omega arith);
     }
@@ -175,7 +178,8 @@ blankOf p r =
     allBlocks blockBlank (r .blocks)
     && ((none (r .timedOut) && (none (r .final) && none (r .clash)))
     && (sameCard (r .card) noCard
-    && allTo p (λ n. given (ltb n 0) (cellBlank (getD (r .cells) n noCell)) (λ _. cellFits (getD (r .cells) n noCell)))))
+    && (eachKept (λ i q. keptBlank q) 0 (r .certificates)
+    && allTo p (λ n. given (ltb n 0) (cellBlank (getD (r .cells) n noCell)) (λ _. cellFits (getD (r .cells) n noCell))))))
 
 blank-is : (l : Ledger) → rowBlank l ≡ blankOf (places l) (rowAt l 0)
 unfolding rowBlank cellsFit
@@ -222,11 +226,12 @@ module _ (l : Ledger) (h : Shaped (places l) l) (f : Formed l) where
         let g = f .rows s a b in
         let few = count-placed l (f .head) in
         let long : n < length (r .cells) = omega (arith, h .cells s (omega arith)) in
-        formed-row s (record { blocks = r .blocks; timedOut = r .timedOut; final = r .final; clash = r .clash; card = tallied (r .card) (changeOf l s n k x); cells = set (r .cells) n c }) a b
+        formed-row s (record { blocks = r .blocks; timedOut = r .timedOut; final = r .final; clash = r .clash; card = tallied (r .card) (changeOf l s n k x); certificates = r .certificates; cells = set (r .cells) n c }) a b
         (record {
           blocks = g .blocks;
           timedOut = g .timedOut;
           clash = g .clash;
+          certificates = g .certificates;
           cells = λ i p q.
               cell-cases (λ _ y. cellFits y ≡ true) r n c i long
               (vote-fits (cellAt l s n) k x e (g .cells n (omega arith) low)) (λ _. g .cells i p q);
@@ -242,32 +247,41 @@ module _ (l : Ledger) (h : Shaped (places l) l) (f : Formed l) where
     formed-blocks xs e =
         let r : Row = rowAt l s in
         let g = f .rows s a b in
-        formed-row s (record { blocks = xs; timedOut = r .timedOut; final = r .final; clash = r .clash; card = r .card; cells = r .cells }) a b
-        (record { blocks = e; timedOut = g .timedOut; clash = g .clash; cells = g .cells; beyond = g .beyond }) (own-row l s _ (omega (arith, h .rows)) refl)
+        formed-row s (record { blocks = xs; timedOut = r .timedOut; final = r .final; clash = r .clash; card = r .card; certificates = r .certificates; cells = r .cells }) a b
+        (record { blocks = e; timedOut = g .timedOut; clash = g .clash; certificates = g .certificates; cells = g .cells; beyond = g .beyond }) (own-row l s _ (omega (arith, h .rows)) refl)
+        (f .cards s a b ∙ sym (recount-row l s _ (omega (arith, h .rows)) refl))
+
+    -- Certificates that may be kept.
+    pub formed-certificates : (qs : List Kept) → certificatesFit (tableOf l) s qs ≡ true → Formed (putCertificates l s qs)
+    formed-certificates qs e =
+        let r : Row = rowAt l s in
+        let g = f .rows s a b in
+        formed-row s (record { blocks = r .blocks; timedOut = r .timedOut; final = r .final; clash = r .clash; card = r .card; certificates = qs; cells = r .cells }) a b
+        (record { blocks = g .blocks; timedOut = g .timedOut; clash = g .clash; certificates = e; cells = g .cells; beyond = g .beyond }) (own-row l s _ (omega (arith, h .rows)) refl)
         (f .cards s a b ∙ sym (recount-row l s _ (omega (arith, h .rows)) refl))
 
     pub formed-timedOut : Formed (putTimedOut l s)
     formed-timedOut =
         let r : Row = rowAt l s in
         let g = f .rows s a b in
-        formed-row s (record { blocks = r .blocks; timedOut = 1; final = r .final; clash = r .clash; card = r .card; cells = r .cells }) a b
-        (record { blocks = g .blocks; timedOut = omega arith; clash = g .clash; cells = g .cells; beyond = g .beyond }) (own-row l s _ (omega (arith, h .rows)) refl)
+        formed-row s (record { blocks = r .blocks; timedOut = 1; final = r .final; clash = r .clash; card = r .card; certificates = r .certificates; cells = r .cells }) a b
+        (record { blocks = g .blocks; timedOut = omega arith; clash = g .clash; certificates = g .certificates; cells = g .cells; beyond = g .beyond }) (own-row l s _ (omega (arith, h .rows)) refl)
         (f .cards s a b ∙ sym (recount-row l s _ (omega (arith, h .rows)) refl))
 
     pub formed-final : (x : ℕ) → Formed (putFinal l s x)
     formed-final x =
         let r : Row = rowAt l s in
         let g = f .rows s a b in
-        formed-row s (record { blocks = r .blocks; timedOut = r .timedOut; final = x; clash = r .clash; card = r .card; cells = r .cells }) a b
-        (record { blocks = g .blocks; timedOut = g .timedOut; clash = g .clash; cells = g .cells; beyond = g .beyond }) (own-row l s _ (omega (arith, h .rows)) refl)
+        formed-row s (record { blocks = r .blocks; timedOut = r .timedOut; final = x; clash = r .clash; card = r .card; certificates = r .certificates; cells = r .cells }) a b
+        (record { blocks = g .blocks; timedOut = g .timedOut; clash = g .clash; certificates = g .certificates; cells = g .cells; beyond = g .beyond }) (own-row l s _ (omega (arith, h .rows)) refl)
         (f .cards s a b ∙ sym (recount-row l s _ (omega (arith, h .rows)) refl))
 
     pub formed-clash : Formed (putClash l s)
     formed-clash =
         let r : Row = rowAt l s in
         let g = f .rows s a b in
-        formed-row s (record { blocks = r .blocks; timedOut = r .timedOut; final = r .final; clash = 1; card = r .card; cells = r .cells }) a b
-        (record { blocks = g .blocks; timedOut = g .timedOut; clash = omega arith; cells = g .cells; beyond = g .beyond }) (own-row l s _ (omega (arith, h .rows)) refl)
+        formed-row s (record { blocks = r .blocks; timedOut = r .timedOut; final = r .final; clash = 1; card = r .card; certificates = r .certificates; cells = r .cells }) a b
+        (record { blocks = g .blocks; timedOut = g .timedOut; clash = omega arith; certificates = g .certificates; cells = g .cells; beyond = g .beyond }) (own-row l s _ (omega (arith, h .rows)) refl)
         (f .cards s a b ∙ sym (recount-row l s _ (omega (arith, h .rows)) refl))
 
     pub formed-armed : Formed (putArmed l s)

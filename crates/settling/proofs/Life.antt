@@ -1,4 +1,4 @@
--- A node whose ledger is sound makes at most 132 records in its life, whatever it is fed.
+-- A node whose ledger is sound makes at most 132 records in its life, whatever it is fed and handed.
 use mathlib.Core.Path.{_≡_, refl, _∙_}
 use mathlib.Core.List.{List, [], _∷_}
 use Prim.Native.Nat.{ℕ, _≤_}
@@ -13,20 +13,26 @@ use Rattle.rulebook.specs.declared.Refusal.the-variants as refusal
 use Rattle.rulebook.specs.declared.Verdict.{Verdict}
 use Rattle.rulebook.specs.declared.Verdict.the-variants.{Fine, Refused}
 use Rattle.rulebook.specs.Weights.{lastSlot}
-use Rattle.rulebook.specs.Ledger.{Ledger, noInitial, ownCell, blocksAt, fillBlock, putTimedOut}
+use Rattle.rulebook.specs.Ledger.{Ledger, tableOf, noInitial, ownCell, blocksAt, fillBlock, certificatesAt, putTimedOut}
+use Rattle.rulebook.specs.Certificates.{Certificate}
 use Rattle.rulebook.specs.Votes.{storeVote}
 use Rattle.rulebook.specs.Rules.{State, stateOf, castSkips}
 use Rattle.rulebook.specs.Run.{mostRecords, made, run}
 use Rattle.rulebook.specs.Inputs.{Fed, keepBlock, verdict, timeOut, intake, fedWith, refusedWith, fedOn, feed}
-use Rattle.rulebook.specs.WellFormed.{wellFormed, outboxWords, step}
+use Rattle.rulebook.specs.Checker.{judge}
+use Rattle.rulebook.specs.Taking.{fillKept, keptVerdict, keptOf, keepCertificate, takenOn, taken, takePacket, Arrival, ofInput, ofPacket, served}
+use Rattle.rulebook.specs.WellFormed.{wellFormed, outboxWords, step, takeCertificate}
 use Rattle.rulebook.proofs.ToolLaws.{given-keeps}
-use Rattle.settling.specs.Steps.{SameNode, Came, Paid, VoteFine, BlockFine, Settled, after, life}
+use Rattle.rulebook.proofs.AcceptedLaws.{packet-cases}
+use Rattle.settling.specs.Steps.{SameNode, Came, Paid, VoteFine, BlockFine, kindFor, CertificateFine, Settled, after, life}
 use Rattle.settling.specs.Facts.{Sound}
-use Rattle.settling.proofs.Sounding.{sound-placed, sound-vote, sound-kept, sound-timedOut}
-use Rattle.settling.proofs.SpareLaws.{spare-most, spare-other, spare-blocks, spare-timedOut}
+use Rattle.settling.proofs.FactLaws.{formed}
+use Rattle.settling.proofs.KeptLaws.{table-long}
+use Rattle.settling.proofs.Sounding.{sound-placed, sound-vote, sound-kept, sound-certificate, sound-timedOut}
+use Rattle.settling.proofs.SpareLaws.{spare-most, spare-other, spare-blocks, spare-certificates, spare-timedOut}
 use Rattle.settling.proofs.Spending.{same-node, stored-same, skips-come, run-comes}
 use Rattle.settling.proofs.Settling.{run-settles}
-use Rattle.settling.proofs.Verdicts.{vote-fine, block-fine, timeout-fine}
+use Rattle.settling.proofs.Verdicts.{vote-fine, block-fine, certificate-fine, timeout-fine}
 
 -- ---- paying
 
@@ -72,6 +78,15 @@ module _ (l : Ledger) (h : Sound l) where
       record {
         spent = omega (arith, spare-blocks l s (sound-placed l h) (f .low) (f .high) (fillBlock b (blocksAt l s)));
         sound = sound-kept l h s (f .low) (f .high) b f;
+        same = record { own = refl; count = refl; total = refl; genesis = refl; stakes = refl };
+      }
+
+  pub certificate-paid : (c : Certificate) → CertificateFine l c → Paid l (keepCertificate l c) 0
+  unfolding keepCertificate
+  certificate-paid c f =
+      record {
+        spent = omega (arith, spare-certificates l (c .slot) (sound-placed l h) (f .low) (f .high) (fillKept (kindFor l c) 0 (keptOf c) (certificatesAt l (c .slot))));
+        sound = sound-certificate l h c f;
         same = record { own = refl; count = refl; total = refl; genesis = refl; stakes = refl };
       }
 
@@ -133,16 +148,64 @@ module _ (l : Ledger) (h : Sound l) where
       given-keeps P (wellFormed l) (refusedWith l refusal.BadRecord) _ (paid-nothing l h)
       (λ _. given-keeps P (leb outboxWords room) (refusedWith l refusal.NoRoom) (λ _. feed l i) (paid-nothing l h) (λ _. feed-paid i))
 
+  -- ---- a certificate packet
+
+  -- What an accepted certificate has passed.
+  pub taken-fine : (c : Certificate) → judge (tableOf l) c ≡ Fine → keptVerdict (certificatesAt l (c .slot)) (kindFor l c) (c .block) ≡ Fine → CertificateFine l c
+  taken-fine c j e = certificate-fine l c (table-long l (formed l (h .formed) .head)) j e
+
+  pub kept-called : (c : Certificate) → CertificateFine l c → Paid l (run (stateOf (keepCertificate l c) []) .ledger) (made (run (stateOf (keepCertificate l c) [])))
+  kept-called c f =
+      let o : State = stateOf (keepCertificate l c) [] in paid-came l o (run o) (certificate-paid c f) (run-comes o (sound-certificate l h c f))
+
+  -- An outbox of 160 records has room for it, and no rule applies afterwards.
+  pub kept-within : (c : Certificate) → CertificateFine l c → made (run (stateOf (keepCertificate l c) [])) ≤ mostRecords
+  kept-within c f = let o : State = run (stateOf (keepCertificate l c) []) in paid-within l (o .ledger) (made o) (kept-called c f)
+
+  pub kept-settled : (c : Certificate) → CertificateFine l c → Settled (run (stateOf (keepCertificate l c) []))
+  kept-settled c f = run-settles (stateOf (keepCertificate l c) []) (sound-certificate l h c f)
+
+  takenOn-paid : (v : Verdict) (c : Certificate) → judge (tableOf l) c ≡ Fine → keptVerdict (certificatesAt l (c .slot)) (kindFor l c) (c .block) ≡ v
+      → Paid l (takenOn v l c .ledger) (length (takenOn v l c .records))
+  unfolding takenOn fedWith refusedWith
+  takenOn-paid Fine c j e =
+      let p = kept-called c (taken-fine c j e) in
+      record { spent = omega (arith, p .spent, length-reverse (run (stateOf (keepCertificate l c) []) .records)); sound = p .sound; same = p .same }
+  takenOn-paid (Refused r) c j e = paid-nothing l h
+
+  pub taken-paid : (c : Certificate) → judge (tableOf l) c ≡ Fine → Paid l (taken l c .ledger) (length (taken l c .records))
+  unfolding taken
+  taken-paid c j = takenOn-paid (keptVerdict (certificatesAt l (c .slot)) (kindFor l c) (c .block)) c j refl
+
+  pub packet-paid : (packet : List ℕ) → Paid l (takePacket l packet .ledger) (length (takePacket l packet .records))
+  unfolding refusedWith
+  packet-paid packet =
+      packet-cases (λ (f : Fed). Paid l (f .ledger) (length (f .records))) l packet (λ r. paid-nothing l h) (λ c next e j. taken-paid c j)
+
+  pub take-paid : (room : ℕ) (packet : List ℕ) → Paid l (takeCertificate l room packet .ledger) (length (takeCertificate l room packet .records))
+  unfolding takeCertificate refusedWith
+  take-paid room packet =
+      let P : Fed → Type 0 = λ f. Paid l (f .ledger) (length (f .records)) in
+      given-keeps P (wellFormed l) (refusedWith l refusal.BadRecord) _ (paid-nothing l h)
+      (λ _. given-keeps P (leb outboxWords room) (refusedWith l refusal.NoRoom) (λ _. takePacket l packet) (paid-nothing l h) (λ _. packet-paid packet))
+
+  -- ---- what arrives, of either sort
+
+  pub served-paid : (c : Arrival) → Paid l (served l c .ledger) (length (served l c .records))
+  unfolding served
+  served-paid (ofInput i) = feed-paid i
+  served-paid (ofPacket bytes) = packet-paid bytes
+
 -- ---- a life
 
-pub life-paid : (l : Ledger) (is : List Input) → Sound l → Paid l (after l is) (length (life l is))
+pub life-paid : (l : Ledger) (cs : List Arrival) → Sound l → Paid l (after l cs) (length (life l cs))
 unfolding after life
 life-paid l [] h = paid-nothing l h
-life-paid l (i ∷ is) h =
-    let p = feed-paid l h i in
-    let q = life-paid (feed l i .ledger) is (p .sound) in
+life-paid l (c ∷ cs) h =
+    let p = served-paid l h c in
+    let q = life-paid (served l c .ledger) cs (p .sound) in
     record {
-      spent = omega (arith, p .spent, q .spent, length-append (feed l i .records) (life (feed l i .ledger) is));
+      spent = omega (arith, p .spent, q .spent, length-append (served l c .records) (life (served l c .ledger) cs));
       sound = q .sound;
       same =
           record {
@@ -155,5 +218,5 @@ life-paid l (i ∷ is) h =
     }
 
 -- "the life total is at most 132".
-pub life-within : (l : Ledger) (is : List Input) → Sound l → length (life l is) ≤ mostRecords
-life-within l is h = paid-within l (after l is) (length (life l is)) (life-paid l is h)
+pub life-within : (l : Ledger) (cs : List Arrival) → Sound l → length (life l cs) ≤ mostRecords
+life-within l cs h = paid-within l (after l cs) (length (life l cs)) (life-paid l cs h)

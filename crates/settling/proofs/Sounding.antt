@@ -14,21 +14,25 @@ use Rattle.rulebook.specs.declared.Block.{Block}
 use Rattle.rulebook.specs.declared.VoteKind.{VoteKind}
 use Rattle.rulebook.specs.declared.Place.the-variants.{Free}
 use Rattle.rulebook.specs.Weights.{lastSlot, stakeIn, totalTo}
-use Rattle.rulebook.specs.Ledger.{places, Ledger, Row, none, rowAt, cellAt, ownCell, blocksAt, allBlocks, isFree, fillBlock, putTimedOut, putFinal, putClash, putArmed}
+use Rattle.rulebook.specs.Ledger.{places, Ledger, Row, none, rowAt, cellAt, ownCell, blocksAt, allBlocks, isFree, fillBlock, putCertificates, putTimedOut, putFinal, putClash, putArmed}
 use Rattle.rulebook.specs.Pool.{hasFallback}
 use Rattle.rulebook.specs.Cards.{tallied, changeOf}
 use Rattle.rulebook.specs.Votes.{placeOf, withVote, storeVote}
 use Rattle.rulebook.specs.Rules.{fallbackWeights, findBlock}
 use Rattle.rulebook.specs.Inputs.{misfits, badParent, keepBlock}
+use Rattle.rulebook.specs.Certificates.{Certificate, Kept}
+use Rattle.rulebook.specs.Taking.{fillKept, keptOf, keepCertificate}
 use Rattle.rulebook.specs.WellFormed.{Shaped, keptFits, blocksApart, blocksFit}
 use Rattle.rulebook.proofs.ToolLaws.{given-on, and-both, sum-term}
 use Rattle.rulebook.proofs.BlockLaws.{fill-length, find-all}
+use Rattle.rulebook.proofs.CertificateLaws.{fill-long}
 use Rattle.rulebook.proofs.FourthLaws.{Counted}
 use Rattle.settling.specs.Facts.{CellFacts, HeadFacts, Sound}
-use Rattle.settling.specs.Steps.{Placed, weighed, BlockFine, WalkParent}
+use Rattle.settling.specs.Steps.{Placed, weighed, BlockFine, kindFor, CertificateFine, WalkParent}
 use Rattle.settling.proofs.Places.{shaped-row, shaped-armed}
 use Rattle.settling.proofs.FactLaws.{formed, well-formed, count-placed, cell-facts}
-use Rattle.settling.proofs.FormedLaws.{formed-vote, formed-blocks, formed-timedOut, formed-final, formed-clash, formed-armed, fine-blocks}
+use Rattle.settling.proofs.FormedLaws.{formed-vote, formed-blocks, formed-certificates, formed-timedOut, formed-final, formed-clash, formed-armed, fine-blocks}
+use Rattle.settling.proofs.KeptLaws.{fine-certificates}
 use Rattle.settling.proofs.Weighing.{third-free}
 
 -- ---- the shape
@@ -38,7 +42,7 @@ unfolding storeVote
 stored-shaped l s n k b h a =
     let r : Row = rowAt l s in
     let c : Cell = withVote (cellAt l s n) k b in
-    shaped-row l s (record { blocks = r .blocks; timedOut = r .timedOut; final = r .final; clash = r .clash; card = tallied (r .card) (changeOf l s n k b); cells = set (r .cells) n c }) h a (h .blocks s (omega arith))
+    shaped-row l s (record { blocks = r .blocks; timedOut = r .timedOut; final = r .final; clash = r .clash; card = tallied (r .card) (changeOf l s n k b); certificates = r .certificates; cells = set (r .cells) n c }) h a (h .blocks s (omega arith)) (h .certificates s (omega arith))
     (length-set (r .cells) n c ∙ h .cells s (omega arith))
 
 module _ (l : Ledger) (h : Placed l) where
@@ -46,13 +50,13 @@ module _ (l : Ledger) (h : Placed l) where
   unfolding keepBlock
   kept-shaped s b a =
       let r : Row = rowAt l s in
-      shaped-row l s (record { blocks = fillBlock b (r .blocks); timedOut = r .timedOut; final = r .final; clash = r .clash; card = r .card; cells = r .cells }) (h .shaped) a
-      (fill-length b (r .blocks) ∙ h .shaped .blocks s (omega arith)) (h .shaped .cells s (omega arith))
+      shaped-row l s (record { blocks = fillBlock b (r .blocks); timedOut = r .timedOut; final = r .final; clash = r .clash; card = r .card; certificates = r .certificates; cells = r .cells }) (h .shaped) a
+      (fill-length b (r .blocks) ∙ h .shaped .blocks s (omega arith)) (h .shaped .certificates s (omega arith)) (h .shaped .cells s (omega arith))
 
   pub timedOut-shaped : (s : ℕ) → s ≤ lastSlot → Shaped (places (putTimedOut l s)) (putTimedOut l s)
   timedOut-shaped s a =
       let r : Row = rowAt l s in
-      shaped-row l s (record { blocks = r .blocks; timedOut = 1; final = r .final; clash = r .clash; card = r .card; cells = r .cells }) (h .shaped) a (h .shaped .blocks s (omega arith)) (h .shaped .cells s (omega arith))
+      shaped-row l s (record { blocks = r .blocks; timedOut = 1; final = r .final; clash = r .clash; card = r .card; certificates = r .certificates; cells = r .cells }) (h .shaped) a (h .shaped .blocks s (omega arith)) (h .shaped .certificates s (omega arith)) (h .shaped .cells s (omega arith))
 
 -- A sound ledger has a place for the own cells.
 pub sound-placed : (l : Ledger) → Sound l → Placed l
@@ -87,7 +91,7 @@ module _ (l : Ledger) (h : Sound l) (s : ℕ) (a : 1 ≤ s) (b : s ≤ lastSlot)
   sound-final x =
       let r : Row = rowAt l s in
       record {
-        shaped = shaped-row l s (record { blocks = r .blocks; timedOut = r .timedOut; final = x; clash = r .clash; card = r .card; cells = r .cells }) (h .shaped) b (h .shaped .blocks s (omega arith)) (h .shaped .cells s (omega arith));
+        shaped = shaped-row l s (record { blocks = r .blocks; timedOut = r .timedOut; final = x; clash = r .clash; card = r .card; certificates = r .certificates; cells = r .cells }) (h .shaped) b (h .shaped .blocks s (omega arith)) (h .shaped .certificates s (omega arith)) (h .shaped .cells s (omega arith));
         formed = well-formed (putFinal l s x) (formed-final l (h .shaped) (formed l (h .formed)) s a b x);
       }
 
@@ -95,7 +99,7 @@ module _ (l : Ledger) (h : Sound l) (s : ℕ) (a : 1 ≤ s) (b : s ≤ lastSlot)
   sound-clash =
       let r : Row = rowAt l s in
       record {
-        shaped = shaped-row l s (record { blocks = r .blocks; timedOut = r .timedOut; final = r .final; clash = 1; card = r .card; cells = r .cells }) (h .shaped) b (h .shaped .blocks s (omega arith)) (h .shaped .cells s (omega arith));
+        shaped = shaped-row l s (record { blocks = r .blocks; timedOut = r .timedOut; final = r .final; clash = 1; card = r .card; certificates = r .certificates; cells = r .cells }) (h .shaped) b (h .shaped .blocks s (omega arith)) (h .shaped .certificates s (omega arith)) (h .shaped .cells s (omega arith));
         formed = well-formed (putClash l s) (formed-clash l (h .shaped) (formed l (h .formed)) s a b);
       }
 
@@ -105,6 +109,21 @@ module _ (l : Ledger) (h : Sound l) (s : ℕ) (a : 1 ≤ s) (b : s ≤ lastSlot)
         shaped = shaped-armed l s (h .shaped);
         formed = well-formed (putArmed l s) (formed-armed l (h .shaped) (formed l (h .formed)) s a b);
       }
+
+-- An accepted certificate is kept in its slot.
+pub sound-certificate : (l : Ledger) → Sound l → (c : Certificate) → CertificateFine l c → Sound (keepCertificate l c)
+unfolding keepCertificate
+sound-certificate l h c e =
+    let s : ℕ = c .slot in
+    let r : Row = rowAt l s in
+    let f = formed l (h .formed) in
+    let b = e .high in
+    let qs : List Kept = fillKept (kindFor l c) 0 (keptOf c) (r .certificates) in
+    record {
+      shaped = shaped-row l s (record { blocks = r .blocks; timedOut = r .timedOut; final = r .final; clash = r .clash; card = r .card; certificates = qs; cells = r .cells }) (h .shaped) b
+          (h .shaped .blocks s (omega arith)) (fill-long (kindFor l c) 0 (keptOf c) (r .certificates) ∙ h .shaped .certificates s (omega arith)) (h .shaped .cells s (omega arith));
+      formed = well-formed (putCertificates l s qs) (formed-certificates l (h .shaped) f s (e .low) b qs (fine-certificates l f c e));
+    }
 
 -- ---- no fourth own fallback
 

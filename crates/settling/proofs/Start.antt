@@ -7,16 +7,16 @@ use native.Mathlib.Omega.{arith}
 use lib.ListN.{length, getD, replicate, length-append, length-replicate, List·getD-append, getD-replicate}
 use lib.Dec.{leb, ltb}
 use borrow.Author.Tests.{not-false, leb-true, leb-false, le-ltb}
-use Rattle.rulebook.specs.declared.Input.{Input}
 use Rattle.rulebook.specs.declared.Refusal.the-variants as refusal
 use Rattle.rulebook.specs.declared.Verdict.the-variants.{Fine}
 use Rattle.rulebook.specs.Tools.{given, allTo}
 use Rattle.rulebook.specs.Weights.{mostNodes, placesFor, mostStake, lastSlot, windows, stakeIn, stakesFit, totalTo}
-use Rattle.rulebook.specs.Ledger.{Ledger, Row, none, noCell, noCard, mostBlocks, blankRow, noRow, places, rowAt, ownCell, allBlocks, fresh}
+use Rattle.rulebook.specs.Ledger.{Ledger, Row, none, noCell, noKept, noCard, mostBlocks, mostCertificates, blankRow, noRow, places, tableOf, rowAt, ownCell, allBlocks, fresh}
 use Rattle.rulebook.specs.Run.{mostRecords}
 use Rattle.rulebook.specs.Cards.{sameCard}
 use Rattle.rulebook.specs.Inputs.{startVerdict}
-use Rattle.rulebook.specs.WellFormed.{Shaped, inOrder, cellFits, cellBlank, cellsFit, keptFits, blocksApart, blocksFit, blockBlank, backs, ownFits, rowBlank}
+use Rattle.rulebook.specs.Taking.{Arrival}
+use Rattle.rulebook.specs.WellFormed.{Shaped, inOrder, cellFits, cellBlank, cellsFit, keptFits, blocksApart, blocksFit, blockBlank, eachKept, certificateFits, certificatesApart, certificatesFit, keptBlank, backs, ownFits, rowBlank}
 use Rattle.rulebook.proofs.PlaceLaws.{nodes-placed}
 use Rattle.rulebook.proofs.ToolLaws.{given-off, and-both, or-none, all-at, all-each, sum-same}
 use Rattle.recounting.proofs.Using.{recount-none}
@@ -48,6 +48,10 @@ blank-four : (p : ℕ) → length (blankRow p .blocks) ≡ mostBlocks
 unfolding blankRow
 blank-four p = refl
 
+blank-thirteen : (p : ℕ) → length (blankRow p .certificates) ≡ mostCertificates
+unfolding blankRow
+blank-thirteen p = refl
+
 blank-card : (p : ℕ) → blankRow p .card ≡ noCard
 unfolding blankRow
 blank-card p = refl
@@ -60,6 +64,10 @@ no-cell-blank : cellBlank noCell ≡ true
 unfolding cellBlank
 no-cell-blank = refl
 
+blank-certificates : (stakes : List ℕ) (s : ℕ) → certificatesFit stakes s (replicate mostCertificates noKept) ≡ true
+unfolding certificatesFit eachKept certificateFits certificatesApart given
+blank-certificates stakes s = refl
+
 blank-facts : (l : Ledger) (s p : ℕ) → RowFacts l s (blankRow p)
 unfolding blankRow blocksFit allBlocks blocksApart keptFits given inOrder
 blank-facts l s p =
@@ -67,6 +75,7 @@ blank-facts l s p =
       blocks = refl;
       timedOut = omega arith;
       clash = omega arith;
+      certificates = blank-certificates (tableOf l) s;
       cells = λ n a b. ap cellFits (blank-cell p n) ∙ no-cell-fits;
       beyond = λ n a b. ap cellBlank (blank-cell p n) ∙ no-cell-blank;
     }
@@ -77,7 +86,7 @@ unfolding ownFits backs
 own-blank l s e = rw e
 
 row-zero : (l : Ledger) (p : ℕ) → rowAt l 0 ≡ blankRow p → rowBlank l ≡ true
-unfolding rowBlank cellsFit blankRow allBlocks blockBlank sameCard
+unfolding rowBlank cellsFit blankRow allBlocks blockBlank sameCard eachKept keptBlank
 row-zero l p e =
     rw e
     (all-each (places l) (λ n. given (ltb n 0) (cellBlank (getD (blankRow p .cells) n noCell)) (λ _. cellFits (getD (blankRow p .cells) n noCell)))
@@ -153,6 +162,7 @@ module _ (stakes : List ℕ) (own genesis : ℕ) (e : startVerdict stakes own ge
         stakes = refl;
         rows = length-replicate (suc lastSlot) (blankRow p);
         blocks = λ s h. ap (λ (r : Row). length (r .blocks)) (getD-replicate (suc lastSlot) s (blankRow p) noRow h) ∙ blank-four p;
+        certificates = λ s h. ap (λ (r : Row). length (r .certificates)) (getD-replicate (suc lastSlot) s (blankRow p) noRow h) ∙ blank-thirteen p;
         cells = λ s h. ap (λ (r : Row). length (r .cells)) (getD-replicate (suc lastSlot) s (blankRow p) noRow h) ∙ blank-long p ∙ sym (fresh-formed .head .room);
       }
 
@@ -160,10 +170,10 @@ module _ (stakes : List ℕ) (own genesis : ℕ) (e : startVerdict stakes own ge
   pub fresh-sound : Sound (fresh stakes own genesis)
   fresh-sound = record { shaped = fresh-shaped; formed = well-formed (fresh stakes own genesis) fresh-formed }
 
-  -- It stays so, whatever it is fed, and makes at most 132 records.
-  pub start-sound : (is : List Input) → Sound (after (fresh stakes own genesis) is)
-  start-sound is = life-sound (fresh stakes own genesis) is fresh-sound
+  -- It stays so, whatever it is fed and handed, and makes at most 132 records.
+  pub start-sound : (cs : List Arrival) → Sound (after (fresh stakes own genesis) cs)
+  start-sound cs = life-sound (fresh stakes own genesis) cs fresh-sound
 
-  pub start-within : (is : List Input) → length (life (fresh stakes own genesis) is) ≤ mostRecords
-  start-within is =
-      omega (arith, life-paid (fresh stakes own genesis) is fresh-sound .spent, spare-most (fresh stakes own genesis))
+  pub start-within : (cs : List Arrival) → length (life (fresh stakes own genesis) cs) ≤ mostRecords
+  start-within cs =
+      omega (arith, life-paid (fresh stakes own genesis) cs fresh-sound .spent, spare-most (fresh stakes own genesis))

@@ -174,7 +174,7 @@ module _ (l : Ledger) (h : Shaped (places l) l) (s n : ℕ) (k : VoteKind) (x : 
   stored-cases P p q t i =
       let r : Row = rowAt l s in
       let c : Cell = withVote (cellAt l s n) k x in
-      row-cases l s (record { blocks = r .blocks; timedOut = r .timedOut; final = r .final; clash = r .clash; card = tallied (r .card) (changeOf l s n k x); cells = set (r .cells) n c }) (λ j y. P j i (getD (y .cells) i noCell)) t
+      row-cases l s (record { blocks = r .blocks; timedOut = r .timedOut; final = r .final; clash = r .clash; card = tallied (r .card) (changeOf l s n k x); certificates = r .certificates; cells = set (r .cells) n c }) (λ j y. P j i (getD (y .cells) i noCell)) t
       (omega (arith, h .rows))
       (cell-cases (λ j y. P s j y) r n c i (omega (arith, h .cells s (omega arith))) p (λ _. q s i)) (λ _. q t i)
 

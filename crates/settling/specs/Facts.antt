@@ -6,9 +6,9 @@ use lib.ListN.{getD}
 use lib.Dec.{eqb}
 use Rattle.rulebook.specs.declared.Cell.{Cell}
 use Rattle.rulebook.specs.Weights.{mostNodes, placesFor, mostStake, lastSlot, windows, stakeIn, totalTo}
-use Rattle.rulebook.specs.Ledger.{Ledger, Row, none, noCell, places, rowAt}
+use Rattle.rulebook.specs.Ledger.{Ledger, Row, none, noCell, places, tableOf, rowAt}
 use Rattle.rulebook.specs.Cards.{CardsAgree}
-use Rattle.rulebook.specs.WellFormed.{Shaped, inOrder, cellFits, cellBlank, blocksFit, ownFits, rowBlank, wellFormed}
+use Rattle.rulebook.specs.WellFormed.{Shaped, inOrder, cellFits, cellBlank, blocksFit, certificatesFit, ownFits, rowBlank, wellFormed}
 
 -- A cell in range.
 pub record CellFacts (c : Cell) : Type 0 where
@@ -37,6 +37,7 @@ pub record RowFacts (l : Ledger) (s : ℕ) (r : Row) : Type 0 where
   pub blocks : blocksFit l s (r .blocks) ≡ true
   pub timedOut : r .timedOut ≤ 1
   pub clash : r .clash ≤ 1
+  pub certificates : certificatesFit (tableOf l) s (r .certificates) ≡ true
   pub cells : (n : ℕ) → n < places l → n < l .count → cellFits (getD (r .cells) n noCell) ≡ true
   pub beyond : (n : ℕ) → n < places l → l .count ≤ n → cellBlank (getD (r .cells) n noCell) ≡ true
 

@@ -8,13 +8,19 @@ use Rattle.rulebook.specs.declared.Vote.{Vote}
 use Rattle.rulebook.specs.declared.VoteKind.{VoteKind}
 use Rattle.rulebook.specs.declared.VoteKind.the-variants as vote
 use Rattle.rulebook.specs.declared.Place.the-variants.{Free}
-use Rattle.rulebook.specs.declared.Input.{Input}
+use Rattle.rulebook.specs.declared.CertificateKind.{CertificateKind}
+use Rattle.rulebook.specs.declared.Verdict.the-variants.{Fine}
+use Rattle.rulebook.specs.Certificates.{Certificate}
+use Rattle.rulebook.specs.PaperNumbers.{kindIn}
 use Rattle.rulebook.specs.Weights.{lastSlot}
-use Rattle.rulebook.specs.Ledger.{Ledger, none, places, rowAt, cellAt, ownCell, isArmed, blocksAt, someBlock, isFree, hasNumber, putArmed, putFinal, putClash}
+use Rattle.rulebook.specs.Ledger.{Ledger, none, places, tableOf, rowAt, cellAt, ownCell, isArmed, blocksAt, someBlock, isFree, hasNumber, certificatesAt, putArmed, putFinal, putClash}
+use Rattle.rulebook.specs.Pool.{someKept}
 use Rattle.rulebook.specs.Votes.{placeOf}
 use Rattle.rulebook.specs.Rules.{Record, State, report, cast, fallbackWeights}
 use Rattle.rulebook.specs.Run.{made, ruleAt, runFor, run}
-use Rattle.rulebook.specs.Inputs.{isOther, misfits, badParent, feed}
+use Rattle.rulebook.specs.Inputs.{isOther, misfits, badParent}
+use Rattle.rulebook.specs.Checker.{judgeKind}
+use Rattle.rulebook.specs.Taking.{hasRoom, isRepeat, Arrival, served}
 use Rattle.rulebook.specs.WellFormed.{Shaped}
 use Rattle.settling.specs.Spare.{spare}
 use Rattle.settling.specs.Facts.{Sound}
@@ -89,7 +95,7 @@ pub record Running (o p : State) : Type 0 where
   pub came : Came o p
   pub fuel : spare (p .ledger) < left
 
--- What an accepted vote, block or timeout has passed.
+-- What an accepted vote, block, certificate or timeout has passed.
 pub record VoteFine (l : Ledger) (v : Vote) : Type 0 where
   pub kind : isOther (v .kind) ≡ false
   pub low : 1 ≤ v .slot .0
@@ -108,18 +114,29 @@ pub record BlockFine (l : Ledger) (s : ℕ) (b : Block) : Type 0 where
   pub apart : someBlock (hasNumber (b .number)) (blocksAt l s) ≡ false
   pub free : someBlock isFree (blocksAt l s) ≡ true
 
+-- The kind that the table gives a certificate.
+abbrev pub kindFor : Ledger → Certificate → CertificateKind
+kindFor l c = kindIn (l .count) (c .kind)
+
+pub record CertificateFine (l : Ledger) (c : Certificate) : Type 0 where
+  pub low : 1 ≤ c .slot
+  pub high : c .slot ≤ lastSlot
+  pub judged : judgeKind (tableOf l) (kindFor l c) c ≡ Fine
+  pub apart : someKept (isRepeat (kindFor l c) (c .block)) 0 (certificatesAt l (c .slot)) ≡ false
+  pub free : hasRoom (kindFor l c) 0 (certificatesAt l (c .slot)) ≡ true
+
 pub record TimeoutFine (l : Ledger) (s : ℕ) : Type 0 where
   pub low : 1 ≤ s
   pub high : s ≤ lastSlot
   pub armed : isArmed l s ≡ true
   pub free : none (rowAt l s .timedOut) ≡ true
 
--- The ledger after a list of inputs, fed one after the other.
-unfoldable pub after : Ledger → List Input → Ledger
+-- The ledger after all that arrives, one after the other.
+unfoldable pub after : Ledger → List Arrival → Ledger
 after l [] = l
-after l (i ∷ is) = after (feed l i .ledger) is
+after l (c ∷ cs) = after (served l c .ledger) cs
 
 -- The records that are made by then, in their order.
-unfoldable pub life : Ledger → List Input → List Record
+unfoldable pub life : Ledger → List Arrival → List Record
 life l [] = []
-life l (i ∷ is) = feed l i .records ++ life (feed l i .ledger) is
+life l (c ∷ cs) = served l c .records ++ life (served l c .ledger) cs

@@ -14,9 +14,10 @@ use Rattle.rulebook.specs.Weights.{lastSlot, slotOk}
 use Rattle.rulebook.specs.Ledger.{Ledger, Row, none, blankRow, noRow, noCell, noBlock, mostBlocks, places, rowAt, cellAt, blocksAt}
 use Rattle.rulebook.specs.WellFormed.{cellBlank}
 use Rattle.rulebook.proofs.ToolLaws.{by-test, given-on, given-off, and-both, both-and, part-le, sum-le, sum-const, some-none, some-more}
-use Rattle.record.specs.Layout.{isLong, Long, ledgerOf}
+use Rattle.record.specs.Layout.{Long, ledgerOf}
+use Rattle.record.specs.Spelling.{isSpelled}
 use Rattle.record.specs.Setting.{noLedger}
-use Rattle.record.proofs.Places.{long-true}
+use Rattle.record.proofs.Spelled.{spelled-long}
 use Rattle.record.proofs.Reading.{ledger-shaped}
 use Rattle.soundness.specs.Sound.{soundWords}
 use Rattle.soundness.proofs.Laws.{sound-head}
@@ -66,12 +67,12 @@ none-row : (s : ℕ) → rowAt (noLedger 0) s ≡ noRow
 unfolding noLedger noRow
 none-row s = getD-same (suc lastSlot) s noRow
 
-module _ (ws : List ℕ) (long : Bool) (e : long ≡ isLong ws) where
+module _ (ws : List ℕ) (long : Bool) (e : long ≡ isSpelled ws) where
   module _ (q : not long ≡ true) where
     -- words that are not as many as a record's
     pub short-ledger : ledgerIn ws ≡ noLedger 0
     unfolding ledgerIn
-    short-ledger = given-off (isLong ws) (noLedger 0) (λ _. ledgerOf ws) (sym e ∙ not-true long q)
+    short-ledger = given-off (isSpelled ws) (noLedger 0) (λ _. ledgerOf ws) (sym e ∙ not-true long q)
 
     pub short-row : (s : ℕ) → noRow ≡ rowAt (ledgerIn ws) s
     short-row s = sym (ap (λ (l : Ledger). rowAt l s) short-ledger ∙ none-row s)
@@ -85,10 +86,10 @@ module _ (ws : List ℕ) (long : Bool) (e : long ≡ isLong ws) where
   -- words of a record's length
   pub whole-ledger : not long ≡ false → ledgerOf ws ≡ ledgerIn ws
   unfolding ledgerIn
-  whole-ledger q = sym (given-on (isLong ws) (noLedger 0) (λ _. ledgerOf ws) (sym e ∙ not-false long q))
+  whole-ledger q = sym (given-on (isSpelled ws) (noLedger 0) (λ _. ledgerOf ws) (sym e ∙ not-false long q))
 
   pub whole-long : not long ≡ false → Long ws
-  whole-long q = long-true ws (sym e ∙ not-false long q)
+  whole-long q = spelled-long ws (sym e ∙ not-false long q)
 
   module _ (q : not long ≡ false) where
     -- slots and nodes past the last

@@ -4,19 +4,20 @@ use mathlib.Core.List.{List}
 use Prim.Native.Nat.{ℕ, _≤_}
 use Rattle.rulebook.specs.Tools.{given, someTo}
 use Rattle.rulebook.specs.Weights.{mostNodes, slotOk}
-use Rattle.rulebook.specs.Ledger.{Ledger, none, rowAt, cellAt, isArmed, firstBlock}
-use Rattle.rulebook.specs.WellFormed.{cellBlank}
-use Rattle.record.specs.Layout.{isLong, ledgerOf}
+use Rattle.rulebook.specs.Ledger.{Ledger, none, rowAt, cellAt, isArmed, firstBlock, certificatesAt}
+use Rattle.rulebook.specs.WellFormed.{cellBlank, eachKept, keptBlank}
+use Rattle.record.specs.Layout.{ledgerOf}
+use Rattle.record.specs.Spelling.{isSpelled}
 use Rattle.record.specs.Setting.{noLedger}
 use Rattle.pool.specs.Weighing.{Weighing}
 
 -- The ledger that the words hold; one with nothing in it where no record has so many words.
 unfoldable pub ledgerIn : List ℕ → Ledger
-ledgerIn ws = given (isLong ws) (noLedger 0) (λ _. ledgerOf ws)
+ledgerIn ws = given (isSpelled ws) (noLedger 0) (λ _. ledgerOf ws)
 
 -- The slot's window is armed; none is where no record has so many words, or the slot is not one of 1 to 16.
 unfoldable pub armedShown : List ℕ → ℕ → Bool
-armedShown ws s = given (slotOk s && isLong ws) false (λ _. isArmed (ledgerOf ws) s)
+armedShown ws s = given (slotOk s && isSpelled ws) false (λ _. isArmed (ledgerOf ws) s)
 
 -- A vote of node n is stored in slot s.
 abbrev pub voted : Ledger → ℕ → ℕ → Bool
@@ -26,11 +27,16 @@ voted l s n = not (cellBlank (cellAt l s n))
 unfoldable pub hasVotes : Ledger → ℕ → Bool
 hasVotes l s = someTo (l .count) (voted l s)
 
--- Anything is kept of slot s: a block (the first place is filled first), a timeout, a final block, a vote.
+-- A certificate is kept in slot s: not every place for one is blank.
+unfoldable pub hasCertificates : Ledger → ℕ → Bool
+hasCertificates l s = not (eachKept (λ i q. keptBlank q) 0 (certificatesAt l s))
+
+-- Anything is kept of slot s: a block (the first place is filled first), a timeout, a final block, a vote, a certificate.
 unfoldable pub touched : Ledger → ℕ → Bool
 touched l s =
     let r = rowAt l s in
-    not (none (firstBlock l s .number)) || ((not (none (r .timedOut)) || not (none (r .final))) || hasVotes l s)
+    not (none (firstBlock l s .number))
+    || ((not (none (r .timedOut)) || not (none (r .final))) || (hasVotes l s || hasCertificates l s))
 
 -- The slot can be weighed, and the nodes are few enough to count what they name.
 pub record Counting (ws : List ℕ) (s : ℕ) : Type 0 where

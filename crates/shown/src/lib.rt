@@ -7,7 +7,8 @@ ghost use Rattle.rulebook.specs.Tools.{part};
 ghost use Rattle.rulebook.specs.Weights.{isLarge};
 ghost use Rattle.rulebook.specs.Ledger.{none, noBlock, rowAt, cellAt, blocksAt};
 ghost use Rattle.rulebook.specs.WellFormed.{cellBlank};
-ghost use Rattle.shown.specs.Shown.{ledgerIn, armedShown, hasVotes, touched};
+ghost use Rattle.shown.specs.Shown.{ledgerIn, armedShown, hasVotes, hasCertificates, touched};
+use kept_certificates::nothing_kept;
 use kinds::slot_ok;
 use record::LAST_SLOT;
 use record::MOST_BLOCKS;
@@ -206,6 +207,19 @@ fn has_votes(rec: &[u64], s: Slot) -> bool
     some
 }
 
+// Whether a certificate is kept in a slot.
+pub fn has_certificates(rec: &[u64], s: Slot) -> bool
+    ensures { λ r. ⌜ r ≡ hasCertificates (ledgerIn (now (rec .entry))) (s .0) ⌝ }
+{
+    if !is_long(rec) {
+        return false;
+    }
+    if s.0 > LAST_SLOT {
+        return false;
+    }
+    !nothing_kept(rec, s)
+}
+
 // Whether anything is kept of a slot.
 pub fn touched(rec: &[u64], s: Slot) -> bool
     ensures { λ r. ⌜ r ≡ touched (ledgerIn (now (rec .entry))) (s .0) ⌝ }
@@ -213,7 +227,8 @@ pub fn touched(rec: &[u64], s: Slot) -> bool
     let b = kept_of(rec, s, 0);
     let marked = timed_out_in(rec, s) | (final_of(rec, s) != 0);
     let voted = has_votes(rec, s);
-    (b.number != 0) | (marked | voted)
+    let certified = has_certificates(rec, s);
+    (b.number != 0) | (marked | (voted | certified))
 }
 
 // ---- sums

@@ -21,9 +21,13 @@ weightShown ws s who = given (slotOk s && soundWords ws) 0 (λ _. weigh (ledgerO
 unfoldable pub heldShown : List ℕ → CertificateKind → ℕ → ℕ → Bool
 heldShown ws k s b = given (slotOk s && soundWords ws) false (λ _. held (ledgerOf ws) k s b)
 
--- What is missing in slot s to a certificate; likewise, 0.
+-- What is missing in slot s to a certificate by the stored votes; likewise, 0.
 unfoldable pub missingShown : List ℕ → CertificateKind → ℕ → ℕ → ℕ
 missingShown ws k s b = given (slotOk s && soundWords ws) 0 (λ _. missingTo (ledgerOf ws) k s b)
+
+-- What is missing to a certificate that is not held; nothing is to one that is kept, whatever the votes weigh.
+unfoldable pub shortOf : List ℕ → CertificateKind → ℕ → ℕ → ℕ
+shortOf ws k s b = choose (heldShown ws k s b) 0 (missingShown ws k s b)
 
 -- The next certificate that a block could reach: notar-fallback, once that is held notar, and then fast-final.
 unfoldable pub nextFor : List ℕ → ℕ → ℕ → CertificateKind

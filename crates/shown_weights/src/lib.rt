@@ -1,7 +1,7 @@
-// What the votes of a slot weigh, which certificates they make and what is missing to one. Every function takes any words and any
+// What the votes of a slot weigh, which certificates it holds and what is missing to one. Every function takes any words and any
 // slot; only a sound record has weights and certificates.
 ghost use mathlib.Core.Path.{_≡_};
-ghost use Rattle.shown_weights.specs.Weights.{weightShown, heldShown, missingShown, nextFor, percent};
+ghost use Rattle.shown_weights.specs.Weights.{weightShown, heldShown, missingShown, shortOf, nextFor, percent};
 use kinds::slot_ok;
 use rulebook::CertificateKind;
 use rulebook::Slot;
@@ -38,7 +38,7 @@ pub fn held_in(rec: &[u64], s: Slot, kind: CertificateKind, b: u64) -> bool
     pool::held(rec, kind, s, b)
 }
 
-// What is missing in a slot to a certificate.
+// What is missing in a slot to a certificate by the stored votes.
 pub fn missing_in(rec: &[u64], s: Slot, kind: CertificateKind, b: u64) -> Weight
     ensures { λ r. ⌜ r .0 ≡ missingShown (now (rec .entry)) kind (s .0) b ⌝ }
 {
@@ -49,6 +49,16 @@ pub fn missing_in(rec: &[u64], s: Slot, kind: CertificateKind, b: u64) -> Weight
         return Weight(0);
     }
     pool::missing_to(rec, kind, s, b)
+}
+
+// What is missing in a slot to a certificate that is not held.
+pub fn short_of(rec: &[u64], s: Slot, kind: CertificateKind, b: u64) -> Weight
+    ensures { λ r. ⌜ r .0 ≡ shortOf (now (rec .entry)) kind (s .0) b ⌝ }
+{
+    if held_in(rec, s, kind, b) {
+        return Weight(0);
+    }
+    missing_in(rec, s, kind, b)
 }
 
 // The next certificate that a block could reach.

@@ -1,2 +1,3 @@
 -- Laws that the proofs of the signers cite.
 pub mod Signers
+pub mod KeptMasks

@@ -14,7 +14,7 @@ use Rattle.rulebook.specs.Certificates.{Certificate}
 use Rattle.rulebook.specs.Ledger.{Ledger, cellAt}
 use Rattle.rulebook.specs.Packets.{maskOf, joined}
 use Rattle.rulebook.specs.PaperNumbers.{numberIn}
-use Rattle.rulebook.specs.Writers.{certificateFor}
+use Rattle.rulebook.specs.Writers.{votedFor}
 use Rattle.rulebook.proofs.MaskLaws.{mask-in, mask-out}
 use Rattle.rulebook.proofs.WordLaws.{joined-built}
 use Rattle.stakes.proofs.Laws.{one-up}
@@ -63,6 +63,6 @@ filled-done p nodes w words i f h l = joined-built words p nodes (omega (arith, 
 -- The kind's number and the two masks of all nodes make it.
 pub named-all : (l : Ledger) (k : CertificateKind) (s b : ℕ) {nodes n x y : ℕ} → nodes ≡ l .count → n ≡ numberIn nodes k
     → x ≡ maskOf (λ i. inMask mask.A k b (cellAt l s i)) nodes → y ≡ maskOf (λ i. inMask mask.B k b (cellAt l s i)) nodes
-    → _≡_ {A = Certificate} (record { kind = n; slot = s; block = b; maska = x; maskb = y }) (certificateFor l k s b)
-unfolding certificateFor inMask
+    → _≡_ {A = Certificate} (record { kind = n; slot = s; block = b; maska = x; maskb = y }) (votedFor l k s b)
+unfolding votedFor inMask
 named-all l k s b c n x y = rw (n, x, y, c)

@@ -1,13 +1,17 @@
-// The signers that a record has stored, as masks in lent words, and the certificate that names them.
+// The signers that a certificate names: those that a record has stored, as masks in lent words and with the certificate, or those of
+// a kept certificate, by its place.
 ghost use mathlib.Core.Path.{_≡_};
 ghost use Prim.Native.Nat.{_+_, _-_, min};
-ghost use Rattle.rulebook.specs.Ledger.{cellAt};
+ghost use Rattle.rulebook.specs.Ledger.{cellAt, certificatesAt, keptAt};
 ghost use Rattle.rulebook.specs.Packets.{maskOf, joined, certificateOf};
-ghost use Rattle.rulebook.specs.Writers.{inA, inB, certificateFor};
-ghost use Rattle.record.specs.Layout.{ledgerOf};
+ghost use Rattle.rulebook.specs.Writers.{inA, inB, votedFor, keptFor};
+ghost use Rattle.record.specs.Layout.{InSlot, ledgerOf};
 ghost use Rattle.signers.specs.Masks.{inMask, Signing, Wide, Naming};
 use cells::has_fallback;
+use kept_places::Sought;
+use kept_places::first_place;
 use kinds::number_in;
+use record::MOST_CERTIFICATES;
 use record::count;
 use record::load_cell;
 use rulebook::Cell;
@@ -125,7 +129,7 @@ pub fn certificate_for(
     b: &mut [u64],
 ) -> Heading
     requires { ⌜ Naming (now rec) (s .0) (now a) (now b) ⌝ }
-    ensures { λ r. ⌜ certificateOf r (now (a .exit)) (now (b .exit)) ≡ certificateFor (ledgerOf (now (rec .entry))) kind (s .0) block ⌝ }
+    ensures { λ r. ⌜ certificateOf r (now (a .exit)) (now (b .exit)) ≡ votedFor (ledgerOf (now (rec .entry))) kind (s .0) block ⌝ }
 {
     let nodes = count(rec);
     signers_in(rec, nodes, Mask::A, kind, s, block, a);
@@ -135,4 +139,21 @@ pub fn certificate_for(
         slot: s.0 as u64,
         block,
     }
+}
+
+// The place of the masks that a certificate gets where the stored votes do not reach it: those of the kind asked for, else of a kept
+// 2, else of a kept 1; where none is kept, past the last place.
+pub fn kept_place(rec: &[u64], kind: CertificateKind, s: Slot, block: u64) -> usize
+    requires { ⌜ InSlot (now rec) (s .0) ⌝ }
+    ensures { λ r. ⌜ keptAt (ledgerOf (now (rec .entry))) (s .0) r ≡ keptFor kind block (certificatesAt (ledgerOf (now (rec .entry))) (s .0)) ⌝ }
+{
+    let asked = first_place(rec, s, Sought::Same(kind, block));
+    if asked < MOST_CERTIFICATES {
+        return asked;
+    }
+    let notar = first_place(rec, s, Sought::Same(CertificateKind::Notar, block));
+    if notar < MOST_CERTIFICATES {
+        return notar;
+    }
+    first_place(rec, s, Sought::Same(CertificateKind::FastFinal, block))
 }

@@ -5,18 +5,18 @@ use mathlib.Core.List.{List}
 use Prim.Native.Nat.{ℕ, suc, _+_, _-_, _<_, _≤_}
 use native.Mathlib.Omega.{arith}
 use lib.ListN.{length, getD, take, List·getD-eq-default}
-use lib.Seq.{getD-take, length-take-le}
 use lib.Dec.{eqb, leb, ltb}
 use borrow.Author.Tests.{leb-true, eq-eqb, ne-eqb, lt-ltb}
-use Rattle.rulebook.specs.Tools.{given, allTo, sumTo}
+use Rattle.rulebook.specs.Tools.{given, allTo}
 use Rattle.rulebook.specs.Weights.{mostNodes, mostStake, lastSlot, stakeIn, totalTo, stakesFit}
 use Rattle.rulebook.specs.declared.Block.{Block}
 use Rattle.rulebook.specs.declared.Cell.{Cell}
-use Rattle.rulebook.specs.Ledger.{Ledger, noBlock, mostBlocks, places, cellAt, ownCell, blocksAt, allBlocks, rowAt}
+use Rattle.rulebook.specs.Ledger.{Ledger, noBlock, mostBlocks, places, cellAt, ownCell, blocksAt, allBlocks, rowAt, certificatesAt}
+use Rattle.rulebook.specs.Ledger as ledgers
 use Rattle.rulebook.specs.Rules.{fallbackWeights}
 use Rattle.rulebook.specs.Cards.{CardsAgree, recount}
-use Rattle.rulebook.specs.WellFormed.{flag, cellFits, cellBlank, cellsFit, keptFits, blocksFit, backs, ownFits, rowFits, cardFits, rowBlank, headFits, wellFormed}
-use Rattle.rulebook.proofs.ToolLaws.{given-on, given-off, and-both, both-and, by-test, true-not-false, same-test, all-at, all-each, all-more, all-same, sum-same}
+use Rattle.rulebook.specs.WellFormed.{flag, cellFits, cellBlank, cellsFit, keptFits, blocksFit, certificatesFit, backs, ownFits, rowFits, cardFits, rowBlank, headFits, wellFormed}
+use Rattle.rulebook.proofs.ToolLaws.{given-on, given-off, given-both, and-both, both-and, by-test, true-not-false, same-test, all-at, all-each, all-more, all-same}
 use Rattle.rulebook.proofs.PlaceLaws.{placed-each}
 use Rattle.recounting.proofs.Using.{same-card}
 use Rattle.stakes.specs.declared.StakeTable.{StakeTable}
@@ -24,14 +24,16 @@ use Rattle.stakes.specs.declared.Made.{Made}
 use Rattle.stakes.specs.Table.{tableOf, madeOf}
 use Rattle.stakes.proofs.Laws.{made-fits, made-table}
 use Rattle.settling.specs.Facts.{HeadFacts, Sound}
-use Rattle.settling.proofs.FactLaws.{given-both, both-given, cell-facts, head-facts, formed, count-placed}
-use Rattle.record.specs.Layout.{isLong, Long, ledgerOf, Counted}
+use Rattle.settling.proofs.FactLaws.{both-given, cell-facts, head-facts, formed, count-placed}
+use Rattle.record.specs.Layout.{Long, ledgerOf, Counted}
+use Rattle.record.specs.Spelling.{isSpelled}
 use Rattle.record.specs.Tabled.{Tabled}
 use Rattle.record.specs.BlockPlaces.{behind}
-use Rattle.record.proofs.Places.{long-true}
 use Rattle.record.proofs.Reading.{ledger-shaped}
 use Rattle.record.proofs.BlockPlaces.{all-places, both-places}
+use Rattle.record.proofs.Spelled.{spelled-long}
 use Rattle.storing.proofs.Laws.{head-tabled}
+use Rattle.kept_audit.proofs.Laws.{front-long, front-stake, front-total}
 use Rattle.soundness.specs.Sound.{rowStands, soundWords, Headed, Standing, Backing}
 use Rattle.soundness.proofs.Empty.{behind-none}
 
@@ -65,27 +67,15 @@ module _ (ws : List ℕ) (s : ℕ) (h : s < suc lastSlot) (n : ℕ) (ok : Bool) 
 -- ---- the stakes in front of the others
 
 module _ (xs : List ℕ) (m : ℕ) (h : m ≤ length xs) where
-  front-long : length (take m xs) ≡ m
-  front-long = length-take-le m xs h
-
-  front-stake : (n : ℕ) → n < m → stakeIn (take m xs) n ≡ stakeIn xs n
-  front-stake n l = getD-take m xs n 0 l
-
-  pub front-total : totalTo (take m xs) (length (take m xs)) ≡ totalTo xs m
-  unfolding totalTo
-  front-total =
-      ap (λ (k : ℕ). sumTo k (λ n. stakeIn (take m xs) n)) front-long
-      ∙ sum-same m (λ n. stakeIn (take m xs) n) (λ n. stakeIn xs n) (λ i l. front-stake i l)
-
   front-each : allTo (length (take m xs)) (λ n. leb 1 (stakeIn (take m xs) n)) ≡ allTo m (λ n. leb 1 (stakeIn xs n))
   front-each =
-      ap (λ (k : ℕ). allTo k (λ n. leb 1 (stakeIn (take m xs) n))) front-long
-      ∙ all-same m (λ n. leb 1 (stakeIn (take m xs) n)) (λ n. leb 1 (stakeIn xs n)) (λ i l. ap (leb 1) (front-stake i l))
+      ap (λ (k : ℕ). allTo k (λ n. leb 1 (stakeIn (take m xs) n))) (front-long xs m h)
+      ∙ all-same m (λ n. leb 1 (stakeIn (take m xs) n)) (λ n. leb 1 (stakeIn xs n)) (λ i l. ap (leb 1) (front-stake xs m h i l))
 
   pub front-fits : stakesFit (take m xs) (length (take m xs)) ≡ stakesFit xs m
   unfolding stakesFit
   front-fits =
-      λ i. (leb 1 (front-long i) && leb (front-long i) mostNodes) && (front-each i && leb (front-total i) mostStake)
+      λ i. (leb 1 (front-long xs m h i) && leb (front-long xs m h i) mostNodes) && (front-each i && leb (front-total xs m h i) mostStake)
 
 pub table-sum : (ws : List ℕ) → tableOf ws .total .0 ≡ totalTo ws (length ws)
 unfolding tableOf
@@ -154,38 +144,50 @@ abbrev pub owned : Ledger → Bool
 owned l = allTo lastSlot (λ i. ownFits l (suc i))
 
 -- Cells and card are asked together, the own fallbacks last.
-own-last : (k m c d o : Bool) → ((k && (m && (c && o))) && d) ≡ ((k && (m && (c && d))) && o)
-own-last false m c d o = refl
-own-last true false c d o = refl
-own-last true true false d o = refl
-own-last true true true true true = refl
-own-last true true true true false = refl
-own-last true true true false true = refl
-own-last true true true false false = refl
+own-last : (k m q c d o : Bool) → ((k && (m && (q && (c && o)))) && d) ≡ ((k && (m && (q && (c && d)))) && o)
+own-last false m q c d o = refl
+own-last true false q c d o = refl
+own-last true true false c d o = refl
+own-last true true true false d o = refl
+own-last true true true true true true = refl
+own-last true true true true true false = refl
+own-last true true true true false true = refl
+own-last true true true true false false = refl
 
 and-more : (a b c : Bool) → (a && (b && c)) ≡ ((a && b) && c)
 and-more true b c = refl
 and-more false b c = refl
 
--- A row by its blocks and marks, then its votes.
+-- A row by its blocks and marks, then its kept certificates, then its votes.
 module _ (l : Ledger) (s : ℕ) (kept : Bool) (x y : ℕ) (ek : kept ≡ blocksFit l s (blocksAt l s)) (ex : x ≡ rowAt l s .timedOut) (ey : y ≡ rowAt l s .clash) where
+  abbrev judged : Bool
+  judged = certificatesFit (ledgers.tableOf l) s (certificatesAt l s)
+
   abbrev voted : Bool
   voted = cellsFit l s (l .count) && cardFits l s
 
-  row-is : rowStands l s ≡ ((kept && (flag x && flag y)) && voted)
+  row-is : rowStands l s ≡ ((kept && (flag x && flag y)) && (judged && voted))
   unfolding rowStands
-  row-is = (λ i. sym ek i && ((flag (sym ex i) && flag (sym ey i)) && voted)) ∙ and-more kept (flag x && flag y) voted
+  row-is = (λ i. sym ek i && ((flag (sym ex i) && flag (sym ey i)) && (judged && voted))) ∙ and-more kept (flag x && flag y) (judged && voted)
 
   pub row-off : (kept && (flag x && flag y)) ≡ false → false ≡ rowStands l s
-  row-off e = sym (row-is ∙ ap (λ (t : Bool). t && voted) e)
+  row-off e = sym (row-is ∙ ap (λ (t : Bool). t && (judged && voted)) e)
 
-  pub row-on : (kept && (flag x && flag y)) ≡ true → voted ≡ rowStands l s
-  row-on e = sym (row-is ∙ ap (λ (t : Bool). t && voted) e)
+  module _ (e : (kept && (flag x && flag y)) ≡ true) where
+    row-kept : rowStands l s ≡ (judged && voted)
+    row-kept = row-is ∙ ap (λ (t : Bool). t && (judged && voted)) e
+
+    pub row-unjudged : judged ≡ false → false ≡ rowStands l s
+    row-unjudged q = sym (row-kept ∙ ap (λ (t : Bool). t && voted) q)
+
+    pub row-on : judged ≡ true → voted ≡ rowStands l s
+    row-on q = sym (row-kept ∙ ap (λ (t : Bool). t && voted) q)
 
 row-split : (l : Ledger) (s : ℕ) → (rowFits l s && cardFits l s) ≡ (rowStands l s && ownFits l s)
 unfolding rowFits rowStands
 row-split l s =
-    own-last (blocksFit l s (blocksAt l s)) (flag (rowAt l s .timedOut) && flag (rowAt l s .clash)) (cellsFit l s (l .count)) (cardFits l s) (ownFits l s)
+    own-last (blocksFit l s (blocksAt l s)) (flag (rowAt l s .timedOut) && flag (rowAt l s .clash)) (certificatesFit (ledgers.tableOf l) s (certificatesAt l s)) (cellsFit l s (l .count)) (cardFits l s)
+    (ownFits l s)
 
 rows-split : (l : Ledger) → given (allTo lastSlot (λ i. rowFits l (suc i))) false (λ _. allTo lastSlot (λ i. cardFits l (suc i))) ≡ (standing l && owned l)
 rows-split l =
@@ -207,7 +209,7 @@ unfolding rowStands
 row-votes l s e =
     let p = and-both (blocksFit l s (blocksAt l s)) _ e in
     let q = and-both (flag (rowAt l s .timedOut) && flag (rowAt l s .clash)) _ (p .1) in
-    and-both (cellsFit l s (l .count)) (cardFits l s) (q .1)
+    and-both (cellsFit l s (l .count)) (cardFits l s) (and-both (certificatesFit (ledgers.tableOf l) s (certificatesAt l s)) _ (q .1) .1)
 
 module _ (ws : List ℕ) (h : Standing ws) where
   abbrev ledger : Ledger
@@ -240,14 +242,14 @@ module _ (ws : List ℕ) (h : Standing ws) where
 
 -- ---- the ways through the test
 
-pub short-unsound : (ws : List ℕ) → isLong ws ≡ false → false ≡ soundWords ws
+pub short-unsound : (ws : List ℕ) → isSpelled ws ≡ false → false ≡ soundWords ws
 unfolding soundWords
 short-unsound ws e = rw e
 
-module _ (ws : List ℕ) (long : isLong ws ≡ true) where
+module _ (ws : List ℕ) (spelled : isSpelled ws ≡ true) where
   pub test-whole : soundWords ws ≡ wellFormed (ledgerOf ws)
   unfolding soundWords
-  test-whole = rw long
+  test-whole = rw spelled
 
   pub head-unsound : headFits (ledgerOf ws) ≡ false → false ≡ soundWords ws
   unfolding wellFormed
@@ -261,7 +263,7 @@ module _ (ws : List ℕ) (long : isLong ws ≡ true) where
   pub rows-headed : headFits (ledgerOf ws) ≡ true → Headed ws
   rows-headed h =
       let f = head-facts (ledgerOf ws) h in
-      record { long = long-true ws long; table = head-tabled (ledgerOf ws) f; full = f .room ∙ placed-each (ledgerOf ws .count) (f .few) }
+      record { long = spelled-long ws spelled; table = head-tabled (ledgerOf ws) f; few = f .few; full = f .room ∙ placed-each (ledgerOf ws .count) (f .few) }
 
   pub rows-unsound : headFits (ledgerOf ws) ≡ true → rowBlank (ledgerOf ws) ≡ true → standing (ledgerOf ws) ≡ false → false ≡ soundWords ws
   unfolding wellFormed
@@ -278,13 +280,16 @@ module _ (ws : List ℕ) (long : isLong ws ≡ true) where
 
 -- ---- sound words
 
-pub sound-long : (ws : List ℕ) → soundWords ws ≡ true → Long ws
+pub words-spelled : (ws : List ℕ) → soundWords ws ≡ true → isSpelled ws ≡ true
 unfolding soundWords
-sound-long ws e = long-true ws (and-both (isLong ws) (wellFormed (ledgerOf ws)) e .0)
+words-spelled ws e = and-both (isSpelled ws) (wellFormed (ledgerOf ws)) e .0
+
+pub sound-long : (ws : List ℕ) → soundWords ws ≡ true → Long ws
+sound-long ws e = spelled-long ws (words-spelled ws e)
 
 pub sound-formed : (ws : List ℕ) → soundWords ws ≡ true → wellFormed (ledgerOf ws) ≡ true
 unfolding soundWords
-sound-formed ws e = and-both (isLong ws) (wellFormed (ledgerOf ws)) e .1
+sound-formed ws e = and-both (isSpelled ws) (wellFormed (ledgerOf ws)) e .1
 
 -- The ledger of sound words is sound.
 pub sound-ledger : (ws : List ℕ) → soundWords ws ≡ true → Sound (ledgerOf ws)

@@ -11,7 +11,7 @@ ghost use Rattle.rulebook.specs.Inputs.{badParent};
 ghost use Rattle.rulebook.specs.WellFormed.{flag, keptFits, blocksFit, backs, ownFits, blockBlank, rowBlank, headFits};
 ghost use Rattle.record.specs.Layout.{Long, InSlot, InBlocks, ledgerOf};
 ghost use Rattle.record.specs.BlockPlaces.{behind};
-ghost use Rattle.audit.specs.Summing.{Auditing};
+ghost use Rattle.kept_audit.specs.Judging.{Judging};
 ghost use Rattle.pool.specs.Weighing.{Carded};
 ghost use Rattle.soundness.specs.Sound.{rowStands, soundWords, Headed, Standing, Backing};
 ghost use Rattle.soundness.specs.Starting.{SetUp, StartOf};
@@ -20,6 +20,8 @@ use audit::cells_blank;
 use audit::in_order;
 use audit::votes_fit;
 use candidates::fallback_weights;
+use kept_audit::certificates_fit;
+use kept_certificates::nothing_kept;
 use record::LAST_SLOT;
 use record::MOST_BLOCKS;
 use record::WINDOWS;
@@ -111,12 +113,15 @@ fn blocks_fit(rec: &[u64], s: Slot) -> bool
 
 // The row of one of the slots 1 to 16, but for what its own fallbacks lean on.
 fn row_fits(rec: &[u64], s: Slot) -> bool
-    requires { ⌜ Auditing (now rec) (s .0) ⌝ }
+    requires { ⌜ Judging (now rec) (s .0) ⌝ }
     ensures { λ r. ⌜ r ≡ rowStands (ledgerOf (now (rec .entry))) (s .0) ⌝ }
 {
     let kept = blocks_fit(rec, s);
     let marked = (timeout_word(rec, s) <= 1) & (clash_word(rec, s) <= 1);
     if !(kept & marked) {
+        return false;
+    }
+    if !certificates_fit(rec, s) {
         return false;
     }
     votes_fit(rec, s)
@@ -152,8 +157,9 @@ fn row_blank(rec: &[u64]) -> bool
     let told = (final_block(rec, Slot(0)) == 0) & (clash_word(rec, Slot(0)) == 0);
     let marks = (timeout_word(rec, Slot(0)) == 0) & told;
     let card = card_blank(load_card(rec, Slot(0)));
+    let certificates = nothing_kept(rec, Slot(0));
     let cells = cells_blank(rec, Slot(0));
-    kept & (marks & (card & cells))
+    kept & (marks & (card & (certificates & cells)))
 }
 
 // The rows of slots 1 to 16, each by itself.

@@ -92,9 +92,9 @@ module _ (l : Ledger) (s n : ℕ) (k : VoteKind) (b : ℕ) (c : Cell) (w v : ℕ
 cell-then-card : (l : Ledger) (s n : ℕ) (c : Cell) (t : Tally) → s < length (l .rows) → putCard (putCell l s n c) s t ≡ putVote l s n c t
 cell-then-card l s n c t h =
     let r : Row = rowAt l s in
-    let one : Row = record { blocks = r .blocks; timedOut = r .timedOut; final = r .final; clash = r .clash; card = r .card; cells = set (r .cells) n c } in
+    let one : Row = record { blocks = r .blocks; timedOut = r .timedOut; final = r .final; clash = r .clash; card = r .card; certificates = r .certificates; cells = set (r .cells) n c } in
     let e : rowAt (putCell l s n c) s ≡ one = getD-set-same (l .rows) s one noRow h in
-    let f : Row → Row = λ x. record { blocks = x .blocks; timedOut = x .timedOut; final = x .final; clash = x .clash; card = t; cells = x .cells } in
+    let f : Row → Row = λ x. record { blocks = x .blocks; timedOut = x .timedOut; final = x .final; clash = x .clash; card = t; certificates = x .certificates; cells = x .cells } in
     let q : set (set (l .rows) s one) s (f (rowAt (putCell l s n c) s)) ≡ set (l .rows) s (f one) =
     ap (λ (x : Row). set (set (l .rows) s one) s (f x)) e ∙ set-set (l .rows) s one (f one) in
     λ i. record { count = l .count; total = l .total; own = l .own; genesis = l .genesis; armed = l .armed; stakes = l .stakes; rows = q i }

@@ -1,10 +1,12 @@
 // The commands that tell the node something: which of a line's numbers go to which function of the face, and how it is answered.
 ghost use Prim.Native.Nat.{_≤_};
 ghost use lib.ListN.{length};
+use hex::read_hex;
 use quointrowel::qr_block;
 use quointrowel::qr_look;
 use quointrowel::qr_record_words;
 use quointrowel::qr_start;
+use quointrowel::qr_take;
 use quointrowel::qr_timeout;
 use quointrowel::qr_tray;
 use quointrowel::qr_vote;
@@ -12,6 +14,7 @@ use replies::number;
 use replies::records;
 use replies::served;
 use script::read_numbers;
+use script::word_at;
 
 // How many of the words are the node's, by its count.
 pub fn node_words(rec: &[u64]) -> usize
@@ -153,4 +156,23 @@ fn tray_votes(page: &mut [u8], votes: &[u64], rec: &mut [u64], outbox: &mut [u64
     } else {
         served(page, n, made, outbox, &answers)
     }
+}
+
+// take HEX; a line has no room for more than 32,768 bytes of packet.
+pub fn take(page: &mut [u8], line: &[u8], at: usize, rec: &mut [u64], outbox: &mut [u64]) -> bool {
+    let w = word_at(line, at);
+    let from = w.from;
+    let to = w.to;
+    let mut bytes = [0u8; 32768];
+    let hex = read_hex(&line[from..to], &mut bytes);
+    let length = hex.size;
+    take_packet(page, &bytes[0..length], rec, outbox)
+}
+
+// The same, with the packet read.
+fn take_packet(page: &mut [u8], packet: &[u8], rec: &mut [u64], outbox: &mut [u64]) -> bool {
+    let mut made = 0;
+    let words = node_words(rec);
+    let n = qr_take(&mut rec[0..words], outbox, &mut made, packet);
+    records(page, n, made, outbox)
 }

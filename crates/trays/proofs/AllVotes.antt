@@ -14,12 +14,13 @@ use Rattle.rulebook.specs.Rules.{Record, State}
 use Rattle.rulebook.specs.Inputs.{Fed, feed}
 use Rattle.rulebook.specs.Messages.{voteOf}
 use Rattle.rulebook.specs.Writers.{over}
+use Rattle.rulebook.proofs.WordLaws.{Words}
 use Rattle.record.specs.Layout.{ledgerOf}
 use Rattle.record.specs.Spelling.{wordsOf}
-use Rattle.record.proofs.Spelled.{words-ledger}
+use Rattle.record.proofs.Spelled.{long-spelled}
 use Rattle.soundness.specs.Sound.{soundWords}
 use Rattle.soundness.proofs.Laws.{sound-long, sound-ledger}
-use Rattle.soundness.proofs.InStep.{spelled-sound, spelled-as}
+use Rattle.soundness.proofs.InStep.{sound-spelled, spelled-sound, spelled-as}
 use Rattle.settling.proofs.SpareLaws.{spare-most}
 use Rattle.settling.proofs.Soundness.{feed-sound}
 use Rattle.voter.specs.Outbox.{recordsIn, Past}
@@ -74,11 +75,11 @@ module _ {ws out votes places ws' out' places' : List ℕ} {made i : ℕ} (h : G
 
   module _ {ws'' out'' : List ℕ} {r : Taken} (v : Vote) (b : i < wholeVotes votes) (enough : wholeVotes votes ≤ length places)
       (is : v ≡ voteOf (getD votes (4 * i) 0) (getD votes (4 * i + 1) 0) (getD votes (4 * i + 2) 0) (getD votes (4 * i + 3) 0))
-      (s : VoteServed ws' out' made v ws'' out'' r) where
+      (s : VoteServed ws' out' made v ws'' out'' r) (w : Words ws'') where
     -- A fed node stays sound.
     still-sound : soundWords ws'' ≡ true
     still-sound =
-        ap soundWords (spelled-as ws'' (feed (ledgerOf ws') (input.Vote v) .ledger) (s .onward .live .long) (ap (λ (x : State). x .ledger) (s .onward .moved .is)))
+        ap soundWords (spelled-as ws'' (feed (ledgerOf ws') (input.Vote v) .ledger) (long-spelled ws'' w (s .onward .live .long)) (ap (λ (x : State). x .ledger) (s .onward .moved .is)))
         ∙ spelled-sound (feed (ledgerOf ws') (input.Vote v) .ledger) (feed-sound (ledgerOf ws') (sound-ledger ws' (h .serving .sound)) (input.Vote v))
 
     told : reverse (recordsIn out' made) ++ feed (ledgerOf ws') (input.Vote v) .records ≡ reverse (recordsIn out'' (r .made))
@@ -137,7 +138,7 @@ module _ {ws out votes places ws' out' places' : List ℕ} {made i : ℕ} (h : G
       sym (ap length ns ∙ length-take-le i places' (omega (arith, h .few, h .kept))) in
       record {
         many = many;
-        words = sym (words-ledger ws' (h .serving .live .long)) ∙ ap (λ (x : Served). wordsOf (x .ledger)) (sym e);
+        words = sym (sound-spelled ws' (h .serving .sound)) ∙ ap (λ (x : Served). wordsOf (x .ledger)) (sym e);
         outbox =
             outbox-spelled out out' made (h .boxes) (omega (arith, h .serving .live .budget, h .serving .live .room)) (h .rest)
             ∙ (λ j. spelled (sym rs j) ++ drop (3 * many j) out);

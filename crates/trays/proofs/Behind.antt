@@ -14,7 +14,7 @@ use Rattle.rulebook.specs.declared.CertificateKind.the-variants as certificate
 use Rattle.rulebook.specs.Tools.{given, lowest}
 use Rattle.rulebook.specs.Weights.{isFirst, firstOf, lastSlot}
 use Rattle.rulebook.specs.Ledger.{none, noInitial, rowAt, ownCell, blocksAt, firstBlock, isArmed}
-use Rattle.rulebook.specs.Pool.{held, names, someReady}
+use Rattle.rulebook.specs.Pool.{held, certifiable, someReady}
 use Rattle.rulebook.specs.Rules.{Record, State, stateOf, cast, castSkip, castSkips, ruleA, ruleB, ruleC, ruleD, ruleE, isNewcomer, tellClash, tellFinal, ruleF, findBlock, walkTo, walkStep, walkFor, ruleG, parentFits, mayFinal, mayFallback, fallbackBlock, castFallback, windowOpen, maySkipFallback, skipWeights, castSkipFallback}
 use Rattle.rulebook.specs.Run.{ruleAt, made, quiet, firstRule, firstSlot, scan, runFor, run}
 use Rattle.rulebook.proofs.ToolLaws.{same-test}
@@ -109,7 +109,7 @@ module _ (rs : List Record) where
     F-behind : (o : State) → ruleF (behind o) s ≡ behind (ruleF o s)
     unfolding ruleF
     F-behind o =
-        let b : ℕ = lowest (isNewcomer (o .ledger) s) (names (o .ledger) s) in
+        let b : ℕ = lowest (isNewcomer (o .ledger) s) (certifiable (o .ledger) s) in
         given-behind (not (none b)) o (behind o) _ _ refl (tell-behind o b)
 
   -- The walk, from what was told of the parent.

@@ -9,7 +9,6 @@ use lib.ListN.{length}
 use lib.Dec.{eqb, leb}
 use borrow.Author.Tests.{eq-eqb, le-leb}
 use Rattle.rulebook.specs.declared.Vote.{Vote}
-use Rattle.rulebook.specs.declared.Input.{Input}
 use Rattle.rulebook.specs.declared.Input.the-variants as input
 use Rattle.rulebook.specs.declared.Refusal.{Refusal}
 use Rattle.rulebook.specs.declared.Refusal.the-variants as refusal
@@ -20,17 +19,18 @@ use Rattle.rulebook.specs.Ledger.{Ledger}
 use Rattle.rulebook.specs.Rules.{Record}
 use Rattle.rulebook.specs.Run.{mostRecords}
 use Rattle.rulebook.specs.Inputs.{Fed, feed}
+use Rattle.rulebook.specs.Taking.{Arrival, ofInput, served}
 use Rattle.rulebook.specs.WellFormed.{wellFormed, outboxWords}
 use Rattle.rulebook.proofs.ToolLaws.{given-on, given-keeps, both-and}
 use Rattle.settling.specs.Facts.{Sound}
 use Rattle.settling.specs.Steps.{after, life}
 use Rattle.settling.proofs.FeedLaws.{step-fed}
-use Rattle.settling.proofs.Life.{paid-within, life-paid}
+use Rattle.settling.proofs.Life.{life-within}
 use Rattle.settling.proofs.Soundness.{feed-sound}
-use Rattle.record.specs.Layout.{isLong, ledgerOf}
-use Rattle.record.proofs.Places.{true-long}
+use Rattle.record.specs.Layout.{ledgerOf}
+use Rattle.record.specs.Spelling.{isSpelled}
 use Rattle.soundness.specs.Sound.{soundWords}
-use Rattle.soundness.proofs.Laws.{sound-long, sound-ledger}
+use Rattle.soundness.proofs.Laws.{words-spelled, sound-ledger}
 use Rattle.soundness.proofs.InStep.{spelled-sound}
 use Rattle.trays.specs.Trays.{votesIn, wholeVotes, Served, Tray, ahead, serve, singly, trayRefused, trayServed, tray}
 use Rattle.trays.specs.Lent.{Leaves, asFound, asServed, trayLeaves, TrayOf}
@@ -53,9 +53,12 @@ as-singly l room (v ∷ vs) h b =
     (as-singly (feed l (input.Vote v) .ledger) room vs (feed-sound l h (input.Vote v)) b)
     ∙ ap one (sym (step-fed l (input.Vote v) room (h .formed) b))
 
--- A tray's votes are inputs of the node's life.
-pub serve-life : (l : Ledger) (vs : List Vote) → (serve l vs .ledger ≡ after l (map input.Vote vs)) × (serve l vs .records ≡ life l (map input.Vote vs))
-unfolding serve after life
+-- A tray's votes arrive in the node's life.
+abbrev pub arrivals : List Vote → List Arrival
+arrivals vs = map (λ v. ofInput (input.Vote v)) vs
+
+pub serve-life : (l : Ledger) (vs : List Vote) → (serve l vs .ledger ≡ after l (arrivals vs)) × (serve l vs .records ≡ life l (arrivals vs))
+unfolding serve after life served
 serve-life l [] = (refl, refl)
 serve-life l (v ∷ vs) =
     let f : Fed = feed l (input.Vote v) in
@@ -65,8 +68,7 @@ serve-life l (v ∷ vs) =
 -- The life's total holds of a tray: 132 records at most, so that an outbox of 160 has room for all its votes together.
 pub tray-within : (l : Ledger) (vs : List Vote) → Sound l → length (serve l vs .records) ≤ mostRecords
 tray-within l vs h =
-    let is : List Input = map input.Vote vs in
-    omega (arith, ap length (serve-life l vs .1), paid-within l (after l is) (length (life l is)) (life-paid l is h))
+    omega (arith, ap length (serve-life l vs .1), life-within l (arrivals vs) h)
 
 -- What a tray's votes leave of a sound ledger is sound.
 pub serve-sound : (l : Ledger) (vs : List Vote) → Sound l → Sound (serve l vs .ledger)
@@ -90,8 +92,7 @@ unfolding trayLeaves
 tray-leaves-sound ws out votes places r left box told s h =
     let t : Tray = tray (ledgerOf ws) (length out) (length places) votes in
     let e : trayLeaves ws out votes places ≡ asServed t out places =
-    given-on (isLong ws) (asFound refusal.BadRecord ws out places) (λ _. asServed t out places)
-    (true-long ws (sound-long ws s)) in
+    given-on (isSpelled ws) (asFound refusal.BadRecord ws out places) (λ _. asServed t out places) (words-spelled ws s) in
     ap soundWords (h .words ∙ ap (λ (x : Leaves). x .words) e)
     ∙ spelled-sound (t .served .ledger) (tray-sound (ledgerOf ws) (length out) (length places) votes (sound-ledger ws s))
 

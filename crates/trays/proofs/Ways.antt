@@ -13,20 +13,16 @@ use Rattle.rulebook.specs.declared.StepAnswer.the-variants as answer
 use Rattle.rulebook.specs.Tools.{given}
 use Rattle.rulebook.specs.WellFormed.{wellFormed, outboxWords}
 use Rattle.rulebook.specs.Writers.{over}
-use Rattle.rulebook.proofs.ToolLaws.{given-on, given-off, by-test, true-not-false, both-and}
-use Rattle.record.specs.Layout.{isLong, Long, ledgerOf}
-use Rattle.record.proofs.Places.{long-true, true-long}
-use Rattle.record.proofs.Spelled.{words-ledger}
+use Rattle.rulebook.proofs.ToolLaws.{given-on, given-off, by-test, both-and}
+use Rattle.record.specs.Layout.{ledgerOf}
+use Rattle.record.specs.Spelling.{isSpelled}
+use Rattle.record.proofs.Spelled.{spelled-words}
 use Rattle.soundness.specs.Sound.{soundWords}
-use Rattle.soundness.proofs.Laws.{sound-long, sound-formed}
+use Rattle.soundness.proofs.Laws.{words-spelled, sound-formed}
 use Rattle.node.specs.Stepping.{spelled}
+use Rattle.node.proofs.StepLaws.{and-second}
 use Rattle.trays.specs.Trays.{votesIn, wholeVotes, Tray, serve, trayRefused, trayServed, tray}
 use Rattle.trays.specs.Lent.{Leaves, asFound, asServed, trayLeaves, TrayOf, AllServed}
-
--- The second of two tests, where the first passes.
-and-second : (a b : Bool) → a ≡ true → (a && b) ≡ false → b ≡ false
-and-second true b t e = e
-and-second false b t e = true-not-false false t refl
 
 second-off : (a b : Bool) → b ≡ false → (a && b) ≡ false
 second-off true b e = e
@@ -44,37 +40,37 @@ tray-of f e a b c d =
     }
 
 module _ (ws out votes places : List ℕ) where
-  leaves-long : Long ws → asServed (tray (ledgerOf ws) (length out) (length places) votes) out places ≡ trayLeaves ws out votes places
+  leaves-spelled : isSpelled ws ≡ true → asServed (tray (ledgerOf ws) (length out) (length places) votes) out places ≡ trayLeaves ws out votes places
   unfolding trayLeaves
-  leaves-long e =
-      sym (given-on (isLong ws) (asFound refusal.BadRecord ws out places)
-      (λ _. asServed (tray (ledgerOf ws) (length out) (length places) votes) out places) (true-long ws e))
+  leaves-spelled e =
+      sym (given-on (isSpelled ws) (asFound refusal.BadRecord ws out places)
+      (λ _. asServed (tray (ledgerOf ws) (length out) (length places) votes) out places) e)
 
-  leaves-short : isLong ws ≡ false → asFound refusal.BadRecord ws out places ≡ trayLeaves ws out votes places
+  leaves-none : isSpelled ws ≡ false → asFound refusal.BadRecord ws out places ≡ trayLeaves ws out votes places
   unfolding trayLeaves
-  leaves-short e =
-      sym (given-off (isLong ws) (asFound refusal.BadRecord ws out places)
+  leaves-none e =
+      sym (given-off (isSpelled ws) (asFound refusal.BadRecord ws out places)
       (λ _. asServed (tray (ledgerOf ws) (length out) (length places) votes) out places) e)
 
   -- A refused tray leaves all as found.
-  served-none : (r : Refusal) → Long ws → asServed (trayRefused (ledgerOf ws) r) out places ≡ asFound r ws out places
+  served-none : (r : Refusal) → isSpelled ws ≡ true → asServed (trayRefused (ledgerOf ws) r) out places ≡ asFound r ws out places
   unfolding trayRefused serve spelled over
-  served-none r e = ap (λ (x : List ℕ). asFound r x out places) (words-ledger ws e)
+  served-none r e = ap (λ (x : List ℕ). asFound r x out places) (spelled-words ws e)
 
-  refused-by : (r : Refusal) → Long ws → tray (ledgerOf ws) (length out) (length places) votes ≡ trayRefused (ledgerOf ws) r
+  refused-by : (r : Refusal) → isSpelled ws ≡ true → tray (ledgerOf ws) (length out) (length places) votes ≡ trayRefused (ledgerOf ws) r
       → TrayOf ws out votes places (answer.Refused r) ws out places
   refused-by r e is =
-      tray-of (asFound r ws out places) (sym (served-none r e) ∙ ap (λ (f : Tray). asServed f out places) (sym is) ∙ leaves-long e) refl refl refl refl
+      tray-of (asFound r ws out places) (sym (served-none r e) ∙ ap (λ (f : Tray). asServed f out places) (sym is) ∙ leaves-spelled e) refl refl refl refl
 
   -- 17.
   pub tray-unsound : soundWords ws ≡ false → TrayOf ws out votes places (answer.Refused refusal.BadRecord) ws out places
   unfolding soundWords tray
   tray-unsound e =
-      by-test (isLong ws)
-      (λ t. let long = long-true ws t in
-      refused-by refusal.BadRecord long
-      (given-off (wellFormed (ledgerOf ws)) (trayRefused (ledgerOf ws) refusal.BadRecord) _ (and-second (isLong ws) (wellFormed (ledgerOf ws)) t e)))
-      (λ t. tray-of (asFound refusal.BadRecord ws out places) (leaves-short t) refl refl refl refl)
+      by-test (isSpelled ws)
+      (λ t.
+      refused-by refusal.BadRecord t
+      (given-off (wellFormed (ledgerOf ws)) (trayRefused (ledgerOf ws) refusal.BadRecord) _ (and-second (isSpelled ws) (wellFormed (ledgerOf ws)) t e)))
+      (λ t. tray-of (asFound refusal.BadRecord ws out places) (leaves-none t) refl refl refl refl)
 
   module _ (s : soundWords ws ≡ true) where
     formed-on : (f : Unit {0} → Tray) → given (wellFormed (ledgerOf ws)) (trayRefused (ledgerOf ws) refusal.BadRecord) f ≡ f tt
@@ -84,7 +80,7 @@ module _ (ws out votes places : List ℕ) where
         → TrayOf ws out votes places (answer.Refused refusal.NoRoom) ws out places
     unfolding tray
     cramped e =
-        refused-by refusal.NoRoom (sound-long ws s)
+        refused-by refusal.NoRoom (words-spelled ws s)
         (formed-on _ ∙ given-off (leb outboxWords (length out) && leb (wholeVotes votes) (length places)) (trayRefused (ledgerOf ws) refusal.NoRoom) _ e)
 
     -- 9 for the outbox.
@@ -107,7 +103,7 @@ module _ (ws out votes places : List ℕ) where
       pub tray-part : (length votes % 4 ≡ 0 → ⊥) → TrayOf ws out votes places (answer.Refused refusal.BadLength) ws out places
       unfolding tray
       tray-part q =
-          refused-by refusal.BadLength (sound-long ws s)
+          refused-by refusal.BadLength (words-spelled ws s)
           (formed-on _ ∙ room-on _ ∙ given-off (eqb (length votes % 4) 0) (trayRefused (ledgerOf ws) refusal.BadLength) _ (ne-eqb (length votes % 4) 0 q))
 
       -- Each vote served.
@@ -118,5 +114,5 @@ module _ (ws out votes places : List ℕ) where
           let is : tray (ledgerOf ws) (length out) (length places) votes ≡ trayServed (serve (ledgerOf ws) (votesIn votes)) =
           formed-on _ ∙ room-on _ ∙ given-on (eqb (length votes % 4) 0) (trayRefused (ledgerOf ws) refusal.BadLength) _ (eq-eqb (length votes % 4) 0 q) in
           tray-of (asServed (trayServed (serve (ledgerOf ws) (votesIn votes))) out places)
-          (ap (λ (f : Tray). asServed f out places) (sym is) ∙ leaves-long (sound-long ws s))
+          (ap (λ (f : Tray). asServed f out places) (sym is) ∙ leaves-spelled (words-spelled ws s))
           (ap answer.Done (a .many)) (a .words) (a .outbox) (a .answers)

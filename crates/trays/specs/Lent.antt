@@ -17,8 +17,8 @@ use Rattle.rulebook.specs.Rules.{Record, State, stateOf}
 use Rattle.rulebook.specs.Inputs.{Fed, voteVerdict, feed}
 use Rattle.rulebook.specs.WellFormed.{outboxWords}
 use Rattle.rulebook.specs.Writers.{over}
-use Rattle.record.specs.Layout.{isLong, ledgerOf}
-use Rattle.record.specs.Spelling.{wordsOf}
+use Rattle.record.specs.Layout.{ledgerOf}
+use Rattle.record.specs.Spelling.{wordsOf, isSpelled}
 use Rattle.soundness.specs.Sound.{soundWords}
 use Rattle.voter.specs.Outbox.{recordsIn}
 use Rattle.voter.specs.Voting.{Live, Onward}
@@ -47,10 +47,10 @@ asServed t out places =
       answers = over (t .served .numbers) places;
     }
 
--- 17 for words of another length; else the tray of the ledger that they hold.
+-- 17 for words that spell no ledger; else the tray of the ledger that they hold.
 unfoldable pub trayLeaves : List ℕ → List ℕ → List ℕ → List ℕ → Leaves
 trayLeaves ws out votes places =
-    given (isLong ws) (asFound refusal.BadRecord ws out places)
+    given (isSpelled ws) (asFound refusal.BadRecord ws out places)
     (λ _. asServed (tray (ledgerOf ws) (length out) (length places) votes) out places)
 
 -- What a tray answers, and all memory afterwards.

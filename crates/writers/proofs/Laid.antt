@@ -1,12 +1,13 @@
 -- What the writers ask of the functions that they call, and that the bytes laid are the answer. Assumes nothing.
 use mathlib.Core.Path.{_≡_, refl, sym, ap, ap₂, _∙_, subst}
-use mathlib.Core.Bool.{true, false}
+use mathlib.Core.Bool.{true, false, _&&_}
 use mathlib.Core.List.{List, _++_}
 use Prim.Native.Nat.{ℕ, suc, _+_, _*_, _≤_, _<_}
 use native.Mathlib.Omega.{arith}
 use lib.ListN.{length, take, length-append}
 use lib.Seq.{take-at}
-use Rattle.rulebook.specs.Certificates.{Certificate}
+use borrow.Author.Tests.{eq-eqb, ne-eqb}
+use Rattle.rulebook.specs.Certificates.{Certificate, Kept}
 use Rattle.rulebook.specs.declared.Heading.{Heading}
 use Rattle.rulebook.specs.declared.CertificateKind.{CertificateKind}
 use Rattle.rulebook.specs.declared.CertificateKind.the-variants as certificate
@@ -15,27 +16,34 @@ use Rattle.rulebook.specs.declared.Verdict.{Verdict}
 use Rattle.rulebook.specs.declared.Verdict.the-variants.{Refused}
 use Rattle.rulebook.specs.declared.WriteAnswer.the-variants as write
 use Rattle.rulebook.specs.Weights.{lastSlot, slotOk}
-use Rattle.rulebook.specs.Ledger.{Ledger}
-use Rattle.rulebook.specs.Pool.{held}
+use Rattle.rulebook.specs.Ledger.{Ledger, mostCertificates, places, certificatesAt, keptAt, isKept}
+use Rattle.rulebook.specs.Pool.{reached, keptAs, held, missingTo}
+use Rattle.rulebook.specs.Rules.{isFinal}
 use Rattle.rulebook.specs.PaperNumbers.{kindIn, numberIn}
 use Rattle.rulebook.specs.Checker.{isOtherKind}
 use Rattle.rulebook.specs.Packets.{wordsIn, certificateOf, certificateBytes}
-use Rattle.rulebook.specs.Writers.{Wrote, certificateFor, certificateRoom, proofRoom, wroteOn, certificateVerdict, writeCertificate, proofVerdict, proofBytes, writeProof, over, Writes}
-use Rattle.rulebook.proofs.ToolLaws.{given-on, given-off, by-test}
+use Rattle.rulebook.specs.Writers.{Wrote, votedFor, keptFor, maskedBy, certificateFor, certificateRoom, proofRoom, wroteOn, certificateVerdict, writeCertificate, proofVerdict, proofBytes, writeProof, over, Writes}
+use Rattle.rulebook.proofs.ToolLaws.{choose-on, choose-off, given-on, given-off, and-both, or-cases, by-test, true-not-false}
+use Rattle.rulebook.proofs.WeightLaws.{reached-missing}
+use Rattle.rulebook.proofs.PlaceLaws.{placed-each}
+use Rattle.rulebook.proofs.CertificateLaws.{kept-within, kept-serving}
 use Rattle.rulebook.proofs.NumberLaws.{certificate-few}
-use Rattle.rulebook.proofs.KindLaws.{kind-small, kind-words, certificate-room, proof-room}
+use Rattle.rulebook.proofs.KindLaws.{kind-back, kind-small, kind-words, certificate-room, proof-room}
 use Rattle.certificate_numbers.specs.Told.{Masks}
 use Rattle.certificate_numbers.proofs.Whole.{words-few}
 use Rattle.numbers.specs.Written.{Room, Written}
 use Rattle.numbers.proofs.Stores.{after}
-use Rattle.record.specs.Layout.{ledgerOf}
+use Rattle.record.specs.Layout.{maskWords, ledgerOf}
+use Rattle.record.proofs.Reading.{ledger-shaped}
+use Rattle.kept_certificates.specs.Kept.{Lent}
+use Rattle.kept_places.proofs.Families.{family-words}
 use Rattle.soundness.specs.Sound.{soundWords}
 use Rattle.settling.proofs.Verdicts.{slot-range}
 use Rattle.soundness.proofs.Laws.{sound-long, sound-head, sound-placed, sound-tabled, sound-cards}
 use Rattle.pool.specs.Weighing.{Weighing, Carded}
 use Rattle.signers.specs.Masks.{Naming}
 use Rattle.writers.proofs.Verdicts.{slot-row}
-use Rattle.writers.specs.Writing.{unsound, kindOn, certificateOn, proofOn}
+use Rattle.writers.specs.Writing.{unsound, kindOn, certificateOn, proofOn, keptCertificate, Laying}
 
 -- ---- what the inner functions ask
 
@@ -43,10 +51,13 @@ use Rattle.writers.specs.Writing.{unsound, kindOn, certificateOn, proofO
 pub kind-asked : (ws : List ℕ) (n : ℕ) {k : CertificateKind} {count : ℕ} → k ≡ kindIn count n → count ≡ ledgerOf ws .count → k ≡ kindOn ws n
 kind-asked ws n e g = e ∙ ap (λ (x : ℕ). kindIn x n) g
 
--- The words of a kind, by its number there.
+-- The number of a kind there, and the words that it has.
+pub number-asked : (ws : List ℕ) (k : CertificateKind) {n count : ℕ} → n ≡ numberIn count k → count ≡ ledgerOf ws .count → n ≡ numberIn (ledgerOf ws .count) k
+number-asked ws k f g = f ∙ ap (λ (x : ℕ). numberIn x k) g
+
 pub words-asked : (ws : List ℕ) (k : CertificateKind) {w n count : ℕ} → w ≡ wordsIn n → n ≡ numberIn count k → count ≡ ledgerOf ws .count
     → w ≡ wordsIn (numberIn (ledgerOf ws .count) k)
-words-asked ws k e f g = e ∙ ap wordsIn (f ∙ ap (λ (x : ℕ). numberIn x k) g)
+words-asked ws k e f g = e ∙ ap wordsIn (number-asked ws k f g)
 
 -- Masks of as many words as the kind says have words for every node.
 pub naming : (ws : List ℕ) (s : ℕ) (a b : List ℕ) (k : CertificateKind) (w : ℕ) → soundWords ws ≡ true → s < suc lastSlot → isOtherKind k ≡ false
@@ -75,15 +86,75 @@ carded ws s e h =
       cards = sound-cards ws e;
     }
 
+-- ---- the two sources of masks
+
+module _ (l : Ledger) (k : CertificateKind) (s b : ℕ) where
+  pub by-votes : reached l k s b ≡ true → certificateFor l k s b ≡ votedFor l k s b
+  unfolding certificateFor
+  by-votes t = choose-on (reached l k s b) (votedFor l k s b) (keptCertificate l k s b) t
+
+  pub by-masks : reached l k s b ≡ false → certificateFor l k s b ≡ keptCertificate l k s b
+  unfolding certificateFor
+  by-masks t = choose-off (reached l k s b) (votedFor l k s b) (keptCertificate l k s b) t
+
+  -- What the stored votes do not reach is held by a kept certificate.
+  pub held-kept : held l k s b ≡ true → reached l k s b ≡ false → keptAs l k s b ≡ true
+  unfolding held
+  held-kept h t = or-cases (reached l k s b) (keptAs l k s b) h (λ u. true-not-false (reached l k s b) u t) (λ u. u)
+
+  -- Nothing is missing exactly where the votes reach it.
+  pub missing-none : {m : ℕ} → m ≡ missingTo l k s b → m ≡ 0 → reached l k s b ≡ true
+  missing-none {m} e z = reached-missing l k s b ∙ eq-eqb (missingTo l k s b) 0 (sym e ∙ z)
+
+  pub missing-some : {m : ℕ} → m ≡ missingTo l k s b → (m ≡ 0 → ⊥) → reached l k s b ≡ false
+  missing-some {m} e z = reached-missing l k s b ∙ ne-eqb (missingTo l k s b) 0 (λ n. z (e ∙ n))
+
+-- A kept certificate that serves is at one of the slot's places.
+pub place-there : (ws : List ℕ) (k : CertificateKind) (s b n : ℕ) → s < suc lastSlot → keptAs (ledgerOf ws) k s b ≡ true
+    → keptAt (ledgerOf ws) s n ≡ keptFor k b (certificatesAt (ledgerOf ws) s) → n < mostCertificates
+unfolding keptAs
+place-there ws k s b n h e q =
+    let qs = certificatesAt (ledgerOf ws) s in
+    omega (arith, ledger-shaped ws .certificates s h, kept-within qs n (ap (λ (x : Kept). isKept x) q ∙ kept-serving qs k b e .kept))
+
+-- The record's masks have as many words as the kind says.
+pub kept-words : (ws : List ℕ) (k : CertificateKind) → soundWords ws ≡ true → isOtherKind k ≡ false
+    → maskWords (places (ledgerOf ws)) ≡ wordsIn (numberIn (ledgerOf ws .count) k)
+kept-words ws k e o =
+    let count = ledgerOf ws .count in
+    let head = sound-head ws e in
+    ap maskWords (head .room ∙ placed-each count (head .few)) ∙ sym (family-words count (numberIn count k) (ap isOtherKind (kind-back count k) ∙ o))
+
+-- The masks that are lent from a place make the certificate.
+module _ (l : Ledger) (k : CertificateKind) (s b n : ℕ) (q : keptAt l s n ≡ keptFor k b (certificatesAt l s)) (xs ys : List ℕ)
+    (a : Lent l (keptAt l s n .maska) xs) (c : Lent l (keptAt l s n .maskb) ys) (number : ℕ) (e : number ≡ numberIn (l .count) k) where
+  abbrev heading : Heading
+  heading = record { kind = number; slot = s; block = b }
+
+  pub kept-named : certificateOf heading xs ys ≡ keptCertificate l k s b
+  unfolding maskedBy
+  kept-named = rw (a .spells, c .spells, q, e)
+
+  pub kept-masks : maskWords (places l) ≡ wordsIn (numberIn (l .count) k) → Masks heading xs ys
+  kept-masks w =
+      let words : wordsIn (numberIn (l .count) k) ≡ wordsIn number = ap wordsIn (sym e) in
+      record { longA = a .many ∙ w ∙ words; longB = c .many ∙ w ∙ words }
+
 -- ---- lengths
 
--- A certificate that is written, whatever it names, has no more bytes than are asked for.
+-- A certificate has no more bytes than are asked for, whatever it names.
+short : (l : Ledger) (k : CertificateKind) (c : Certificate) → c .kind ≡ numberIn (l .count) k → c .slot < suc lastSlot
+    → length (certificateBytes c) ≤ certificateRoom (l .count)
+short l k c e h =
+    let few : length (certificateBytes c) ≤ 12 + 20 * wordsIn (c .kind) = certificate-few c (omega (arith, e, kind-small (l .count) k)) (omega arith) in
+    omega (arith, few, ap wordsIn e, certificate-room (l .count) k)
+
 pub certificate-short : (l : Ledger) (k : CertificateKind) (s b : ℕ) → s < suc lastSlot → length (certificateBytes (certificateFor l k s b)) ≤ certificateRoom (l .count)
-unfolding certificateFor
+unfolding votedFor maskedBy
 certificate-short l k s b h =
-    let few : length (certificateBytes (certificateFor l k s b)) ≤ 12 + 20 * wordsIn (numberIn (l .count) k) =
-    certificate-few (certificateFor l k s b) (omega (arith, kind-small (l .count) k)) (omega arith) in
-    omega (arith, few, certificate-room (l .count) k)
+    by-test (reached l k s b)
+    (λ t. omega (arith, ap (λ (c : Certificate). length (certificateBytes c)) (by-votes l k s b t), short l k (votedFor l k s b) refl h))
+    (λ t. omega (arith, ap (λ (c : Certificate). length (certificateBytes c)) (by-masks l k s b t), short l k (keptCertificate l k s b) refl h))
 
 -- The bytes of a proof, by the form that is held.
 pub proof-fast : (l : Ledger) (s b : ℕ) → held l certificate.FastFinal s b ≡ true
@@ -95,6 +166,14 @@ pub proof-slow : (l : Ledger) (s b : ℕ) → held l certificate.FastFinal s b �
     → proofBytes l s b ≡ certificateBytes (certificateFor l certificate.Notar s b) ++ certificateBytes (certificateFor l certificate.Final s 0)
 unfolding proofBytes
 proof-slow l s b e = given-off _ _ _ e
+
+-- A final block whose kind 1 is not held has kinds 2 and 5 held.
+pub proof-held : (l : Ledger) (s b : ℕ) → isFinal l s b ≡ true → held l certificate.FastFinal s b ≡ false
+    → (held l certificate.Notar s b ≡ true) × (held l certificate.Final s 0 ≡ true)
+unfolding isFinal
+proof-held l s b f e =
+    or-cases (held l certificate.FastFinal s b) (held l certificate.Notar s b && held l certificate.Final s 0) f
+    (λ t. true-not-false (held l certificate.FastFinal s b) t e) (λ t. and-both (held l certificate.Notar s b) (held l certificate.Final s 0) t)
 
 two-short : (l : Ledger) (s b : ℕ) → s < suc lastSlot
     → length (certificateBytes (certificateFor l certificate.Notar s b) ++ certificateBytes (certificateFor l certificate.Final s 0)) ≤ proofRoom (l .count)
@@ -121,19 +200,22 @@ pub front-enough : (w : ℕ) (xs more : List ℕ) → length xs ≡ w → w ≤ 
 front-enough w xs more e = omega (arith, e, length-append xs more)
 
 -- The words that were lent for the masks stand at the front of those that are given back.
-module _ (l : Ledger) (k : CertificateKind) (s b : ℕ) (h : Heading) (w : ℕ) (xs ys : List ℕ) (e : certificateOf h xs ys ≡ certificateFor l k s b) (p : length xs ≡ w)
+module _ (l : Ledger) (k : CertificateKind) (s b : ℕ) (h : Heading) (w : ℕ) (xs ys : List ℕ) (e : certificateOf h xs ys ≡ votedFor l k s b) (p : length xs ≡ w)
     (q : length ys ≡ w) (more rest : List ℕ) where
-  pub given-back : certificateOf h (take w (xs ++ more)) (take w (ys ++ rest)) ≡ certificateFor l k s b
+  pub given-back : certificateOf h (take w (xs ++ more)) (take w (ys ++ rest)) ≡ votedFor l k s b
   given-back = ap₂ (λ (x y : List ℕ). certificateOf h x y) (take-at xs more w p) (take-at ys rest w q) ∙ e
 
   pub given-masks : w ≡ wordsIn (numberIn (l .count) k) → Masks h (take w (xs ++ more)) (take w (ys ++ rest))
-  unfolding certificateFor
+  unfolding votedFor
   given-masks n =
       let kind : h .kind ≡ numberIn (l .count) k = ap (λ (c : Certificate). c .kind) e in
       let words : w ≡ wordsIn (h .kind) = n ∙ ap wordsIn (sym kind) in
       record { longA = ap length (take-at xs more w p) ∙ p ∙ words; longB = ap length (take-at ys rest w q) ∙ q ∙ words }
 
--- The same certificate is written.
+-- There is room for the same certificate, and it is written.
+pub laying-same : {ws buffer : List ℕ} {at s : ℕ} {k : CertificateKind} {c d : Certificate} → c ≡ d → Laying ws buffer at k s c → Laying ws buffer at k s d
+laying-same {ws} {buffer} {at} {s} {k} e y = subst (λ (x : Certificate). Laying ws buffer at k s x) e y
+
 pub laid-same : {buffer left : List ℕ} {at n : ℕ} {c d : Certificate} → c ≡ d → Written buffer at (certificateBytes c) left n → Written buffer at (certificateBytes d) left n
 laid-same {buffer} {left} {at} {n} e w = subst (λ (x : Certificate). Written buffer at (certificateBytes x) left n) e w
 

@@ -20,6 +20,8 @@ mod c {
         pub fn qr_timeout(record: *mut u64, record_words: usize, outbox: *mut u64, outbox_words: usize, made: *mut usize,
                           slot: usize) -> u64;
         pub fn qr_look(record: *mut u64, record_words: usize, outbox: *mut u64, outbox_words: usize, made: *mut usize) -> u64;
+        pub fn qr_take(record: *mut u64, record_words: usize, outbox: *mut u64, outbox_words: usize, made: *mut usize,
+                       packet: *const u8, packet_bytes: usize) -> u64;
         pub fn qr_tray(record: *mut u64, record_words: usize, outbox: *mut u64, outbox_words: usize, made: *mut usize,
                        votes: *const u64, vote_words: usize, answers: *mut u64, answer_count: usize) -> u64;
         pub fn qr_write_certificate(record: *const u64, record_words: usize, buffer: *mut u8, buffer_bytes: usize,
@@ -117,6 +119,12 @@ pub fn look(record: &mut [u64], outbox: &mut [u64]) -> Counted {
     let (words, room) = (record.len(), outbox.len());
     let (record, outbox) = (record.as_mut_ptr(), outbox.as_mut_ptr());
     counted(|made| unsafe { c::qr_look(record, words, outbox, room, made) })
+}
+
+pub fn take(record: &mut [u64], outbox: &mut [u64], packet: &[u8]) -> Counted {
+    let (words, room) = (record.len(), outbox.len());
+    let (record, outbox) = (record.as_mut_ptr(), outbox.as_mut_ptr());
+    counted(|made| unsafe { c::qr_take(record, words, outbox, room, made, packet.as_ptr(), packet.len()) })
 }
 
 pub fn tray(record: &mut [u64], outbox: &mut [u64], votes: &[u64], answers: &mut [u64]) -> Counted {

@@ -104,7 +104,14 @@ impl Record {
         outbox.filled(done)
     }
 
-    /// The bytes of a certificate that is held. Block 0 for skip and final.
+    /// A certificate that another node wrote, its signatures verified by the host: it is checked in full and kept. Of one that is
+    /// too light [`check_certificate`](crate::check_certificate) tells how much is missing.
+    pub fn take(&mut self, outbox: &mut Outbox, packet: &[u8]) -> Result<(), Refusal> {
+        let done = face::take(&mut self.words, &mut outbox.words, packet);
+        outbox.filled(done)
+    }
+
+    /// The bytes of a certificate that is held, by the stored votes or as one that is kept. Block 0 for skip and final.
     pub fn write_certificate(
         &self,
         kind: CertificateKind,

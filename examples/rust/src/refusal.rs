@@ -22,7 +22,7 @@ pub enum Refusal {
     BadLength,
     BadNumber,
     BadSigners,
-    /// With the least further stake that would reach the threshold.
+    /// With the least further stake that would reach the threshold, 0 where the call does not tell it.
     TooLight {
         missing: Weight,
     },
@@ -72,9 +72,12 @@ impl fmt::Display for Refusal {
             BadKind => "kind not 1 to 5; of a certificate with a large table, not 11 to 15",
             BadBlock => "block 0 where one is needed, or not 0 where none is",
             OwnName => "vote in the own node's name from outside",
-            AlreadyKept => "that very vote, block with parent, or timeout is kept",
+            AlreadyKept => {
+                "that very vote, block with parent, or timeout is kept; a certificate of that kind, slot and block is"
+            }
             OtherStands => {
-                "another stands in its place; a fifth block of a slot, or a kept block with another parent"
+                "another stands in its place; a fifth block of a slot, or a kept block with another parent; a tenth certificate of \
+                 kind 3"
             }
             NoRoom => {
                 "outbox below 480 words; buffer below its bytes; too few places for a tray's answers; a list too short for all \
@@ -87,6 +90,7 @@ impl fmt::Display for Refusal {
             }
             BadNumber => "number not shortest, or above 64 bits",
             BadSigners => "signer beyond the table, in both masks, or B where 0 is due",
+            TooLight { missing: Weight(0) } => "weight below the threshold",
             TooLight { missing } => return write!(out, "weight below the threshold; {} is missing", missing.0),
             NotAProof => "not one of the two proof forms",
             BadRecord => "the words are no node's record; the state is not one of a proof in pieces",

@@ -15,7 +15,7 @@ fn functions(text: &str) -> BTreeSet<&str> {
 
 #[test]
 fn every_function_is_declared() {
-    assert!(functions(HEADER).len() >= 19);
+    assert!(functions(HEADER).len() >= 20);
     assert_eq!(functions(FACE), functions(HEADER));
 }
 

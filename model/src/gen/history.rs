@@ -1,6 +1,7 @@
 //! Histories: camps of nodes that vote by plan, slot after slot.
 
 use super::noise;
+use super::packets::take;
 use super::ring::Ring;
 use super::writer::Writer;
 use crate::node::{first_of_window, is_first, Cert, LAST_SLOT, WINDOW};
@@ -233,7 +234,7 @@ pub fn some_order(random: &mut Random, mut blocks: [u64; 4]) -> [u64; 4] {
     blocks
 }
 
-fn some_leans(random: &mut Random, smooth: u64) -> [Lean; 5] {
+pub fn some_leans(random: &mut Random, smooth: u64) -> [Lean; 5] {
     let mut leans = if random.percent(smooth) {
         random.pick(SMOOTH)
     } else if random.percent(90) {
@@ -327,15 +328,24 @@ fn any_parent(w: &mut Writer, numbers: &Numbers, slot: u64) -> (u64, u64) {
     (parent_slot, w.random.pick(&all))
 }
 
-/// Votes of others in random order until the certificate is held, or until
-/// one vote short of it.
+/// Votes of others in random order until they reach the certificate, or until
+/// one vote short of it; or the certificate itself.
 pub fn push(w: &mut Writer, cert: Cert, slot: u64) {
+    if w.by_certificate() {
+        take(w, cert, slot, 5);
+    } else {
+        push_votes(w, cert, slot);
+    }
+}
+
+/// By votes alone, whatever is kept.
+pub fn push_votes(w: &mut Writer, cert: Cert, slot: u64) {
     let one_short = w.random.percent(12);
     let fallbacks = if cert.allows_fallback_signers() { w.random.pick(&[0, 0, 50, 100]) } else { 0 };
     let mut others = w.ring.others();
     w.random.shuffle(&mut others);
     for node in others {
-        if w.full() || w.node().holds(slot, cert) {
+        if w.full() || w.node().reached_by_votes(slot, cert) {
             return;
         }
         let by_fallback = w.random.percent(fallbacks);

@@ -2,11 +2,13 @@
 
 mod cards;
 mod compared;
+mod exchanged;
 mod history;
 mod malformed;
 mod messages;
 mod noise;
 mod packets;
+mod received;
 mod ring;
 mod scenes;
 mod trays;
@@ -29,7 +31,7 @@ pub struct Script {
 
 /// Seeds in a row go through the scenes in turn, each as often as it has
 /// numbers here.
-const SCENES: u64 = 73;
+const SCENES: u64 = 86;
 
 /// Of so many scripts one has very many votes.
 const MANY_LINES_ONCE_IN: u64 = 1000;
@@ -47,7 +49,7 @@ pub fn script(seed: u64) -> Script {
         4 => only_malformed(random),
         5 | 6 => faults(random),
         7 | 8 => lone(random),
-        9..=12 => packets_only(random),
+        9..=12 | 67 => packets_only(random),
         13..=15 => soup(random),
         16..=18 => pushes(random),
         19 => brink(random),
@@ -62,6 +64,9 @@ pub fn script(seed: u64) -> Script {
         49..=52 => in_pieces(random),
         53..=57 => compared(random),
         58..=61 => cards(random),
+        62..=66 => received(random),
+        68..=71 => plays(random),
+        72..=74 => exchanged(random),
         _ => history(random),
     }
 }
@@ -83,7 +88,7 @@ fn begin(mut random: Random, mut ring: Ring, least: u64, most: u64) -> Writer {
 
 fn end(mut w: Writer) -> Script {
     w.ask_for_votes();
-    if w.random.percent(5) {
+    if w.random.percent(8) {
         malformed::long_silence(&mut w);
     }
     if w.random.percent(4) {
@@ -217,6 +222,34 @@ fn many_lines(mut random: Random) -> Script {
     end(w)
 }
 
+fn received(mut random: Random) -> Script {
+    let mut ring = Ring::small(&mut random);
+    if random.percent(15) {
+        ring = ring.widened(&mut random);
+    }
+    let mut w = begin(random, ring, 40, 150);
+    received::received(&mut w);
+    finish_with_audit(w, 15)
+}
+
+fn plays(mut random: Random) -> Script {
+    let nodes = random.pick(&[5, 5, 6, 8]);
+    let ring =
+        if random.percent(80) { Ring::of_fifths(&mut random, nodes) } else { Ring::small(&mut random) };
+    let mut w = begin(random, ring, 60, 150);
+    received::plays(&mut w);
+    finish_with_audit(w, 10)
+}
+
+fn exchanged(mut random: Random) -> Script {
+    let nodes = random.pick(&[5, 6, 8, 10]);
+    let ring =
+        if random.percent(60) { Ring::of_fifths(&mut random, nodes) } else { Ring::small(&mut random) };
+    let mut w = begin(random, ring, 80, 220);
+    exchanged::exchanged(&mut w);
+    finish_with_audit(w, 10)
+}
+
 /// The audit has lines of its own after the history's.
 fn finish_with_audit(mut w: Writer, most: usize) -> Script {
     w.add_room(40);
@@ -261,6 +294,8 @@ fn before_start(mut random: Random) -> Script {
         "tray 1 1 1 7 3 1 1 0",
         "block 1 7 0 1",
         "block 0 0 0 0",
+        "take 0101070100",
+        "take -",
         "timeout 1",
         "timeout 99",
         "look",
@@ -395,10 +430,10 @@ fn in_pieces(mut random: Random) -> Script {
 fn packets_only(mut random: Random) -> Script {
     let ring = if random.percent(70) { Ring::any(&mut random) } else { Ring::crowd(&mut random) };
     let mut w = begin(random, ring, 10, 200);
-    match w.random.below(6) {
+    match w.random.below(7) {
         0 => packets::taken_apart(&mut w),
         1 => packets::random_bytes(&mut w),
-        2 => packets::weighed(&mut w),
+        2 | 3 => packets::weighed(&mut w),
         _ => packets::hand_made(&mut w),
     }
     end(w)

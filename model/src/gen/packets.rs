@@ -76,17 +76,22 @@ fn take_to_checkers(w: &mut Writer, packet: &[u8]) {
     }
 }
 
-/// Mostly the checker that fits the packet's beginning.
-fn check(w: &mut Writer, packet: &[u8], stakes: &[u64]) {
-    let mut hex = show_hex(packet);
+/// Mostly in capitals.
+fn some_letters(w: &mut Writer, packet: &[u8]) -> String {
+    let hex = show_hex(packet);
     match w.random.below(10) {
-        0 => hex = hex.to_lowercase(),
+        0 => hex.to_lowercase(),
         1 => {
             let mixed = |c: char| if w.random.percent(50) { c.to_ascii_lowercase() } else { c };
-            hex = hex.chars().map(mixed).collect();
+            hex.chars().map(mixed).collect()
         }
-        _ => {}
+        _ => hex,
     }
+}
+
+/// Either checker.
+fn check(w: &mut Writer, packet: &[u8], stakes: &[u64]) {
+    let hex = some_letters(w, packet);
     let command = if w.random.percent(50) { "check" } else { "checkproof" };
     w.say(format!("{command} {hex} {}", words(stakes)).trim_end().to_string());
 }
@@ -179,8 +184,8 @@ impl Fields {
         let any_node = random.index(nodes);
         let places = 64 * ring.table().family().mask_words();
         let beyond = nodes + random.index((places - nodes).max(1));
-        match random.below(11) {
-            0 => self.kind = other_kind(random, self.kind),
+        match random.below(12) {
+            0 | 10 => self.kind = other_kind(random, self.kind),
             1 => {
                 self.slot =
                     random.pick(&[0, 17, 18, 127, 128, 256 | self.slot, 1 << 32 | self.slot, u64::MAX])
@@ -236,9 +241,9 @@ impl Fields {
 /// No kind, or one of the other family.
 fn other_kind(random: &mut Random, kind: u64) -> u64 {
     let other_family = if kind > 10 { kind - 10 } else { kind + 10 };
-    match random.below(3) {
-        0 => other_family,
-        1 => random.pick(&[0, 6, 7, 8, 9, 10, 16, 17]),
+    match random.below(4) {
+        0 | 1 => other_family,
+        2 => random.pick(&[0, 6, 7, 8, 9, 10, 16, 17]),
         _ => random.pick(&[127, 128, 256 | kind, 1 << 32 | kind, u64::MAX]),
     }
 }
@@ -430,6 +435,9 @@ pub fn in_pieces(w: &mut Writer) {
         if w.random.percent(fault) {
             packet = damage(&mut w.random, &packet);
         }
+        if w.random.percent(8) {
+            packet = around_threshold(&mut w.random, &ring, 1, 1);
+        }
         match w.random.below(12) {
             0 => every_cut(w, &packet),
             1 => far_too_long(w, packet),
@@ -502,4 +510,106 @@ fn far_too_long(w: &mut Writer, mut packet: Vec<u8>) {
 
 fn piece(w: &mut Writer, bytes: &[u8], stakes: &[u64]) {
     w.say(format!("piece {} {}", show_hex(bytes), words(stakes)).trim_end().to_string());
+}
+
+// ---- certificates from others ----
+
+/// A certificate that others made, with that chance, in percent, of faults.
+pub fn take(w: &mut Writer, cert: Cert, slot: u64, fault: u64) {
+    let mut fields = Fields::good(&mut w.random, &w.ring, cert.kind(), slot);
+    fields.block = cert.block();
+    while w.random.percent(fault) {
+        fields.spoil(&mut w.random, &w.ring);
+    }
+    let odd = w.random.percent(fault / 4);
+    let mut packet = encode(&mut w.random, &fields, odd);
+    if w.random.percent(fault / 4) {
+        packet = damage(&mut w.random, &packet);
+    }
+    say_take(w, &packet);
+}
+
+fn say_take(w: &mut Writer, packet: &[u8]) {
+    let hex = some_letters(w, packet);
+    w.say(format!("take {hex}"));
+}
+
+/// The very packet of a certificate that came before.
+pub fn take_again(w: &mut Writer) {
+    let taken = w.said_with("take ");
+    if !taken.is_empty() {
+        let line = taken[w.random.index(taken.len())].clone();
+        w.say(line);
+    }
+}
+
+/// A certificate of what is kept already, that the checker refuses.
+pub fn take_spoiled_again(w: &mut Writer) {
+    let kept: Vec<(u64, Cert)> = (1..=LAST_SLOT)
+        .flat_map(|slot| w.node().kept_certificates(slot).iter().map(move |kept| (slot, kept.cert)))
+        .collect();
+    if kept.is_empty() {
+        return;
+    }
+    let (slot, cert) = w.random.pick(&kept);
+    let mut fields = Fields::good(&mut w.random, &w.ring, cert.kind(), slot);
+    fields.block = cert.block();
+    let mut odd = false;
+    match w.random.below(5) {
+        0 | 1 => fields.lighten(&mut w.random, &w.ring),
+        2 => fields.b = &fields.a | &fields.b,
+        3 => odd = true,
+        // Another block, lighter than it must be: 15 before 8.
+        _ => {
+            fields.block ^= u64::from(cert.needs_block()) << 40;
+            fields.lighten(&mut w.random, &w.ring);
+        }
+    }
+    let mut packet = encode(&mut w.random, &fields, odd);
+    if w.random.percent(20) {
+        packet.push(0);
+    }
+    say_take(w, &packet);
+}
+
+/// Good but for its family: the numbers are those that its kind asks for.
+pub fn take_of_other_family(w: &mut Writer, cert: Cert, slot: u64) {
+    let mut fields = Fields::good(&mut w.random, &w.ring, cert.kind(), slot);
+    fields.block = cert.block();
+    fields.kind = if fields.kind > 10 { fields.kind - 10 } else { fields.kind + 10 };
+    let mut packet = encode(&mut w.random, &fields, false);
+    if w.random.percent(20) {
+        packet.truncate(w.random.index(packet.len()));
+    }
+    say_take(w, &packet);
+}
+
+/// A good one with bytes after it, few or very many.
+pub fn take_with_more(w: &mut Writer, cert: Cert, slot: u64) {
+    let mut fields = Fields::good(&mut w.random, &w.ring, cert.kind(), slot);
+    fields.block = cert.block();
+    let mut packet = encode(&mut w.random, &fields, false);
+    let more = w.random.pick(&[1, 1, 2, 100, 2_000, 30_000]);
+    let byte = w.random.pick(&[0, 1, 0x80, 0xFF]);
+    packet.resize(packet.len() + more, byte);
+    say_take(w, &packet);
+}
+
+/// A good one with a prefix, a bit flipped or a byte changed, some of each; then
+/// it as it is.
+pub fn take_apart(w: &mut Writer, cert: Cert, slot: u64) {
+    let mut fields = Fields::good(&mut w.random, &w.ring, cert.kind(), slot);
+    fields.block = cert.block();
+    let packet = encode(&mut w.random, &fields, false);
+    for _ in 0..6 {
+        let mut changed = packet.clone();
+        let at = w.random.index(packet.len());
+        match w.random.below(3) {
+            0 => changed.truncate(at),
+            1 => changed[at] ^= 1 << w.random.below(8),
+            _ => changed = damage(&mut w.random, &packet),
+        }
+        say_take(w, &changed);
+    }
+    say_take(w, &packet);
 }

@@ -147,16 +147,23 @@ impl Ring {
     }
 
     /// Makes the stakes heavy beside that of the light nodes, and mostly takes
-    /// theirs off one of them, so that the thresholds stay where they were.
+    /// theirs off one of them, so that the thresholds stay where they were. Where
+    /// it is one of the own camp the other camps stay whole fifths.
     fn pay_for(&mut self, random: &mut Random, lights: u64) {
-        let heaviest = (0..self.nodes()).max_by_key(|&node| self.stakes[node]).expect("a ring has nodes");
-        if self.stakes[heaviest] <= 2 * lights {
-            let times = 4 * lights / self.stakes[heaviest] + 1;
+        let heaviest = |nodes: &[usize]| nodes.iter().copied().max_by_key(|&node| self.stakes[node]);
+        let all: Vec<usize> = (0..self.nodes()).collect();
+        let (of_all, of_own_camp) = (heaviest(&all), heaviest(&self.camps[0]));
+        let total: u64 = self.stakes.iter().sum();
+        let has_room = total < MOST_TOTAL / (8 * lights);
+        let payer = if has_room && random.percent(80) { of_own_camp } else { of_all };
+        let payer = payer.expect("a ring has nodes");
+        if self.stakes[payer] <= 2 * lights {
+            let times = 4 * lights / self.stakes[payer] + 1;
             self.stakes.iter_mut().for_each(|stake| *stake *= times);
         }
         let total: u64 = self.stakes.iter().sum();
         if random.percent(70) || total + lights > MOST_TOTAL {
-            self.stakes[heaviest] -= lights;
+            self.stakes[payer] -= lights;
         }
     }
 

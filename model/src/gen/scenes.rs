@@ -340,6 +340,8 @@ const DOUBTED: &[[Lean; 4]] = &[
     [M, S, S, N],
     [M, A, S, S],
     [M, M, A, A],
+    [M, M, A, A],
+    [M, M, A, A],
     [A, M, M, S],
     [M, M, M, N],
     [S, A, B, C],

@@ -33,13 +33,23 @@ struct Style {
     silent_lines: u64,
     /// Votes go in trays of that many, singly at 0.
     votes_a_tray: usize,
+    /// What others hold comes as a certificate, not as their votes.
+    certificates: u64,
 }
 
 impl Style {
     fn any(random: &mut Random) -> Style {
         let votes_a_tray = if random.percent(15) { random.pick(&[1, 2, 3, 5, 10, 30]) } else { 0 };
+        let certificates = if random.percent(40) { random.pick(&[20, 50, 100]) } else { 0 };
         if random.percent(70) {
-            return Style { crlf: 0, wide_spaces: 0, leading_zeros: 0, silent_lines: 0, votes_a_tray };
+            return Style {
+                crlf: 0,
+                wide_spaces: 0,
+                leading_zeros: 0,
+                silent_lines: 0,
+                votes_a_tray,
+                certificates,
+            };
         }
         Style {
             crlf: random.pick(&[0, 0, 30, 100]),
@@ -47,6 +57,7 @@ impl Style {
             leading_zeros: random.pick(&[0, 0, 5]),
             silent_lines: random.pick(&[0, 5]),
             votes_a_tray,
+            certificates,
         }
     }
 }
@@ -142,6 +153,11 @@ impl Writer {
         laid_out
     }
 
+    pub fn by_certificate(&mut self) -> bool {
+        let chance = self.style.certificates;
+        self.random.percent(chance)
+    }
+
     pub fn full(&self) -> bool {
         self.commands >= self.budget
     }
@@ -166,6 +182,11 @@ impl Writer {
     pub fn restart(&mut self, ring: Ring) {
         self.ring = ring;
         self.start();
+    }
+
+    /// The lines so far that begin so.
+    pub fn said_with(&self, beginning: &str) -> Vec<String> {
+        self.said.iter().filter(|line| line.starts_with(beginning)).cloned().collect()
     }
 
     pub fn repeat_some_line(&mut self) {

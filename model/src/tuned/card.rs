@@ -18,7 +18,7 @@ pub struct Card {
 impl Card {
     pub fn of(row: &[u64]) -> Card {
         let &[skip, final_votes, skip_certificate, leader, weight] =
-            <&[u64; CARD_WORDS]>::try_from(&row[CARD..ROW_HEAD]).expect("five words");
+            <&[u64; CARD_WORDS]>::try_from(&row[CARD..CARD + CARD_WORDS]).expect("five words");
         Card { skip, final_votes, skip_certificate, leader, weight }
     }
 
@@ -53,11 +53,6 @@ impl Card {
     /// The leading block holds kind 2, which no other can beside it.
     pub fn is_notarized(&self, total: u64) -> bool {
         reaches(self.weight, 3, total)
-    }
-
-    /// The leading block has a finality proof in this slot.
-    pub fn is_final(&self, total: u64) -> bool {
-        reaches(self.weight, 4, total) || (self.is_notarized(total) && reaches(self.final_votes, 3, total))
     }
 
     /// Rule D's weights, for a block with so much; where the leading one has too

@@ -8,29 +8,37 @@ const TENTH: u32 = 63;
 /// The number, the five values and what is missing.
 pub type Check = (u64, [u64; 5], u64);
 
-struct Table<'a> {
-    stakes: &'a [u64],
-    total: u64,
+/// A table that breaks no size.
+pub struct Table<'a> {
+    pub stakes: &'a [u64],
+    pub total: u64,
 }
 
 pub fn check_certificate(stakes: &[u64], packet: &[u8]) -> Check {
-    answer(with_table(stakes, |table| {
-        let mut rest = packet;
-        let values = check_one(table, &mut rest)?;
-        nothing_remains(rest)?;
-        Ok(values)
-    }))
+    answer(with_table(stakes, |table| check_whole(table, packet, |_, _| {})))
+}
+
+/// A packet that is one certificate, whose masks are handed out.
+pub fn check_whole(
+    table: &Table<'_>,
+    packet: &[u8],
+    masks: impl FnOnce(&[u64], &[u64]),
+) -> Result<[u64; 5], Refused> {
+    let mut rest = packet;
+    let values = check_one(table, &mut rest, masks)?;
+    nothing_remains(rest)?;
+    Ok(values)
 }
 
 #[cfg(test)]
 pub fn check_proof(stakes: &[u64], packet: &[u8]) -> Check {
     answer(with_table(stakes, |table| {
         let mut rest = packet;
-        let first = check_one(table, &mut rest)?;
+        let first = check_one(table, &mut rest, |_, _| {})?;
         match first[0] % 10 {
             1 => {}
             2 => {
-                let second = check_one(table, &mut rest)?;
+                let second = check_one(table, &mut rest, |_, _| {})?;
                 if second[0] % 10 != 5 || second[1] != first[1] {
                     return Err((16, 0));
                 }
@@ -43,7 +51,7 @@ pub fn check_proof(stakes: &[u64], packet: &[u8]) -> Check {
 }
 
 /// A refusal's number and what is missing.
-type Refused = (u64, u64);
+pub type Refused = (u64, u64);
 
 fn answer(checked: Result<[u64; 5], Refused>) -> Check {
     match checked {
@@ -92,22 +100,30 @@ fn take_number(rest: &mut &[u8]) -> Result<u64, Refused> {
 }
 
 /// One certificate off the front, its values.
-fn check_one(table: &Table<'_>, rest: &mut &[u8]) -> Result<[u64; 5], Refused> {
+fn check_one(
+    table: &Table<'_>,
+    rest: &mut &[u8],
+    masks: impl FnOnce(&[u64], &[u64]),
+) -> Result<[u64; 5], Refused> {
     let (kind, slot, block) = (take_number(rest)?, take_number(rest)?, take_number(rest)?);
     if (11..=15).contains(&kind) {
         let (mut a, mut b) = ([0; MOST_NODES / 64], [0; MOST_NODES / 64]);
         for word in a.iter_mut().chain(&mut b) {
             *word = take_number(rest)?;
         }
-        judge(table, kind, slot, block, &a, &b)
+        let values = judge(table, kind, slot, block, &a, &b)?;
+        masks(&a, &b);
+        Ok(values)
     } else {
         let (a, b) = (take_number(rest)?, take_number(rest)?);
-        judge(table, kind, slot, block, &[a], &[b])
+        let values = judge(table, kind, slot, block, &[a], &[b])?;
+        masks(&[a], &[b]);
+        Ok(values)
     }
 }
 
 /// 4, 3, 5, 14, 15.
-fn judge(
+pub fn judge(
     table: &Table<'_>,
     kind: u64,
     slot: u64,

@@ -2,6 +2,7 @@
 
 #[cfg(test)]
 use super::card::Card;
+use super::checker::{check_whole, Table};
 use super::layout::*;
 use super::rules::Call;
 use super::sound::{sound, Found};
@@ -87,7 +88,8 @@ fn judge(head: &[u64], rows: &[u64], [kind, node, slot, block]: [u64; 4]) -> Res
     if (kind <= 2) != (block != 0) {
         return Err(5);
     }
-    let at = slot as usize * row_words(head[COUNT] as usize) + ROW_HEAD + node as usize * CELL;
+    let nodes = head[COUNT] as usize;
+    let at = slot as usize * row_words(nodes) + cells_at(nodes) + node as usize * CELL;
     let cell = cell(&rows[at..at + CELL]);
     let (is_kept, has_place) = match kind {
         1 => (cell[NOTAR] == block, no_initial(cell)),
@@ -135,8 +137,63 @@ pub fn tray(words: &mut [u64], outbox: &mut [u64], votes: &[u64], answers: &mut 
 
 /// A vote stored and no rule run, to fill a record; it has a place.
 pub fn store_vote(words: &mut [u64], kind: u64, node: usize, slot: usize, block: u64) {
-    let found = Found { nodes: words[COUNT] as usize, voted: 0 };
+    let found = Found { nodes: words[COUNT] as usize, voted: 0, kept_4: 0, kept_5: 0 };
     Call::<1>::new(words, &mut [], found).store(kind, node, slot, block);
+}
+
+// ---- certificates from others ----
+
+/// The checker's refusals, 7, 8; then the certificate is kept and the rules are run.
+pub fn take_certificate(words: &mut [u64], outbox: &mut [u64], packet: &[u8]) -> Answer {
+    answer(open(words, outbox).and_then(|found| {
+        let (head, rows) = words.split_at(STAKES + found.nodes);
+        let table = Table { stakes: &head[STAKES..], total: head[TOTAL] };
+        let mut taken = [0; 1 + 2 * (MOST_NODES / 64)];
+        let length = place_words(found.nodes);
+        let keep = |a: &[u64], b: &[u64]| {
+            taken[1..1 + a.len()].copy_from_slice(a);
+            taken[1 + a.len()..length].copy_from_slice(b);
+        };
+        let [kind, slot, block, ..] = check_whole(&table, packet, keep).map_err(|(number, _)| number)?;
+        taken[0] = block;
+        let slot = slot as usize;
+        let place = place_for(&rows[slot * row_words(found.nodes)..], &found, kind % 10, slot, block)?;
+        Ok(call!(words, outbox, found, |call: &mut Call<'_, _>| {
+            call.keep(slot, place, &taken[..length]);
+            call.settle();
+        }))
+    }))
+}
+
+/// A certificate that all signed kept and no rule run, to fill a record; it has a place.
+pub fn store_certificate(words: &mut [u64], meaning: u64, slot: usize, block: u64) {
+    let found = sound(words).expect("a record that is filled");
+    let row = &words[STAKES + found.nodes + slot * row_words(found.nodes)..];
+    let place = place_for(row, &found, meaning, slot, block).expect("a place");
+    let mut kept = vec![0; place_words(found.nodes)];
+    kept[0] = block;
+    for node in 0..found.nodes {
+        kept[1 + node / 64] |= 1 << (node % 64);
+    }
+    Call::<1>::new(words, &mut [], found).keep(slot, place, &kept);
+}
+
+/// 7, 8, or where the certificate goes.
+fn place_for(row: &[u64], found: &Found, meaning: u64, slot: usize, block: u64) -> Result<usize, u64> {
+    let one = |place: usize, is_taken: bool| match certified(row, found.nodes, place) {
+        kept if is_taken && kept == block => Err(7),
+        _ if is_taken => Err(8),
+        _ => Ok(place),
+    };
+    let has_block = |place: usize| certified(row, found.nodes, place) != 0;
+    match meaning {
+        1 => one(PLACE_OF_1, has_block(PLACE_OF_1)),
+        2 => one(PLACE_OF_2, has_block(PLACE_OF_2)),
+        4 => one(PLACE_OF_4, found.kept_4 >> slot & 1 == 1),
+        5 => one(PLACE_OF_5, found.kept_5 >> slot & 1 == 1),
+        _ if PLACES_OF_3.into_iter().any(|place| certified(row, found.nodes, place) == block) => Err(7),
+        _ => PLACES_OF_3.into_iter().find(|&place| !has_block(place)).ok_or(8),
+    }
 }
 
 // ---- the other inputs ----

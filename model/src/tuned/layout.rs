@@ -1,6 +1,6 @@
 //! Where everything stands in a record's words: a head with the stakes, then a
 //! row for each slot from 0, with four places for blocks, three words of its
-//! own, a tally card and a cell for each node.
+//! own, a tally card, thirteen places for certificates and a cell for each node.
 
 pub const COUNT: usize = 0;
 pub const TOTAL: usize = 1;
@@ -25,7 +25,16 @@ pub const CLASH: usize = 14;
 /// leading notar block and its weight.
 pub const CARD: usize = 15;
 pub const CARD_WORDS: usize = 5;
-pub const ROW_HEAD: usize = CARD + CARD_WORDS;
+
+/// A place for a certificate is its block and masks A and B; with neither mask
+/// it is free. The first four are those of kinds 1, 2, 4 and 5, the rest of kind 3.
+pub const CERTIFICATES: usize = CARD + CARD_WORDS;
+pub const CERTIFICATE_PLACES: usize = 13;
+pub const PLACE_OF_1: usize = 0;
+pub const PLACE_OF_2: usize = 1;
+pub const PLACE_OF_4: usize = 2;
+pub const PLACE_OF_5: usize = 3;
+pub const PLACES_OF_3: std::ops::Range<usize> = 4..CERTIFICATE_PLACES;
 
 /// A cell is a notar block, a skip flag, three fallback blocks, a skip-fallback
 /// flag and a final flag.
@@ -48,13 +57,43 @@ pub fn record_words(nodes: usize) -> usize {
 }
 
 pub fn row_words(nodes: usize) -> usize {
-    ROW_HEAD + CELL * nodes
+    cells_at(nodes) + CELL * nodes
 }
 
-/// The nodes of a ring whose records have so many words.
+/// Where the cells of a row begin.
+pub fn cells_at(nodes: usize) -> usize {
+    CERTIFICATES + CERTIFICATE_PLACES * place_words(nodes)
+}
+
+pub fn place_words(nodes: usize) -> usize {
+    1 + 2 * mask_words(nodes)
+}
+
+pub fn mask_words(nodes: usize) -> usize {
+    if nodes > MOST_SMALL {
+        MOST_NODES / 64
+    } else {
+        1
+    }
+}
+
+/// The nodes of a ring whose records have so many words; within a family every
+/// node adds as many.
 pub fn nodes_of(words: usize) -> Option<usize> {
-    let nodes = words.checked_sub(record_words(0))? / (record_words(1) - record_words(0));
-    (nodes >= 1 && nodes <= MOST_NODES && record_words(nodes) == words).then_some(nodes)
+    let is_large = words >= record_words(MOST_SMALL + 1);
+    let known = if is_large { MOST_SMALL + 1 } else { 1 };
+    let nodes = known + words.checked_sub(record_words(known))? / (record_words(2) - record_words(1));
+    (nodes <= MOST_NODES && record_words(nodes) == words).then_some(nodes)
+}
+
+/// The certificates of a row.
+pub fn certificates(row: &[u64], nodes: usize) -> std::slice::ChunksExact<'_, u64> {
+    row[CERTIFICATES..cells_at(nodes)].chunks_exact(place_words(nodes))
+}
+
+/// The block of a certificate's place; 0 in a free one.
+pub fn certified(row: &[u64], nodes: usize, place: usize) -> u64 {
+    row[CERTIFICATES + place * place_words(nodes)]
 }
 
 pub fn cell(words: &[u64]) -> &Cell {

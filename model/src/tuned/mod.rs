@@ -28,6 +28,6 @@ pub use checker::check_certificate;
 pub use checker::{check_proof, Check};
 #[cfg(test)]
 pub use inputs::{block, card, timeout};
-pub use inputs::{look, start, store_vote, tray, vote};
+pub use inputs::{look, start, store_certificate, store_vote, take_certificate, tray, vote};
 pub use layout::{record_words, OUTBOX_WORDS};
 pub use writer::write_certificate;

@@ -23,6 +23,9 @@ pub struct Call<'a, const PLACES: usize> {
     own: usize,
     /// Bit s: slot s has votes.
     voted: u32,
+    /// Bit s: a certificate of kind 4, or one of kind 5, is kept for slot s.
+    kept_4: u32,
+    kept_5: u32,
     /// Bit s: slot s was weighed, and no block was voted for in it since.
     weighed: u32,
     weights: [Weights; ROWS],
@@ -38,6 +41,8 @@ impl<'a, const PLACES: usize> Call<'a, PLACES> {
             total: head[TOTAL],
             own: head[OWN] as usize,
             voted: found.voted,
+            kept_4: found.kept_4,
+            kept_5: found.kept_5,
             head,
             rows,
             outbox,
@@ -59,7 +64,7 @@ impl<'a, const PLACES: usize> Call<'a, PLACES> {
     }
 
     fn cells(&self, slot: usize) -> &[u64] {
-        &self.row(slot)[ROW_HEAD..]
+        &self.row(slot)[cells_at(self.nodes)..]
     }
 
     fn card(&self, slot: usize) -> Card {
@@ -97,31 +102,62 @@ impl<'a, const PLACES: usize> Call<'a, PLACES> {
             self.weighed |= 1 << slot;
             self.weights[slot] = Weights::default();
             if self.has_votes(slot) {
-                let cells = &self.rows[slot * row_words(self.nodes)..][ROW_HEAD..row_words(self.nodes)];
+                let cells =
+                    &self.rows[slot * row_words(self.nodes)..][cells_at(self.nodes)..row_words(self.nodes)];
                 self.weights[slot] = Weights::of(cells, &self.head[STAKES..], self.total, &mut self.blocks);
             }
         }
         &self.weights[slot]
     }
 
+    // ---- what is held, by votes or kept ----
+
+    /// The block of a kept certificate, 0 where none is.
+    fn certified(&self, slot: usize, place: usize) -> u64 {
+        certified(self.row(slot), self.nodes, place)
+    }
+
     fn holds_skip(&self, slot: usize) -> bool {
-        reaches(self.card(slot).skip_certificate, 3, self.total)
+        reaches(self.card(slot).skip_certificate, 3, self.total) || self.kept_4 >> slot & 1 == 1
+    }
+
+    fn holds_final(&self, slot: usize) -> bool {
+        reaches(self.card(slot).final_votes, 3, self.total) || self.kept_5 >> slot & 1 == 1
+    }
+
+    /// Kind 2 for one block.
+    fn holds_notar(&self, slot: usize, block: u64) -> bool {
+        let card = self.card(slot);
+        (card.leader == block && card.is_notarized(self.total))
+            || self.certified(slot, PLACE_OF_2) == block
+            || self.certified(slot, PLACE_OF_1) == block
     }
 
     /// Kind 3 for one block; kind 2 is held only where 3 is.
     fn holds_block(&self, slot: usize, block: u64) -> bool {
-        let card = self.card(slot);
-        (card.leader == block && card.is_notarized(self.total))
+        self.holds_notar(slot, block)
+            || PLACES_OF_3.into_iter().any(|place| self.certified(slot, place) == block)
             || reaches(behind(block, self.cells(slot), self.stakes()), 3, self.total)
     }
 
     fn holds_some_block(&mut self, slot: usize) -> bool {
-        if self.card(slot).is_notarized(self.total) {
+        let certified = |place| self.certified(slot, place) != 0;
+        if self.card(slot).is_notarized(self.total)
+            || [PLACE_OF_1, PLACE_OF_2, PLACES_OF_3.start].into_iter().any(certified)
+        {
             return true;
         }
         self.weights(slot);
-        let cells = &self.rows[slot * row_words(self.nodes)..][ROW_HEAD..row_words(self.nodes)];
+        let cells = &self.rows[slot * row_words(self.nodes)..][cells_at(self.nodes)..row_words(self.nodes)];
         self.weights[slot].certify(cells, &self.head[STAKES..], self.total)
+    }
+
+    /// Kind 1, or kinds 2 and 5, for one block.
+    fn holds_proof(&self, slot: usize, block: u64) -> bool {
+        let card = self.card(slot);
+        (card.leader == block && reaches(card.weight, 4, self.total))
+            || self.certified(slot, PLACE_OF_1) == block
+            || (self.holds_notar(slot, block) && self.holds_final(slot))
     }
 
     // ---- writing ----
@@ -136,8 +172,8 @@ impl<'a, const PLACES: usize> Call<'a, PLACES> {
         let mut card = self.card(slot);
         card.add(kind, node, block, self.cells(slot), self.stakes());
         let row = slot * row_words(self.nodes);
-        self.rows[row + CARD..row + ROW_HEAD].copy_from_slice(&card.words());
-        let cell = &mut self.rows[row + ROW_HEAD + node * CELL..][..CELL];
+        self.rows[row + CARD..row + CARD + CARD_WORDS].copy_from_slice(&card.words());
+        let cell = &mut self.rows[row + cells_at(self.nodes) + node * CELL..][..CELL];
         match kind {
             1 => cell[NOTAR] = block,
             2 => *cell[FALLBACKS].iter_mut().find(|place| **place == 0).expect("a free place") = block,
@@ -148,6 +184,17 @@ impl<'a, const PLACES: usize> Call<'a, PLACES> {
         self.voted |= 1 << slot;
         if kind <= 2 {
             self.weighed &= !(1 << slot);
+        }
+    }
+
+    /// The certificate, its block and masks, has that place.
+    pub fn keep(&mut self, slot: usize, place: usize, words: &[u64]) {
+        let at = slot * row_words(self.nodes) + CERTIFICATES + place * place_words(self.nodes);
+        self.rows[at..at + words.len()].copy_from_slice(words);
+        match place {
+            PLACE_OF_4 => self.kept_4 |= 1 << slot,
+            PLACE_OF_5 => self.kept_5 |= 1 << slot,
+            _ => {}
         }
     }
 
@@ -240,11 +287,9 @@ impl<'a, const PLACES: usize> Call<'a, PLACES> {
 
     /// C.
     fn vote_final(&mut self, slot: usize, own: &Cell) -> bool {
-        let card = self.card(slot);
         let applies = own[NOTAR] != 0
             && own[FALLBACKS.start] | own[SKIP_FALLBACK] | own[FINAL_VOTE] == 0
-            && card.leader == own[NOTAR]
-            && card.is_notarized(self.total);
+            && self.holds_notar(slot, own[NOTAR]);
         if applies {
             self.cast(5, slot, 0);
         }
@@ -277,7 +322,7 @@ impl<'a, const PLACES: usize> Call<'a, PLACES> {
         false
     }
 
-    /// Genesis's row has no votes, so nothing is held there.
+    /// Genesis's row is blank, so nothing is held there.
     fn is_kept_upon_certified(&self, slot: usize, block: u64) -> bool {
         let kept = self.kept(slot, block);
         kept.map_or(false, |(below, parent)| self.holds_block(below, parent))
@@ -307,12 +352,23 @@ impl<'a, const PLACES: usize> Call<'a, PLACES> {
             && reaches(card.skip + self.weights(slot).notar - card.weight, 2, total)
     }
 
-    /// F.
+    /// F: by votes no other block than the leading one has kind 1 or 2.
     fn finalize(&mut self, slot: usize) -> bool {
-        let card = self.card(slot);
-        card.is_final(self.total)
-            && card.leader != self.row(slot)[FINAL]
-            && self.tell_final(slot, card.leader)
+        let leader = self.card(slot).leader;
+        let kept = [self.certified(slot, PLACE_OF_1), self.certified(slot, PLACE_OF_2)];
+        if kept == [0, 0] {
+            return self.finalize_block(slot, leader);
+        }
+        let mut blocks = [leader, kept[0], kept[1]];
+        blocks.sort_unstable();
+        blocks.into_iter().any(|block| self.finalize_block(slot, block))
+    }
+
+    fn finalize_block(&mut self, slot: usize, block: u64) -> bool {
+        block != 0
+            && block != self.row(slot)[FINAL]
+            && self.holds_proof(slot, block)
+            && self.tell_final(slot, block)
     }
 
     fn row_word(&mut self, slot: usize, place: usize) -> &mut u64 {

@@ -1,6 +1,7 @@
 //! The test of a record, refusal 17.
 
 use super::card::Card;
+use super::checker::{judge, Table};
 use super::layout::*;
 use super::weights::{Blocks, Weights};
 
@@ -10,6 +11,9 @@ pub struct Found {
     pub nodes: usize,
     /// Bit s: slot s has votes.
     pub voted: u32,
+    /// Bit s: a certificate of kind 4, or one of kind 5, is kept for slot s.
+    pub kept_4: u32,
+    pub kept_5: u32,
 }
 
 /// None is 17.
@@ -27,17 +31,21 @@ fn rows_fit<const PLACES: usize>(words: &[u64], nodes: usize) -> Option<Found> {
     if !head_fits(head, nodes) {
         return None;
     }
-    let (mut voted, mut blocks) = (0, None::<Blocks<PLACES>>);
+    let mut found = Found { nodes, voted: 0, kept_4: 0, kept_5: 0 };
+    let mut blocks = None::<Blocks<PLACES>>;
     for (slot, row) in rows.chunks_exact(row_words(nodes)).enumerate() {
         if is_blank(row) {
             continue;
         }
-        if slot == 0 || !row_fits(slot, row, head, &mut blocks) {
+        if slot == 0 {
             return None;
         }
-        voted |= 1 << slot;
+        let used = row_fits(slot, row, head, &mut blocks)?;
+        found.voted |= 1 << slot;
+        found.kept_4 |= (used >> PLACE_OF_4 & 1) << slot;
+        found.kept_5 |= (used >> PLACE_OF_5 & 1) << slot;
     }
-    Some(Found { nodes, voted })
+    Some(found)
 }
 
 /// Or-ing a few words at a time, so that a row with votes is left at its front.
@@ -56,17 +64,59 @@ fn head_fits(head: &[u64], nodes: usize) -> bool {
         && total_of(&head[STAKES..]) == Some(head[TOTAL])
 }
 
+/// The places with certificates, a bit each; None is 17.
 fn row_fits<const PLACES: usize>(
     slot: usize,
     row: &[u64],
     head: &[u64],
     blocks: &mut Option<Blocks<PLACES>>,
-) -> bool {
-    let (row_head, cells) = row.split_at(ROW_HEAD);
-    row_head[TIMED_OUT] <= 1
+) -> Option<u32> {
+    let (row_head, cells) = row.split_at(cells_at(head.len() - STAKES));
+    let fits = row_head[TIMED_OUT] <= 1
         && row_head[CLASH] <= 1
         && blocks_fit(slot, &row_head[..BLOCKS], head[GENESIS])
-        && votes_fit(&Card::of(row_head), cells, head, blocks)
+        && votes_fit(&Card::of(row_head), cells, head, blocks);
+    if fits {
+        certificates_fit(slot, row_head, head)
+    } else {
+        None
+    }
+}
+
+/// Each accepted by the checker; those of kind 3 from the front, no block twice.
+fn certificates_fit(slot: usize, row_head: &[u64], head: &[u64]) -> Option<u32> {
+    if is_blank(&row_head[CERTIFICATES..]) {
+        return Some(0);
+    }
+    let nodes = head.len() - STAKES;
+    let table = Table { stakes: &head[STAKES..], total: head[TOTAL] };
+    let mut used = 0;
+    for (place, words) in certificates(row_head, nodes).enumerate() {
+        let (block, masks) = (words[0], &words[1..]);
+        if is_blank(masks) {
+            if block != 0 {
+                return None;
+            }
+            continue;
+        }
+        let (a, b) = masks.split_at(mask_words(nodes));
+        judge(&table, kind_at(place, nodes), slot as u64, block, a, b).ok()?;
+        used |= 1 << place;
+    }
+    let of_3 = used >> PLACES_OF_3.start;
+    let blocks = PLACES_OF_3.map(|place| certified(row_head, nodes, place));
+    (of_3 & (of_3 + 1) == 0 && no_block_twice(blocks)).then_some(used)
+}
+
+fn no_block_twice(blocks: impl Iterator<Item = u64> + Clone) -> bool {
+    let kept = blocks.take_while(|&block| block != 0);
+    kept.clone().enumerate().all(|(place, block)| kept.clone().take(place).all(|earlier| earlier != block))
+}
+
+/// The packet's kind of the certificates in a place.
+fn kind_at(place: usize, nodes: usize) -> u64 {
+    let meaning = [1, 2, 4, 5].get(place).copied().unwrap_or(3);
+    meaning + if nodes > MOST_SMALL { 10 } else { 0 }
 }
 
 /// Filled from the front, no number twice, each with a parent that 5 and 11 let

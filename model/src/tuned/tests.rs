@@ -5,8 +5,10 @@ use super::layout::*;
 use super::sound::sound;
 use super::*;
 use crate::gen;
+use crate::packet;
 use crate::panel::{lines, show_hex, Answer, Panel};
 use crate::random::Random;
+use crate::stakes::Stakes;
 
 /// Answers the commands that the tuned version has, as the panel does.
 #[derive(Default)]
@@ -26,6 +28,9 @@ impl Tuned {
             let stakes = numbers(stakes)?;
             let check = if *name == "check" { check_certificate } else { check_proof };
             return Some(show_check(check(&stakes, &packet)));
+        }
+        if let ("take", [packet], false) = (*name, rest, self.words.is_empty()) {
+            return Some(self.take(&bytes(packet)?));
         }
         let numbers = numbers(rest)?;
         match (*name, &numbers[..]) {
@@ -59,6 +64,14 @@ impl Tuned {
             _ => return None,
         };
         Some(if number == 0 { show_records(&outbox, made) } else { number.to_string() })
+    }
+
+    fn take(&mut self, packet: &[u8]) -> String {
+        let mut outbox = [0; OUTBOX_WORDS];
+        match take_certificate(&mut self.words, &mut outbox, packet) {
+            (0, made) => show_records(&outbox, made),
+            (number, _) => number.to_string(),
+        }
     }
 
     fn tray(&mut self, votes: &[u64]) -> String {
@@ -162,6 +175,7 @@ fn answers_as_the_model_does() {
         ("timeout", 300),
         ("look", 300),
         ("tray", 30),
+        ("take", 1_000),
         ("cert", 300),
         ("card", 300),
         ("check", 300),
@@ -205,7 +219,7 @@ fn plain_row(row: &[u64], slot: usize, words: &[u64], nodes: usize) -> bool {
         .iter()
         .all(|block| block[2] != 0 && block[1] < slot as u64 && (block[1] > 0 || block[2] == words[GENESIS]));
     let apart = (0..kept.len()).all(|i| (0..i).all(|j| kept[i][0] != kept[j][0]));
-    let cells: Vec<&[u64]> = row[ROW_HEAD..].chunks(CELL).collect();
+    let cells: Vec<&[u64]> = row[cells_at(nodes)..].chunks(CELL).collect();
     let leans = |block: u64| {
         let notar = stake_where(row, words, nodes, &|cell| cell[0] == block);
         let skip = stake_where(row, words, nodes, &|cell| cell[1] == 1);
@@ -219,12 +233,51 @@ fn plain_row(row: &[u64], slot: usize, words: &[u64], nodes: usize) -> bool {
         && row[CLASH] < 2
         && cells.iter().all(|cell| plain_cell(cell))
         && cells[words[OWN] as usize][2..5].iter().all(|&block| block == 0 || leans(block))
-        && row[CARD..ROW_HEAD] == plain_card(row, words, nodes)
+        && row[CARD..][..CARD_WORDS] == plain_card(row, words, nodes)
+        && plain_certificates(row, slot, words, nodes)
+}
+
+/// Every certificate is written as the packet that it was and given to the
+/// model's checker; no two have kind and block in common.
+fn plain_certificates(row: &[u64], slot: usize, words: &[u64], nodes: usize) -> bool {
+    let stakes = match Stakes::new(&words[STAKES..STAKES + nodes]) {
+        Ok(stakes) => stakes,
+        Err(_) => return false,
+    };
+    let more = if nodes > MOST_SMALL { 10 } else { 0 };
+    let mut kept = Vec::new();
+    let mut is_free_before = false;
+    for place in 0..CERTIFICATE_PLACES {
+        let length = 1 + 2 * if nodes > MOST_SMALL { 32 } else { 1 };
+        let place_words = &row[20 + place * length..][..length];
+        let meaning = if place < 4 { [1, 2, 4, 5][place] } else { 3 };
+        is_free_before &= place > 4;
+        if place_words[1..].iter().all(|&word| word == 0) {
+            if place_words[0] != 0 {
+                return false;
+            }
+            is_free_before = true;
+            continue;
+        }
+        let mut bytes = Vec::new();
+        for &number in [meaning + more, slot as u64].iter().chain(place_words) {
+            packet::put_number(&mut bytes, number);
+        }
+        let in_front = meaning != 3 || !is_free_before;
+        if !in_front
+            || packet::check_whole(&bytes, &stakes).is_err()
+            || kept.contains(&(meaning, place_words[0]))
+        {
+            return false;
+        }
+        kept.push((meaning, place_words[0]));
+    }
+    true
 }
 
 /// The stakes of the nodes with such a cell; of spoiled stakes some wrap.
 fn stake_where(row: &[u64], words: &[u64], nodes: usize, counts: &dyn Fn(&[u64]) -> bool) -> u64 {
-    let cells = row[ROW_HEAD..].chunks(CELL).zip(&words[STAKES..STAKES + nodes]);
+    let cells = row[cells_at(nodes)..].chunks(CELL).zip(&words[STAKES..STAKES + nodes]);
     cells.filter(|(cell, _)| counts(cell)).fold(0, |sum, (_, stake)| stake.wrapping_add(sum))
 }
 
@@ -232,7 +285,7 @@ fn stake_where(row: &[u64], words: &[u64], nodes: usize, counts: &dyn Fn(&[u64])
 fn plain_card(row: &[u64], words: &[u64], nodes: usize) -> [u64; CARD_WORDS] {
     let stake_where = |counts: &dyn Fn(&[u64]) -> bool| stake_where(row, words, nodes, counts);
     let mut blocks: Vec<u64> =
-        row[ROW_HEAD..].chunks(CELL).map(|cell| cell[0]).filter(|&block| block != 0).collect();
+        row[cells_at(nodes)..].chunks(CELL).map(|cell| cell[0]).filter(|&block| block != 0).collect();
     blocks.sort_unstable();
     let weights = blocks.iter().map(|&block| (stake_where(&|cell| cell[0] == block), block));
     let (weight, leader) = weights.fold((0, 0), |most, next| if next.0 > most.0 { next } else { most });
@@ -252,13 +305,13 @@ fn plain_cell(cell: &[u64]) -> bool {
     cell[1] < 2 && cell[5] < 2 && cell[6] < 2 && (cell[0] == 0 || cell[1] == 0) && in_front && apart
 }
 
-/// The record at the end of a script of a small ring.
-fn left_by(seed: u64) -> Option<Vec<u64>> {
+/// The record at the end of a script of a ring of at most so many.
+fn left_by(seed: u64, most: u64) -> Option<Vec<u64>> {
     let mut tuned = Tuned::default();
     for line in lines(gen::script(seed).text.as_bytes()) {
         tuned.line(line);
     }
-    (!tuned.words.is_empty() && tuned.words[COUNT] <= 12).then_some(tuned.words)
+    (!tuned.words.is_empty() && tuned.words[COUNT] <= most).then_some(tuned.words)
 }
 
 /// One word changed, as a spoiler would: to 0, 1, its neighbour's, one more, or anything.
@@ -275,13 +328,49 @@ fn spoil(words: &mut [u64], random: &mut Random) {
     };
 }
 
+/// Something of a kept certificate changed: a signer, its block, its place, or all of it.
+fn spoil_certificate(words: &mut [u64], random: &mut Random) {
+    let nodes = words[COUNT] as usize;
+    let length = place_words(nodes);
+    let at =
+        |slot: usize, place: usize| STAKES + nodes + slot * row_words(nodes) + CERTIFICATES + place * length;
+    let places = (1..=LAST_SLOT).flat_map(|slot| (0..CERTIFICATE_PLACES).map(move |place| at(slot, place)));
+    let used: Vec<usize> =
+        places.filter(|&at| words[at..at + length].iter().any(|&word| word != 0)).collect();
+    if used.is_empty() {
+        return;
+    }
+    let one = random.pick(&used);
+    // Mostly in the same row.
+    let row = (one - STAKES - nodes) / row_words(nodes);
+    let near = at(row, random.index(CERTIFICATE_PLACES));
+    let far = random.pick(&used);
+    let other = random.pick(&[near, near, far]);
+    let a = one + 1 + random.index(mask_words(nodes));
+    let b = a + mask_words(nodes);
+    match random.below(9) {
+        0 => words[a] ^= 1 << random.below(64),
+        1 => words[b] ^= 1 << random.below(64),
+        2 => words.swap(a, b),
+        3 => words[one] = random.pick(&[0, words[other], words[one].wrapping_add(1)]),
+        4 => words[one..one + length].fill(0),
+        5 => words[one + 1..one + length].fill(0),
+        6 => words.copy_within(one..one + length, other),
+        7 => {
+            words.copy_within(one..one + length, other);
+            words[one..one + length].fill(0);
+        }
+        _ => words[a] = words[a].wrapping_sub(1),
+    }
+}
+
 /// The cards of a record of unspoiled length, counted once more.
 fn recount(words: &mut [u64]) {
     let nodes = (1..=MOST_NODES).find(|&nodes| record_words(nodes) == words.len()).expect("a length");
     for slot in 1..=LAST_SLOT {
         let row = STAKES + nodes + slot * row_words(nodes);
         let card = plain_card(&words[row..][..row_words(nodes)], words, nodes);
-        words[row + CARD..row + ROW_HEAD].copy_from_slice(&card);
+        words[row + CARD..][..CARD_WORDS].copy_from_slice(&card);
     }
 }
 
@@ -292,7 +381,7 @@ fn the_test_of_a_record_is_the_plain_one() {
     let mut random = Random::new(29);
     let (mut refused, mut passed) = (0, 0);
     for seed in 1..250 {
-        let record = match left_by(seed) {
+        let record = match left_by(seed, 12) {
             Some(record) => record,
             None => continue,
         };
@@ -313,6 +402,32 @@ fn the_test_of_a_record_is_the_plain_one() {
     assert!(refused > 1_000 && passed > 1_000, "{refused} refused, {passed} passed");
 }
 
+/// The rings and places of both families.
+#[test]
+fn the_test_of_certificates_is_the_plain_one() {
+    let mut random = Random::new(111);
+    let (mut refused, mut passed, mut large) = (0, 0, 0);
+    for seed in 1..700 {
+        let record = match left_by(seed, 130) {
+            Some(record) => record,
+            None => continue,
+        };
+        for _ in 0..40 {
+            let mut spoiled = record.clone();
+            spoil_certificate(&mut spoiled, &mut random);
+            if spoiled == record {
+                continue;
+            }
+            let plain = plainly_sound(&spoiled);
+            assert_eq!(sound(&spoiled).is_some(), plain, "seed {seed}");
+            *(if plain { &mut passed } else { &mut refused }) += 1;
+            large += usize::from(record[COUNT] > MOST_SMALL as u64);
+        }
+    }
+    let counts = format!("{refused} refused, {passed} passed, {large} with large tables");
+    assert!(refused > 3_000 && passed > 500 && large > 300, "{counts}");
+}
+
 /// Slots of a few votes for a few blocks, of nodes whose stakes make ties; then
 /// every claim of a leader but the recount's is refused.
 #[test]
@@ -328,13 +443,12 @@ fn no_other_leader_passes() {
             store_vote(&mut words, 1, node, 3, random.range(5, 8));
         }
         assert!(sound(&words).is_some() && plainly_sound(&words));
-        let card = STAKES + nodes + 3 * row_words(nodes) + CARD;
+        let row = STAKES + nodes + 3 * row_words(nodes);
+        let (card, cells) = (row + CARD, row + cells_at(nodes));
         let (leader, weight) = (words[card + 3], words[card + 4]);
         for other in (0..=9).filter(|&other| other != leader) {
-            let notar: u64 = (1..nodes)
-                .filter(|node| words[card + CARD_WORDS + node * CELL] == other)
-                .map(|node| stakes[node])
-                .sum();
+            let notar: u64 =
+                (1..nodes).filter(|node| words[cells + node * CELL] == other).map(|node| stakes[node]).sum();
             assert!(notar < weight || (notar == weight && leader < other));
             ties += usize::from(notar == weight);
             for claimed in [notar, weight] {
@@ -348,8 +462,14 @@ fn no_other_leader_passes() {
 
 #[test]
 fn sizes_at_their_limits() {
-    assert_eq!(record_words(3), 708);
-    assert_eq!(record_words(2048), 246_108);
+    assert_eq!(record_words(3), 1_371);
+    assert_eq!(record_words(64), 8_691);
+    assert_eq!(record_words(65), 22_513);
+    assert_eq!(record_words(2048), 260_473);
+    let by_length = |words| (1..=MOST_NODES).find(|&nodes| record_words(nodes) == words);
+    for words in (0..24_000).chain(260_000..262_000) {
+        assert_eq!(nodes_of(words), by_length(words), "{words} words");
+    }
     assert_eq!(total_of(&[MOST_TOTAL]), Some(MOST_TOTAL));
     assert_eq!(total_of(&[MOST_TOTAL, 1]), None);
     assert_eq!(total_of(&[u64::MAX, 2]), None);

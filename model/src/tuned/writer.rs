@@ -1,7 +1,7 @@
 //! The certificate writer.
 
 use super::layout::*;
-use super::sound::sound;
+use super::sound::{sound, Found};
 use super::weights::names;
 
 const MASK: usize = MOST_NODES / 64;
@@ -26,16 +26,32 @@ pub fn write_certificate(words: &[u64], buffer: &mut [u8], kind: u64, slot: u64,
     if (meaning <= 3) != (block != 0) {
         return (5, 0);
     }
+    let masks = mask_words(found.nodes);
     let (a, b, weight) = signers(words, found.nodes, meaning, slot as usize, block);
-    if !reaches(weight, if meaning == 1 { 4 } else { 3 }, words[TOTAL]) {
-        return (18, 0);
+    if reaches(weight, if meaning == 1 { 4 } else { 3 }, words[TOTAL]) {
+        return (0, put_numbers(buffer, [kind, slot, block].iter().chain(&a[..masks]).chain(&b[..masks])));
     }
-    let masks = if is_large { MASK } else { 1 };
-    let mut written = 0;
-    for &number in [kind, slot, block].iter().chain(&a[..masks]).chain(&b[..masks]) {
-        written += put_number(&mut buffer[written..], number);
+    match kept(words, &found, meaning, slot as usize, block) {
+        Some(masks) => (0, put_numbers(buffer, [kind, slot, block].iter().chain(masks))),
+        None => (18, 0),
     }
-    (0, written)
+}
+
+/// Both masks of a kept certificate that does for the kind, its own kind before
+/// 2 and 2 before 1.
+fn kept<'a>(words: &'a [u64], found: &Found, meaning: u64, slot: usize, block: u64) -> Option<&'a [u64]> {
+    let row = &words[STAKES + found.nodes + slot * row_words(found.nodes)..];
+    let masks =
+        |place: usize| &row[CERTIFICATES + place * place_words(found.nodes)..][1..place_words(found.nodes)];
+    let has_block = |&place: &usize| certified(row, found.nodes, place) == block;
+    let place = match meaning {
+        1 => Some(PLACE_OF_1).filter(has_block),
+        2 => [PLACE_OF_2, PLACE_OF_1].into_iter().find(has_block),
+        3 => PLACES_OF_3.chain([PLACE_OF_2, PLACE_OF_1]).find(has_block),
+        4 => (found.kept_4 >> slot & 1 == 1).then_some(PLACE_OF_4),
+        _ => (found.kept_5 >> slot & 1 == 1).then_some(PLACE_OF_5),
+    };
+    place.map(masks)
 }
 
 /// Both masks, and what their nodes weigh.
@@ -47,7 +63,7 @@ fn signers(
     block: u64,
 ) -> ([u64; MASK], [u64; MASK], u64) {
     let (head, rows) = words.split_at(STAKES + nodes);
-    let cells = &rows[slot * row_words(nodes)..][ROW_HEAD..row_words(nodes)];
+    let cells = &rows[slot * row_words(nodes)..][cells_at(nodes)..row_words(nodes)];
     let (mut a, mut b, mut weight) = ([0; MASK], [0; MASK], 0);
     for (node, (words, stake)) in cells.chunks_exact(CELL).zip(&head[STAKES..]).enumerate() {
         let cell = cell(words);
@@ -67,6 +83,14 @@ fn signers(
         }
     }
     (a, b, weight)
+}
+
+fn put_numbers<'a>(buffer: &mut [u8], numbers: impl Iterator<Item = &'a u64>) -> usize {
+    let mut written = 0;
+    for &number in numbers {
+        written += put_number(&mut buffer[written..], number);
+    }
+    written
 }
 
 fn put_number(buffer: &mut [u8], mut number: u64) -> usize {

@@ -9,34 +9,26 @@ use Rattle.commands.proofs.count_and_message.Tie as tie
 word-at-requires : tie.Need-word-at-requires
 word-at-requires c κs = search needs
 
-word-at-requires-2 : tie.Need-word-at-requires-2
-word-at-requires-2 c κs = search needs
-
 slice-aggregate-exactly : tie.Need-slice-aggregate-exactly
 slice-aggregate-exactly c =
-    sym (length-take-le (c .before .before .word-at .result .to) (c .before .before .before .before .args .line .now) (c .before .before .word-at .ensures .to .high))
+    sym (length-take-le (c .before .word-at .result .to) (c .before .before .before .args .line .now) (c .before .word-at .ensures .to .high))
 
 exactly-requires : tie.Need-exactly-requires
 exactly-requires c κs = search needs
 
-packet-and-stakes-requires : tie.Need-packet-and-stakes-requires
-packet-and-stakes-requires c κs = search needs
-
-exactly-requires-2 : tie.Need-exactly-requires-2
-exactly-requires-2 c κs = search needs
+packet-alone-requires : tie.Need-packet-alone-requires
+packet-alone-requires c κs = search needs
 
 returns : tie.Need-returns
 returns c =
-    message-is _ _ (c .before .before .before .before .before .word-at .result) (c .before .before .before .before .before .word-at .ensures) (c .before .before .before .before .word-at2 .result) (c .before .before .before .before .word-at2 .ensures) _ _ _ (c .before .before .exactly .ensures) (c .before .packet-and-stakes .ensures) (c .exactly2 .ensures)
+    message-is _ _ (c .before .before .before .word-at .result) (c .before .before .before .word-at .ensures) _ _ (c .before .exactly .ensures) (c .packet-alone .ensures)
 
 pub count-and-message-spec : {M : Type 1} → statement M
 count-and-message-spec =
     tie.close
     (tie.spec
     word-at-requires
-    word-at-requires-2
     slice-aggregate-exactly
     exactly-requires
-    packet-and-stakes-requires
-    exactly-requires-2
+    packet-alone-requires
     returns)

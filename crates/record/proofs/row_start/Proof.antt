@@ -2,7 +2,7 @@
 use native.Mathlib.Omega.{arith}
 use borrow.Author.Needs.{needs}
 use Rattle.record.specs.Layout.{placesIn}
-use Rattle.record.proofs.Places.{places-words, row-sum, row-here}
+use Rattle.record.proofs.Places.{words-in, places-words, row-sum, row-here}
 use Rattle.record.proofs.row_start.Statement.{statement}
 use Rattle.record.proofs.row_start.Tie as tie
 
@@ -10,30 +10,26 @@ places-in-requires : tie.Need-places-in-requires
 places-in-requires c κs = search needs
 
 add-result : tie.Need-add-result
-add-result c =
-    omega (arith, row-sum (c .before .before .args .rec .now) (c .before .before .args .s .0) (c .before .before .pre), c .places-in .ensures, places-words (placesIn (c .before .before .args .rec .now)) (c .before .before .args .rec .now))
+add-result c = let ws = c .before .before .args .rec .now in
+    omega (arith, c .places-in .ensures, places-words (placesIn ws) ws, words-in ws (c .before .before .pre .long))
+
+row-head-requires : tie.Need-row-head-requires
+row-head-requires c κs = search needs
 
 mul-result : tie.Need-mul-result
-mul-result c =
-    omega (arith, row-sum (c .before .before .args .rec .now) (c .before .before .args .s .0) (c .before .before .pre), c .places-in .ensures, places-words (placesIn (c .before .before .args .rec .now)) (c .before .before .args .rec .now))
+mul-result c = omega (arith, row-sum (c .before .before .before .args .rec .now) (c .before .places-in .result) (c .before .places-in .ensures) (c .before .before .before .args .s .0) (c .row-head .result) (c .before .before .before .pre) (c .row-head .ensures))
 
 add-result-2 : tie.Need-add-result-2
-add-result-2 c =
-    omega (arith, row-sum (c .before .before .args .rec .now) (c .before .before .args .s .0) (c .before .before .pre), c .places-in .ensures, places-words (placesIn (c .before .before .args .rec .now)) (c .before .before .args .rec .now))
+add-result-2 c = omega (arith, row-sum (c .before .before .before .args .rec .now) (c .before .places-in .result) (c .before .places-in .ensures) (c .before .before .before .args .s .0) (c .row-head .result) (c .before .before .before .pre) (c .row-head .ensures))
 
 mul-result-2 : tie.Need-mul-result-2
-mul-result-2 c =
-    rw (c .before .places-in .ensures, places-words (placesIn (c .before .before .before .args .rec .now)) (c .before .before .before .args .rec .now)) (omega (arith, row-sum (c .before .before .before .args .rec .now) (c .before .before .before .args .s .0) (c .before .before .before .pre)))
+mul-result-2 c = omega (arith, row-sum (c .before .before .before .before .args .rec .now) (c .before .before .places-in .result) (c .before .before .places-in .ensures) (c .before .before .before .before .args .s .0) (c .before .row-head .result) (c .before .before .before .before .pre) (c .before .row-head .ensures))
 
 add-result-3 : tie.Need-add-result-3
-add-result-3 c =
-    rw (c .before .places-in .ensures, places-words (placesIn (c .before .before .before .args .rec .now)) (c .before .before .before .args .rec .now)) (omega (arith, row-sum (c .before .before .before .args .rec .now) (c .before .before .before .args .s .0) (c .before .before .before .pre)))
+add-result-3 c = omega (arith, row-sum (c .before .before .before .before .args .rec .now) (c .before .before .places-in .result) (c .before .before .places-in .ensures) (c .before .before .before .before .args .s .0) (c .before .row-head .result) (c .before .before .before .before .pre) (c .before .row-head .ensures))
 
 returns : tie.Need-returns
-returns c =
-    rw (c .before .places-in .ensures, places-words (placesIn (c .before .before .before .args .rec .now)) (c .before .before .before .args .rec .now)) (row-here (c .before .before .before .args .rec .now) (c .before .before .before .args .s .0) (c .before .before .before .pre))
+returns c = row-here (c .before .before .before .before .args .rec .now) (c .before .before .places-in .result) (c .before .before .places-in .ensures) (c .before .before .before .before .args .s .0) (c .before .row-head .result) (c .before .before .before .before .pre) (c .before .row-head .ensures)
 
 pub row-start-spec : {M : Type 1} → statement M
-row-start-spec =
-    tie.close
-    (tie.spec places-in-requires add-result mul-result add-result-2 mul-result-2 add-result-3 returns)
+row-start-spec = tie.close (tie.spec places-in-requires add-result row-head-requires mul-result add-result-2 mul-result-2 add-result-3 returns)

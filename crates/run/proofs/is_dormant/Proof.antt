@@ -2,7 +2,7 @@
 use Prim.Native.Nat.{ℕ}
 use borrow.Author.Needs.{needs}
 use Rattle.record.specs.Layout.{ledgerOf}
-use Rattle.run.proofs.DormantLaws.{look-awake, look-told, look-votes}
+use Rattle.run.proofs.DormantLaws.{look-awake, look-told, look-named}
 use Rattle.run.proofs.is_dormant.Statement.{statement}
 use Rattle.run.proofs.is_dormant.Tie as tie
 
@@ -28,11 +28,14 @@ returns-2 c =
 has-notar-requires : tie.Need-has-notar-requires
 has-notar-requires c κs = search needs
 
+names-kept-requires : tie.Need-names-kept-requires
+names-kept-requires c κs = search needs
+
 returns-3 : tie.Need-returns-3
 returns-3 c =
-    let l = ledgerOf (c .before .before .before .before .before .before .before .args .rec .now) in let s : ℕ = c .before .before .before .before .before .before .before .args .s .0 in
-    look-votes l s (c .before .before .before .before .before .seeks-parent .result) (c .before .before .before .before .is-idle .result) (c .before .before .before .before .before .seeks-parent .ensures) (c .before .before .before .before .is-idle .ensures) (c .before .before .before .if1 .left) (c .before .before .final-block .result) (c .before .before .final-block .ensures) (c .before .if2 .left) (c .has-notar .result) (c .has-notar .ensures)
+    let l = ledgerOf (c .before .before .before .before .before .before .before .before .args .rec .now) in let s : ℕ = c .before .before .before .before .before .before .before .before .args .s .0 in
+    look-named l s (c .before .before .before .before .before .before .seeks-parent .result) (c .before .before .before .before .before .is-idle .result) (c .before .before .before .before .before .before .seeks-parent .ensures) (c .before .before .before .before .before .is-idle .ensures) (c .before .before .before .before .if1 .left) (c .before .before .before .final-block .result) (c .before .before .before .final-block .ensures) (c .before .before .if2 .left) (c .before .has-notar .result) (c .names-kept .result) (c .before .has-notar .ensures) (c .names-kept .ensures)
 
 pub is-dormant-spec : {M : Type 1} → statement M
 is-dormant-spec =
-    tie.close (tie.spec seeks-parent-requires is-idle-requires returns final-block-requires returns-2 has-notar-requires returns-3)
+    tie.close (tie.spec seeks-parent-requires is-idle-requires returns final-block-requires returns-2 has-notar-requires names-kept-requires returns-3)

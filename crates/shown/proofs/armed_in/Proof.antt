@@ -5,7 +5,8 @@ use borrow.Author.Tests.{not-true, not-false}
 use borrow.Author.Needs.{needs}
 use Rattle.rulebook.specs.Ledger.{isArmed}
 use Rattle.rulebook.specs.Weights.{slotOk}
-use Rattle.record.specs.Layout.{isLong, ledgerOf}
+use Rattle.record.specs.Layout.{ledgerOf}
+use Rattle.record.specs.Spelling.{isSpelled}
 use Rattle.shown.specs.Shown.{armedShown}
 use Rattle.shown.proofs.Laws.{first-off, second-off, both-on, slot-small, slot-later, whole-long}
 use Rattle.shown.proofs.armed_in.Statement.{statement}
@@ -17,7 +18,7 @@ slot-ok-requires c κs = search needs
 returns : tie.Need-returns
 unfolding armedShown
 returns c =
-    first-off (slotOk (c .before .before .before .args .s .0)) (isLong (c .before .before .before .args .rec .now)) false (λ _. isArmed (ledgerOf (c .before .before .before .args .rec .now)) (c .before .before .before .args .s .0)) (sym (c .before .slot-ok .ensures) ∙ not-true _ (c .if1 .taken))
+    first-off (slotOk (c .before .before .before .args .s .0)) (isSpelled (c .before .before .before .args .rec .now)) false (λ _. isArmed (ledgerOf (c .before .before .before .args .rec .now)) (c .before .before .before .args .s .0)) (sym (c .before .slot-ok .ensures) ∙ not-true _ (c .if1 .taken))
 
 is-long-requires : tie.Need-is-long-requires
 is-long-requires c κs = search needs
@@ -25,7 +26,7 @@ is-long-requires c κs = search needs
 returns-2 : tie.Need-returns-2
 unfolding armedShown
 returns-2 c =
-    second-off (slotOk (c .before .before .before .before .before .args .s .0)) (isLong (c .before .before .before .before .before .args .rec .now)) false (λ _. isArmed (ledgerOf (c .before .before .before .before .before .args .rec .now)) (c .before .before .before .before .before .args .s .0)) (sym (c .before .is-long .ensures) ∙ not-true _ (c .if2 .taken))
+    second-off (slotOk (c .before .before .before .before .before .args .s .0)) (isSpelled (c .before .before .before .before .before .args .rec .now)) false (λ _. isArmed (ledgerOf (c .before .before .before .before .before .args .rec .now)) (c .before .before .before .before .before .args .s .0)) (sym (c .before .is-long .ensures) ∙ not-true _ (c .if2 .taken))
 
 is-armed-requires : tie.Need-is-armed-requires
 is-armed-requires c κs =
@@ -35,7 +36,7 @@ is-armed-requires c κs =
 returns-3 : tie.Need-returns-3
 unfolding armedShown
 returns-3 c =
-    c .is-armed .ensures ∙ both-on (slotOk (c .before .before .before .before .before .before .args .s .0)) (isLong (c .before .before .before .before .before .before .args .rec .now)) false (λ _. isArmed (ledgerOf (c .before .before .before .before .before .before .args .rec .now)) (c .before .before .before .before .before .before .args .s .0)) (sym (c .before .before .before .before .slot-ok .ensures) ∙ not-false _ (c .before .before .before .if1 .left)) (sym (c .before .before .is-long .ensures) ∙ not-false _ (c .before .if2 .left))
+    c .is-armed .ensures ∙ both-on (slotOk (c .before .before .before .before .before .before .args .s .0)) (isSpelled (c .before .before .before .before .before .before .args .rec .now)) false (λ _. isArmed (ledgerOf (c .before .before .before .before .before .before .args .rec .now)) (c .before .before .before .before .before .before .args .s .0)) (sym (c .before .before .before .before .slot-ok .ensures) ∙ not-false _ (c .before .before .before .if1 .left)) (sym (c .before .before .is-long .ensures) ∙ not-false _ (c .before .if2 .left))
 
 pub armed-in-spec : {M : Type 1} → statement M
 armed-in-spec =

@@ -1,4 +1,4 @@
--- The four readings joined.
+-- The five readings joined.
 use mathlib.Core.Bool.{not, _||_}
 use Prim.Native.Nat.{_-_}
 use borrow.Author.Needs.{needs}
@@ -19,12 +19,18 @@ final-of-requires c κs = search needs
 has-votes-requires : tie.Need-has-votes-requires
 has-votes-requires c κs = search needs
 
+has-certificates-requires : tie.Need-has-certificates-requires
+has-certificates-requires c κs = search needs
+
 returns : tie.Need-returns
 unfolding touched
 returns c =
-    (λ i. not (none (c .before .before .before .before .kept-of .ensures i .number)) || ((c .before .before .before .timed-out-in .ensures i || not (none (c .before .before .final-of .ensures i))) || c .before .has-votes .ensures i))
+    let marks = c .before .before .before .before .timed-out-in in
+    (λ i. not (none (c .before .before .before .before .before .kept-of .ensures i .number))
+    || ((marks .ensures i || not (none (c .before .before .before .final-of .ensures i)))
+    || (c .before .before .has-votes .ensures i || c .before .has-certificates .ensures i)))
 
 pub touched-spec : {M : Type 1} → statement M
 touched-spec =
     tie.close
-    (tie.spec kept-of-requires timed-out-in-requires final-of-requires has-votes-requires returns)
+    (tie.spec kept-of-requires timed-out-in-requires final-of-requires has-votes-requires has-certificates-requires returns)

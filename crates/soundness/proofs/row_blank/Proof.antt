@@ -28,14 +28,18 @@ load-card-requires c κs =
 card-blank-requires : tie.Need-card-blank-requires
 card-blank-requires c κs = search needs
 
+nothing-kept-requires : tie.Need-nothing-kept-requires
+nothing-kept-requires c κs =
+    record { long = c .before .before .before .before .before .before .before .pre; slot = omega arith }
+
 cells-blank-requires : tie.Need-cells-blank-requires
 cells-blank-requires c κs =
-    record { long = c .before .before .before .before .before .before .before .pre; slot = omega arith }
+    record { long = c .before .before .before .before .before .before .before .before .pre; slot = omega arith }
 
 returns : tie.Need-returns
 unfolding rowBlank
 returns c =
-    simp (c .cells-blank .ensures, c .before .card-blank .ensures, c .before .before .load-card .ensures, c .before .before .before .timeout-word .ensures, c .before .before .before .before .clash-word .ensures, c .before .before .before .before .before .final-block .ensures, c .before .before .before .before .before .before .blocks-blank .ensures)
+    simp (c .cells-blank .ensures, c .before .nothing-kept .ensures, c .before .before .card-blank .ensures, c .before .before .before .load-card .ensures, c .before .before .before .before .timeout-word .ensures, c .before .before .before .before .before .clash-word .ensures, c .before .before .before .before .before .before .final-block .ensures, c .before .before .before .before .before .before .before .blocks-blank .ensures)
 
 pub row-blank-spec : {M : Type 1} → statement M
 row-blank-spec =
@@ -47,5 +51,6 @@ row-blank-spec =
     timeout-word-requires
     load-card-requires
     card-blank-requires
+    nothing-kept-requires
     cells-blank-requires
     returns)

@@ -1,8 +1,8 @@
--- The length, the head, row 0, the other rows by themselves, and what own fallbacks lean on, in that order.
+-- The spelling, the head, row 0, the other rows by themselves, and what own fallbacks lean on, in that order.
 use mathlib.Core.Path.{_∙_, sym}
 use borrow.Author.Tests.{not-true, not-false}
 use borrow.Author.Needs.{needs}
-use Rattle.record.proofs.Places.{long-true}
+use Rattle.record.proofs.Spelled.{spelled-long}
 use Rattle.soundness.proofs.Laws.{short-unsound, head-unsound, blank-unsound, rows-headed, rows-unsound, owns-decide}
 use Rattle.soundness.proofs.sound.Statement.{statement}
 use Rattle.soundness.proofs.sound.Tie as tie
@@ -16,7 +16,7 @@ returns c =
 
 head-fits-requires : tie.Need-head-fits-requires
 head-fits-requires c κs =
-    long-true _ (sym (c .before .is-long .ensures) ∙ not-false _ (c .if1 .left))
+    spelled-long _ (sym (c .before .is-long .ensures) ∙ not-false _ (c .if1 .left))
 
 returns-2 : tie.Need-returns-2
 returns-2 c =
@@ -24,7 +24,7 @@ returns-2 c =
 
 row-blank-requires : tie.Need-row-blank-requires
 row-blank-requires c κs =
-    long-true _ (sym (c .before .before .before .is-long .ensures) ∙ not-false _ (c .before .before .if1 .left))
+    spelled-long _ (sym (c .before .before .before .is-long .ensures) ∙ not-false _ (c .before .before .if1 .left))
 
 returns-3 : tie.Need-returns-3
 returns-3 c =

@@ -37,7 +37,7 @@ loop-less : tie.Need-loop-less Inv-loop μ-loop
 loop-less c = search needs
 
 loop-again : tie.Need-loop-again Inv-loop μ-loop
-loop-again c = (c .before .before .before .before .before .before .before .before .before .loop .inv .0, going-more (c .before .before .before .before .before .before .before .before .before .loop .inv .1) (c .before .before .before .before .before .vote-at .result) (omega (arith, c .before .before .before .before .before .before .before .before .before .loop .inv .0)) (c .before .before .before .before .before .before .before .before .before .before .before .before .before .before .pre .enough) (c .before .before .before .before .before .vote-at .ensures) (c .before .before .before .before .serve-vote .ensures) (c .before .before .before .before .serve-vote .kept .1 .0))
+loop-again c = (c .before .before .before .before .before .before .before .before .before .loop .inv .0, going-more (c .before .before .before .before .before .before .before .before .before .loop .inv .1) (c .before .before .before .before .before .vote-at .result) (omega (arith, c .before .before .before .before .before .before .before .before .before .loop .inv .0)) (c .before .before .before .before .before .before .before .before .before .before .before .before .before .before .pre .enough) (c .before .before .before .before .before .vote-at .ensures) (c .before .before .before .before .serve-vote .ensures) (λ n. c .before .before .slice-known4 .given n .fits) (c .before .before .before .before .serve-vote .kept .1 .0))
 
 same-length : tie.Need-same-length Inv-loop μ-loop
 same-length c = c .before .loop .inv .1 .size

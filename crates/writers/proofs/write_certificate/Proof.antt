@@ -40,13 +40,15 @@ enum-told c = search needs
 lay-certificate-requires : tie.Need-lay-certificate-requires
 lay-certificate-requires c κs =
     let s = c .before .before .before .before .before .before .before .before .before .before .args in
-    let f = certificate-fine (ledgerOf (now (s .rec))) (length (now (s .buffer))) _ (s .slot .0) (s .block) (sym (c .before .before .before .judge-certificate .ensures) ∙ c .before .enum-told .given .1) in
-    record {
-      sound = sym (c .before .before .before .before .before .before .before .sound .ensures) ∙ not-false _ (c .before .before .before .before .before .before .if1 .left);
-      kind = f .kind;
-      slot = slot-row _ (f .slot);
-      room = room-front (ledgerOf (now (s .rec))) _ (s .slot .0) (s .block) (now (s .buffer)) (slot-row _ (f .slot)) (f .room);
-    }
+    let f = certificate-fine (ledgerOf (now (s .rec))) (length (now (s .buffer))) _ (s .slot .0) (s .block) (sym (c .before .before .before .judge-certificate .ensures) ∙ c .before .enum-told .given .1) in (
+      record {
+        sound = sym (c .before .before .before .before .before .before .before .sound .ensures) ∙ not-false _ (c .before .before .before .before .before .before .if1 .left);
+        kind = f .kind;
+        slot = f .slot;
+        room = room-front (ledgerOf (now (s .rec))) _ (s .slot .0) (s .block) (now (s .buffer)) (slot-row _ (f .slot)) (f .room);
+      },
+      f .there,
+    )
 
 returns-2 : tie.Need-returns-2
 returns-2 c =

@@ -33,7 +33,7 @@ lay-proof-requires : tie.Need-lay-proof-requires
 lay-proof-requires c κs =
     let a = c .before .before .before .before .before .before .before .before in
     let f = (proof-fine (ledgerOf (a .args .rec .now)) (length (a .args .buffer .now)) (a .args .slot .0) (a .args .block) (sym (c .before .before .before .judge-proof .ensures) ∙ c .before .enum-told .given .1)) in
-    record { sound = (sym (c .before .before .before .before .before .sound .ensures) ∙ not-false _ (c .before .before .before .before .if1 .left)); slot = f .slot; room = f .room }
+    record { sound = (sym (c .before .before .before .before .before .sound .ensures) ∙ not-false _ (c .before .before .before .before .if1 .left)); slot = f .slot; final = f .final; room = f .room }
 
 returns-2 : tie.Need-returns-2
 returns-2 c =

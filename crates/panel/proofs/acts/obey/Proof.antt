@@ -73,8 +73,8 @@ answered-requires-6 c κs = search needs
 enum-told-7 : tie.Need-enum-told-7
 enum-told-7 c = search needs
 
-piece-requires : tie.Need-piece-requires
-piece-requires c κs = search needs
+take-requires : tie.Need-take-requires
+take-requires c κs = search needs
 
 answered-requires-7 : tie.Need-answered-requires-7
 answered-requires-7 c κs = search needs
@@ -82,11 +82,20 @@ answered-requires-7 c κs = search needs
 enum-told-8 : tie.Need-enum-told-8
 enum-told-8 c = search needs
 
-end-requires : tie.Need-end-requires
-end-requires c κs = search needs
+piece-requires : tie.Need-piece-requires
+piece-requires c κs = search needs
 
 answered-requires-8 : tie.Need-answered-requires-8
 answered-requires-8 c κs = search needs
+
+enum-told-9 : tie.Need-enum-told-9
+enum-told-9 c = search needs
+
+end-requires : tie.Need-end-requires
+end-requires c κs = search needs
+
+answered-requires-9 : tie.Need-answered-requires-9
+answered-requires-9 c κs = search needs
 
 others-requires : tie.Need-others-requires
 others-requires c κs = search needs
@@ -182,7 +191,9 @@ same-length-20 : tie.Need-same-length-20
 same-length-20 c = search needs
 
 returns-8 : tie.Need-returns-8
-returns-8 c = search needs
+unfolding tells
+returns-8 c =
+    telling _ (c .before .before .before .before .before .before .before .before .before .before .before .before .before .command-of .result) command.Take (c .before .before .before .before .before .before .before .before .before .before .before .before .before .command-of .ensures) (c .before .before .before .before .before .before .before .before .before .before .before .enum-told7 .given .1) refl _ _ _ _
 
 same-length-21 : tie.Need-same-length-21
 same-length-21 c = search needs
@@ -207,6 +218,18 @@ same-length-26 c = search needs
 
 returns-10 : tie.Need-returns-10
 returns-10 c = search needs
+
+same-length-27 : tie.Need-same-length-27
+same-length-27 c = search needs
+
+same-length-28 : tie.Need-same-length-28
+same-length-28 c = search needs
+
+same-length-29 : tie.Need-same-length-29
+same-length-29 c = search needs
+
+returns-11 : tie.Need-returns-11
+returns-11 c = search needs
 
 pub obey-spec : {M : Type 1} → statement M
 obey-spec =
@@ -234,11 +257,14 @@ obey-spec =
     tray-requires
     answered-requires-6
     enum-told-7
-    piece-requires
+    take-requires
     answered-requires-7
     enum-told-8
-    end-requires
+    piece-requires
     answered-requires-8
+    enum-told-9
+    end-requires
+    answered-requires-9
     others-requires
     same-length
     same-length-2
@@ -274,4 +300,8 @@ obey-spec =
     same-length-24
     same-length-25
     same-length-26
-    returns-10)
+    returns-10
+    same-length-27
+    same-length-28
+    same-length-29
+    returns-11)

@@ -1,0 +1,2 @@
+-- What judging kept certificates asks of a caller.
+pub mod Judging

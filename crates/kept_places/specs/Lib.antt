@@ -1,0 +1,2 @@
+-- What is looked for among a slot's kept certificates.
+pub mod Seeking

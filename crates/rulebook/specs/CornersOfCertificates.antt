@@ -1,0 +1,185 @@
+-- Computed cases of certificates from other firms: what a kept one lets the rules do, 7 and 8, the writers' masks, and 17.
+use mathlib.Core.Bool.{Bool, not, _&&_}
+use mathlib.Core.List.{List, [], _∷_, _++_}
+use Prim.Native.Nat.{ℕ, _^_}
+use lib.ListN.{set, replicate}
+use lib.Dec.{T}
+use Rattle.rulebook.specs.Certificates.{Kept}
+use Rattle.rulebook.specs.PaperNumbers.{kindIn, stepPanel, writePanel}
+use Rattle.rulebook.specs.Tools.{choose}
+use Rattle.rulebook.specs.Ledger.{Ledger, none, noKept, putArmed, putTimedOut, putCertificates}
+use Rattle.rulebook.specs.Packets.{certificateBytes}
+use Rattle.rulebook.specs.Taking.{Arrival, ofInput, ofPacket, served}
+use Rattle.rulebook.specs.Writers.{Wrote, writeCertificate, writeProof}
+use Rattle.rulebook.specs.WellFormed.{certificatesFit, wellFormed, takeCertificate}
+use Rattle.rulebook.specs.Scripts.{vote, block, votes, flatten, stored, ring, equal, equals, all}
+use Rattle.rulebook.specs.Computes.{rules}
+
+-- A packet by its five numbers: kind, slot, block and masks. Small numbers are spelled by themselves.
+abbrev packet : ℕ → ℕ → ℕ → ℕ → ℕ → Arrival
+packet k s b x y = ofPacket (k ∷ s ∷ b ∷ x ∷ y ∷ [])
+
+-- What each arrival is answered with: the panel's number and the records; and the ledger after all of them.
+abbrev answered : Ledger → List Arrival → List (List ℕ)
+answered l [] = []
+answered l (c ∷ cs) = let f = served l c in (stepPanel (f .answer) .number ∷ flatten (f .records)) ∷ answered (f .ledger) cs
+
+abbrev afterAll : Ledger → List Arrival → Ledger
+afterAll l [] = l
+afterAll l (c ∷ cs) = afterAll (served l c .ledger) cs
+
+-- Three nodes, the first window armed: the own node has 20 percent, node 1 has 60, node 2 has 20. So mask 2 reaches 60, and 6 reaches 80.
+abbrev stakes : List ℕ
+stakes = 1 ∷ 3 ∷ 1 ∷ []
+
+abbrev three : Ledger
+three = putArmed (ring stakes []) 1
+
+-- Done, with no record.
+abbrev nothing : List ℕ
+nothing = 0 ∷ []
+
+-- A kept 3, 2 or 1 makes a parent ready, and kept 4 the slots between; one of another slot does not.
+abbrev arms : Bool
+arms =
+    let armed : List ℕ = 0 ∷ 7 ∷ 5 ∷ 0 ∷ [] in
+    equals (answered three (packet 3 4 9 0 2 ∷ []) ++ (answered three (packet 2 4 9 2 0 ∷ []) ++ answered three (packet 1 4 9 6 0 ∷ []))) (armed ∷ armed ∷ (0 ∷ 6 ∷ 4 ∷ 9 ∷ 7 ∷ 5 ∷ 0 ∷ []) ∷ [])
+    && (equals (answered three (packet 3 3 9 2 0 ∷ packet 4 3 0 2 0 ∷ packet 4 4 0 0 2 ∷ [])) (nothing ∷ nothing ∷ armed ∷ [])
+    && equals (answered three (packet 4 1 0 2 0 ∷ packet 4 2 0 2 0 ∷ packet 4 4 0 2 0 ∷ packet 4 3 0 2 0 ∷ [])) (nothing ∷ nothing ∷ nothing ∷ armed ∷ []))
+
+-- A kept 1 makes a block final, and so do 2 and 5, kept in any order or one of them by votes; 3 and 5 do not.
+abbrev finals : Bool
+finals =
+    let final : List ℕ = 0 ∷ 6 ∷ 2 ∷ 7 ∷ [] in
+    all (equals (answered three (packet 1 2 7 6 0 ∷ [])) (final ∷ []) ∷ equals (answered three (packet 2 2 7 2 0 ∷ packet 5 2 0 2 0 ∷ [])) (nothing ∷ final ∷ [])
+    ∷ equals (answered three (packet 5 2 0 2 0 ∷ packet 3 2 7 2 0 ∷ packet 2 3 7 2 0 ∷ packet 2 2 7 2 0 ∷ [])) (nothing ∷ nothing ∷ nothing ∷ final ∷ [])
+    ∷ equals (answered three (ofInput (vote 1 1 2 7) ∷ packet 5 2 0 2 0 ∷ [])) (nothing ∷ final ∷ [])
+    ∷ equals (answered three (ofInput (vote 5 1 2 0) ∷ packet 2 2 7 2 0 ∷ [])) (nothing ∷ final ∷ []) ∷ [])
+
+-- "Where several blocks would do in F, the lowest": one is kept, the other has the votes; the other is then the newcomer.
+abbrev lowestFinal : Bool
+lowestFinal =
+    let both : ℕ → ℕ → List (List ℕ) = (λ kept voted. answered three (packet 2 2 kept 2 0 ∷ ofInput (vote 1 1 2 voted) ∷ packet 5 2 0 2 0 ∷ [])) in
+    let told : List ℕ = 0 ∷ 6 ∷ 2 ∷ 7 ∷ 8 ∷ 2 ∷ 9 ∷ [] in
+    equals (both 7 9 ++ both 9 7) (nothing ∷ nothing ∷ told ∷ nothing ∷ nothing ∷ told ∷ [])
+
+-- A kept 2, or a kept 1, lets the own final vote be cast for its block, not one for another block. The own node among the signers
+-- stores no own vote.
+abbrev finalVote : Bool
+finalVote =
+    let voted = stored three (block 1 7 0 1 ∷ vote 1 0 1 7 ∷ []) in
+    all (equals (answered voted (packet 2 1 8 2 0 ∷ packet 3 1 7 2 0 ∷ packet 1 1 7 6 0 ∷ [])) (nothing ∷ nothing ∷ (0 ∷ 5 ∷ 1 ∷ 0 ∷ 6 ∷ 1 ∷ 7 ∷ []) ∷ [])
+    ∷ equals (answered voted (packet 2 1 7 2 0 ∷ [])) ((0 ∷ 5 ∷ 1 ∷ 0 ∷ []) ∷ [])
+    ∷ equals (answered three (packet 2 1 7 3 0 ∷ ofInput (block 1 7 0 1) ∷ [])) (nothing ∷ (0 ∷ 1 ∷ 1 ∷ 7 ∷ 5 ∷ 1 ∷ 0 ∷ []) ∷ []) ∷ [])
+
+-- "Vote weights do not change": kept 2 and 4 give rules D and E no weight. A kept 2 serves as 3 where D waits for the parent.
+abbrev weightsStay : Bool
+weightsStay =
+    let skipped = stored three (votes 3 (0 ∷ []) 1 0 ++ votes 3 (0 ∷ []) 2 0 ++ votes 3 (0 ∷ []) 3 0 ++ votes 3 (0 ∷ []) 4 0) in
+    let voted = stored skipped (vote 1 1 2 9 ∷ block 2 9 1 7 ∷ []) in
+    all (equals (answered skipped (packet 2 1 7 2 0 ∷ packet 4 1 0 2 0 ∷ [])) (nothing ∷ nothing ∷ [])
+    ∷ equals (answered (stored skipped (vote 1 2 1 7 ∷ [])) (packet 2 1 7 2 0 ∷ [])) (nothing ∷ [])
+    ∷ equals (answered (stored three (block 1 7 0 1 ∷ vote 1 0 1 7 ∷ [])) (packet 4 1 0 2 0 ∷ packet 2 1 8 2 0 ∷ [])) (nothing ∷ nothing ∷ [])
+    ∷ equals (answered voted (packet 2 1 8 2 0 ∷ [])) (nothing ∷ []) ∷ equals (answered voted (packet 2 1 7 2 0 ∷ [])) ((0 ∷ 2 ∷ 2 ∷ 9 ∷ []) ∷ []) ∷ [])
+
+-- One certificate of each kind in slot 2.
+abbrev one : List Arrival
+one = packet 1 2 7 6 0 ∷ packet 2 2 7 2 0 ∷ packet 3 2 7 2 0 ∷ packet 4 2 0 2 0 ∷ packet 5 2 0 2 0 ∷ []
+
+-- The numbers alone of the answers.
+abbrev numbers : Ledger → List Arrival → List ℕ
+numbers l [] = []
+numbers l (c ∷ cs) = let f = served l c in stepPanel (f .answer) .number ∷ numbers (f .ledger) cs
+
+-- 7 for each kind, with other masks too; 8 for another block of kinds 1 and 2. The same in another slot, and other blocks of kind 3, are new.
+abbrev repeats : Bool
+repeats =
+    let l = afterAll three one in
+    equal (numbers l (one ++ (packet 1 2 7 7 0 ∷ packet 2 2 7 6 0 ∷ packet 3 2 7 2 4 ∷ packet 4 2 0 4 2 ∷ packet 5 2 0 7 0 ∷ packet 1 2 8 6 0 ∷ packet 2 2 8 2 0 ∷ [])))
+    (replicate 10 7 ++ (8 ∷ 8 ∷ []))
+    && equal (numbers l (packet 3 2 8 2 0 ∷ packet 1 3 7 6 0 ∷ packet 2 3 8 2 0 ∷ packet 4 3 0 2 0 ∷ [])) (0 ∷ 0 ∷ 0 ∷ 0 ∷ [])
+
+-- Nine certificates of kind 3 in slot 2: no tenth, a repeat of the first and of the last stays 7, other kinds and slots have their places.
+abbrev nine : List Arrival
+nine =
+    packet 3 2 21 2 0 ∷ packet 3 2 22 2 0 ∷ packet 3 2 23 2 0 ∷ packet 3 2 24 2 0 ∷ packet 3 2 25 2 0 ∷ packet 3 2 26 2 0 ∷ packet 3 2 27 2 0 ∷ packet 3 2 28 2 0 ∷ packet 3 2 29 0 2 ∷ []
+
+abbrev tenth : Bool
+tenth =
+    let l = afterAll three nine in
+    equal (numbers three nine ++ numbers l (packet 3 2 30 2 0 ∷ packet 3 2 21 6 0 ∷ packet 3 2 29 2 0 ∷ packet 2 2 30 2 0 ∷ packet 3 3 30 2 0 ∷ []))
+    (replicate 9 0 ++ (8 ∷ 7 ∷ 7 ∷ 0 ∷ 0 ∷ []))
+    && wellFormed l
+
+-- The checker's refusals in their order, leftover bytes last, all before 7; 17 and 9 before them.
+abbrev order : Bool
+order =
+    let l = afterAll three one in
+    let spelled : List ℕ → Arrival = (λ bytes. ofPacket bytes) in
+    let number : Ledger → ℕ → List ℕ → ℕ = (λ m room bytes. stepPanel (takeCertificate m room bytes .answer) .number) in
+    equal (numbers l (spelled [] ∷ spelled (2 ∷ 2 ∷ 7 ∷ 2 ∷ []) ∷ spelled (2 ∷ 2 ∷ 7 ∷ 128 ∷ 0 ∷ 0 ∷ []) ∷ packet 9 0 0 9 9 ∷ packet 12 2 7 2 0 ∷ packet 2 17 0 9 9 ∷ packet 2 2 0 9 9
+    ∷ packet 2 2 7 9 0 ∷ packet 2 2 7 4 0 ∷ spelled (2 ∷ 2 ∷ 7 ∷ 2 ∷ 0 ∷ 0 ∷ []) ∷ []))
+    (12 ∷ 12 ∷ 13 ∷ 4 ∷ 12 ∷ 3 ∷ 5 ∷ 14 ∷ 15 ∷ 12 ∷ [])
+    && equal (number (putTimedOut l 0) 0 [] ∷ number l 479 [] ∷ number l 480 [] ∷ number l 480 (2 ∷ 2 ∷ 7 ∷ 2 ∷ 0 ∷ []) ∷ number l 480 (2 ∷ 3 ∷ 7 ∷ 2 ∷ 0 ∷ []) ∷ [])
+    (17 ∷ 9 ∷ 12 ∷ 7 ∷ 0 ∷ [])
+
+-- What the certificate writer gives for a kind and a block of slot 2, and the proof writer: the number, then the bytes.
+abbrev written : Wrote → List ℕ
+written w = writePanel (w .answer) .number ∷ w .bytes
+
+abbrev writes : List Arrival → ℕ → ℕ → List ℕ
+writes cs k b = written (writeCertificate (afterAll three cs) 32 (kindIn 3 k) 2 b)
+
+-- "The writer uses stored votes first, else the kept masks of the kind asked for, else those of a kept 2, else of a kept 1."
+abbrev writers : Bool
+writers =
+    let fast = packet 1 2 7 6 0 in
+    let notar = packet 2 2 7 3 0 in
+    let fallback = packet 3 2 7 0 2 in
+    let node1 = ofInput (vote 1 1 2 7) in
+    equals (writes (fast ∷ notar ∷ fallback ∷ []) 3 7 ∷ writes (fast ∷ notar ∷ []) 3 7 ∷ writes (fast ∷ []) 3 7 ∷ writes (fast ∷ notar ∷ []) 2 7 ∷ writes (fast ∷ []) 2 7
+    ∷ writes (fast ∷ notar ∷ fallback ∷ []) 1 7 ∷ writes (fast ∷ notar ∷ fallback ∷ node1 ∷ []) 3 7 ∷ writes (notar ∷ node1 ∷ []) 2 7 ∷ writes (packet 4 2 0 0 2 ∷ []) 4 0 ∷ writes (packet 5 2 0 2 0 ∷ []) 5 0 ∷ [])
+    ((0 ∷ 3 ∷ 2 ∷ 7 ∷ 0 ∷ 2 ∷ []) ∷ (0 ∷ 3 ∷ 2 ∷ 7 ∷ 3 ∷ 0 ∷ []) ∷ (0 ∷ 3 ∷ 2 ∷ 7 ∷ 6 ∷ 0 ∷ []) ∷ (0 ∷ 2 ∷ 2 ∷ 7 ∷ 3 ∷ 0 ∷ []) ∷ (0 ∷ 2 ∷ 2 ∷ 7 ∷ 6 ∷ 0 ∷ [])
+    ∷ (0 ∷ 1 ∷ 2 ∷ 7 ∷ 6 ∷ 0 ∷ []) ∷ (0 ∷ 3 ∷ 2 ∷ 7 ∷ 2 ∷ 0 ∷ []) ∷ (0 ∷ 2 ∷ 2 ∷ 7 ∷ 2 ∷ 0 ∷ []) ∷ (0 ∷ 4 ∷ 2 ∷ 0 ∷ 0 ∷ 2 ∷ []) ∷ (0 ∷ 5 ∷ 2 ∷ 0 ∷ 2 ∷ 0 ∷ []) ∷ [])
+
+-- 18 where none serves: a higher kind, another block, another slot. A proof by votes for kind 2 and a kept 5, and by a kept 1 before both.
+abbrev proofs : Bool
+proofs =
+    let proof : List Arrival → List ℕ = (λ cs. written (writeProof (afterAll three cs) 64 2 7)) in
+    let node1 = ofInput (vote 1 1 2 7) in
+    equals (writes (packet 2 2 7 2 0 ∷ []) 1 7 ∷ writes (packet 3 2 7 2 0 ∷ []) 2 7 ∷ writes (packet 1 2 8 6 0 ∷ []) 3 7 ∷ writes (packet 2 3 7 2 0 ∷ []) 2 7 ∷ writes (packet 5 2 0 2 0 ∷ []) 4 0 ∷ [])
+    (replicate 5 (18 ∷ []))
+    && equals (proof (node1 ∷ packet 5 2 0 6 0 ∷ []) ∷ proof (node1 ∷ packet 5 2 0 6 0 ∷ packet 1 2 7 7 0 ∷ []) ∷ proof (packet 3 2 7 2 0 ∷ packet 5 2 0 2 0 ∷ []) ∷ [])
+    ((0 ∷ 2 ∷ 2 ∷ 7 ∷ 2 ∷ 0 ∷ 5 ∷ 2 ∷ 0 ∷ 6 ∷ 0 ∷ []) ∷ (0 ∷ 1 ∷ 2 ∷ 7 ∷ 7 ∷ 0 ∷ []) ∷ (18 ∷ []) ∷ [])
+
+-- 65 nodes, the last of which has 60 percent: kinds 11 to 15 are kept by their meaning, and kind 13 is written back as it came.
+abbrev large : Bool
+large =
+    let l = ring (replicate 64 1 ++ (96 ∷ [])) [] in
+    let bytes : ℕ → List ℕ = (λ k. certificateBytes (record { kind = k; slot = 2; block = 7; maska = 2 ^ 64; maskb = 0 })) in
+    let kept = afterAll l (ofPacket (bytes 13) ∷ []) in
+    equal (numbers l (ofPacket (bytes 13) ∷ ofPacket (bytes 13) ∷ ofPacket (bytes 12) ∷ packet 3 2 7 2 0 ∷ [])) (0 ∷ 7 ∷ 0 ∷ 4 ∷ [])
+    && (equal (writeCertificate kept 768 (kindIn 65 13) 2 7 .bytes) (bytes 13) && wellFormed kept)
+
+-- "A record whose kept certificate the checker refuses, or repeats another, is 17": one certificate in place i of slot 2.
+abbrev placed : ℕ → ℕ → ℕ → ℕ → List Kept
+placed i b x y = set (replicate 13 noKept) i (record { block = b; maska = x; maskb = y })
+
+-- Places of kind 3 by their blocks, 0 where one keeps nothing.
+abbrev thirds : List ℕ → List Kept
+thirds [] = []
+thirds (b ∷ bs) = choose (none b) noKept (record { block = b; maska = 2; maskb = 0 }) ∷ thirds bs
+
+abbrev records : Bool
+records =
+    let fits : ℕ → ℕ → ℕ → ℕ → Bool = (λ i b x y. certificatesFit stakes 2 (placed i b x y)) in
+    let third : List ℕ → Bool = (λ bs. certificatesFit stakes 2 (replicate 4 noKept ++ thirds bs)) in
+    let l = ring stakes [] in
+    all (fits 0 7 6 0 ∷ not (fits 0 7 2 0) ∷ fits 1 7 2 0 ∷ not (fits 1 7 4 0) ∷ not (fits 1 0 2 0) ∷ not (fits 1 7 8 0) ∷ not (fits 1 7 2 4) ∷ fits 2 0 0 2 ∷ not (fits 2 7 2 0) ∷ fits 3 0 2 0
+    ∷ not (fits 3 0 2 4) ∷ fits 4 7 2 4 ∷ not (fits 4 7 2 2) ∷ not (fits 4 7 4 1) ∷ not (fits 4 7 0 0) ∷ not (fits 12 7 2 0) ∷ third (7 ∷ 8 ∷ 9 ∷ []) ∷ not (third (7 ∷ 7 ∷ [])) ∷ not (third (7 ∷ 8 ∷ 7 ∷ []))
+    ∷ not (third (7 ∷ 0 ∷ 8 ∷ [])) ∷ not (third (0 ∷ 7 ∷ [])) ∷ wellFormed (putCertificates l 16 (placed 1 7 2 0)) ∷ not (wellFormed (putCertificates l 16 (placed 1 7 4 0)))
+    ∷ not (wellFormed (putCertificates l 0 (placed 1 7 2 0))) ∷ not (wellFormed (putCertificates l 0 (placed 12 7 0 0))) ∷ [])
+
+cornersOfCertificates : T (all (arms ∷ finals ∷ lowestFinal ∷ finalVote ∷ weightsStay ∷ repeats ∷ tenth ∷ order ∷ writers ∷ proofs ∷ large ∷ records ∷ []))
+unfolding rules
+cornersOfCertificates = tt

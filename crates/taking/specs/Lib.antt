@@ -1,0 +1,2 @@
+-- What taking a certificate packet promises.
+pub mod Taking
