@@ -1,16 +1,16 @@
 -- The first place that is looked for, and what it says: of room, of a repeat, of a certificate that serves; the kinds of the places.
 -- Assumes nothing.
-use mathlib.Core.Path.{_≡_, refl, sym, ap, ap₂, _∙_}
+use mathlib.Core.Path.{_≡_, refl, sym, ap, ap₂, _∙_, subst}
 use mathlib.Core.Bool.{Bool, true, false, not, _&&_, _||_, true≢false}
 use mathlib.Core.List.{List, [], _∷_}
-use mathlib.Core.Logic.{⊎-elim}
+use mathlib.Core.Logic.{_⊎_, inl, inr, ⊎-elim}
 use Prim.Native.Nat.{ℕ, zero, suc, _+_, _<_, _≤_}
 use native.Mathlib.Omega.{arith}
 use native.Mathlib.Nat.{eq-or-lt-of-le}
 use lib.ListN.{length, getD, set}
 use lib.Seq.{set-getD, set-out}
 use lib.Dec.{eqb, leb, ltb}
-use borrow.Author.Tests.{ltb-true, lt-ltb, le-leb, lt-leb, ne-eqb}
+use borrow.Author.Tests.{ltb-true, ltb-false, lt-ltb, le-leb, lt-leb, ne-eqb}
 use Rattle.rulebook.specs.declared.CertificateKind.{CertificateKind}
 use Rattle.rulebook.specs.declared.CertificateKind.the-variants as certificate
 use Rattle.rulebook.specs.Tools.{given, choose}
@@ -20,10 +20,10 @@ use Rattle.rulebook.specs.Ledger.{Ledger, Row, noKept, noRow, isKept, certifica
 use Rattle.rulebook.specs.Pool.{placeKind, sameKind, servesAs, someKept, isFor, keptAs}
 use Rattle.rulebook.specs.Taking.{isRoom, hasRoom, fillKept, isRepeat}
 use Rattle.rulebook.specs.Writers.{findKept}
-use Rattle.rulebook.proofs.ToolLaws.{choose-on, choose-off, same-test}
+use Rattle.rulebook.proofs.ToolLaws.{choose-on, choose-off, by-test, same-test}
 use Rattle.kept_places.specs.declared.Sought.{Sought}
 use Rattle.kept_places.specs.declared.Sought.the-variants as sought
-use Rattle.kept_places.specs.Seeking.{suits, wants, seeks, firstPlace}
+use Rattle.kept_places.specs.Seeking.{suits, wants, seeks, kindOf, fromPlace, toPlace, firstPlace}
 
 -- ---- what is looked for, kind and block before the masks
 
@@ -253,3 +253,65 @@ module _ (l : Ledger) (k : CertificateKind) (s n : ℕ) (p : Kept) (e : n ≡ fi
       }) (sym (set-getD (l .rows) s noRow))
       ∙ ap (λ (qs : List Kept). putCertificates l s qs) (sym (set-out (certificatesAt l s) n p h))
       ∙ kept-at
+
+-- ---- the places that can be of use for a kind
+
+-- A place before the first of them, or behind the last.
+abbrev pub Outside : CertificateKind → ℕ → Type 0
+Outside k n = (n < fromPlace k) ⊎ ((toPlace k ≤ n) × (n < 13))
+
+-- It is none of that kind's, and serves as none.
+place-outside : (k : CertificateKind) (n : ℕ) → Outside k n → (sameKind (placeKind n) k ≡ false) × (servesAs (placeKind n) k ≡ false)
+unfolding fromPlace toPlace
+place-outside certificate.FastFinal n h =
+    let e = ne-eqb n 0 (λ z. ⊎-elim (λ x. omega arith) (λ x. omega (arith, x .0)) h) in (sym (fast-place n) ∙ e, sym (fast-serves n) ∙ e)
+place-outside certificate.Notar n h =
+    let a : 2 ≤ n = ⊎-elim (λ x. absurd (omega arith)) (λ x. x .0) h in
+    (sym (notar-place n) ∙ ne-eqb n 1 (λ z. omega arith), sym (notar-serves n) ∙ lt-leb n 1 (omega arith))
+place-outside certificate.NotarFallback n h = ⊎-elim (λ x. absurd (omega arith)) (λ x. absurd (omega (arith, x .0, x .1))) h
+place-outside certificate.Skip n h =
+    let e = ne-eqb n 2 (λ z. ⊎-elim (λ x. omega arith) (λ x. omega (arith, x .0)) h) in (sym (skip-place n) ∙ e, sym (skip-serves n) ∙ e)
+place-outside certificate.Final n h =
+    let e = ne-eqb n 3 (λ z. ⊎-elim (λ x. omega arith) (λ x. omega (arith, x .0)) h) in (sym (final-place n) ∙ e, sym (final-serves n) ∙ e)
+place-outside certificate.Other n h = ⊎-elim (λ x. absurd (omega arith)) (λ x. absurd (omega (arith, x .0, x .1))) h
+
+suits-outside : (t : Sought) (n : ℕ) (q : Kept) → Outside (kindOf t) n → suits t n q ≡ false
+unfolding suits kindOf isRepeat isFor
+suits-outside (sought.Room k) n q h = place-outside k n h .0
+suits-outside (sought.Same k b) n q h = rw (place-outside k n h .0) refl
+suits-outside (sought.Serving k b) n q h = rw (place-outside k n h .1) refl
+
+pub outside-not : (t : Sought) (n : ℕ) (q : Kept) → Outside (kindOf t) n → seeks t n q ≡ false
+outside-not t n q h = sought-in-turn t n q ∙ ap (λ (x : Bool). x && wants t (isKept q)) (suits-outside t n q h)
+
+from-most : (k : CertificateKind) → fromPlace k ≤ 13
+unfolding fromPlace
+from-most certificate.FastFinal = omega arith
+from-most certificate.Notar = omega arith
+from-most certificate.NotarFallback = omega arith
+from-most certificate.Skip = omega arith
+from-most certificate.Final = omega arith
+from-most certificate.Other = omega arith
+
+to-most : (k : CertificateKind) → toPlace k ≤ 13
+unfolding toPlace
+to-most certificate.FastFinal = omega arith
+to-most certificate.Notar = omega arith
+to-most certificate.NotarFallback = omega arith
+to-most certificate.Skip = omega arith
+to-most certificate.Final = omega arith
+to-most certificate.Other = omega arith
+
+-- The loop over them: none of the places behind it is what is looked for, and no place outside is.
+module _ (t : Sought) (k : CertificateKind) (from to : ℕ) (e : k ≡ kindOf t) (f : from ≡ fromPlace k) (g : to ≡ toPlace k) (qs : ℕ → Kept) where
+  pub none-begun : (from ≤ 13) × ((j : ℕ) → j < from → seeks t j (qs j) ≡ false)
+  none-begun =
+      (omega (arith, from-most k), λ j h. outside-not t j (qs j) (subst (λ (x : CertificateKind). Outside x j) e (inl (omega arith))))
+
+  pub to-within : to ≤ 13
+  to-within = omega (arith, to-most k)
+
+  pub none-ended : (n : ℕ) → to ≤ n → ((j : ℕ) → j < n → seeks t j (qs j) ≡ false) → (j : ℕ) → j < 13 → seeks t j (qs j) ≡ false
+  none-ended n a h j l =
+      by-test (ltb j n) (λ x. h j (ltb-true j n x))
+      (λ x. let past = ltb-false j n x in outside-not t j (qs j) (subst (λ (y : CertificateKind). Outside y j) e (inr (omega arith, l))))

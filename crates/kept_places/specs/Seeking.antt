@@ -4,6 +4,8 @@ use mathlib.Core.List.{List, [], _∷_}
 use mathlib.Core.Path.{_≡_}
 use Prim.Native.Nat.{ℕ, suc}
 use lib.ListN.{length}
+use Rattle.rulebook.specs.declared.CertificateKind.{CertificateKind}
+use Rattle.rulebook.specs.declared.CertificateKind.the-variants as certificate
 use Rattle.rulebook.specs.Tools.{choose}
 use Rattle.rulebook.specs.Certificates.{Kept}
 use Rattle.rulebook.specs.Ledger.{places, isKept}
@@ -30,6 +32,29 @@ unfoldable pub seeks : Sought → ℕ → Kept → Bool
 seeks (sought.Room k) i q = isRoom k i q
 seeks (sought.Same k b) i q = isKept q && isRepeat k b i q
 seeks (sought.Serving k b) i q = isKept q && isFor k b i q
+
+-- The kind for which a place is looked for.
+unfoldable pub kindOf : Sought → CertificateKind
+kindOf (sought.Room k) = k
+kindOf (sought.Same k b) = k
+kindOf (sought.Serving k b) = k
+
+-- The places that can be of use for a kind: the first of them, and the one behind the last.
+unfoldable pub fromPlace : CertificateKind → ℕ
+fromPlace certificate.FastFinal = 0
+fromPlace certificate.Notar = 0
+fromPlace certificate.NotarFallback = 0
+fromPlace certificate.Skip = 2
+fromPlace certificate.Final = 3
+fromPlace certificate.Other = 0
+
+unfoldable pub toPlace : CertificateKind → ℕ
+toPlace certificate.FastFinal = 1
+toPlace certificate.Notar = 2
+toPlace certificate.NotarFallback = 13
+toPlace certificate.Skip = 3
+toPlace certificate.Final = 4
+toPlace certificate.Other = 13
 
 -- The first place, from place i on, of which a test holds; where there is none, the number of places.
 unfoldable pub firstPlace : (ℕ → Kept → Bool) → ℕ → List Kept → ℕ

@@ -7,7 +7,7 @@ ghost use Rattle.rulebook.specs.Pool.{placeKind, sameKind, servesAs};
 ghost use Rattle.rulebook.specs.Taking.{fillKept};
 ghost use Rattle.record.specs.Layout.{InSlot, InKept, ledgerOf};
 ghost use Rattle.kept_certificates.specs.Kept.{placeAt};
-ghost use Rattle.kept_places.specs.Seeking.{suits, wants, seeks, firstPlace, Keeping};
+ghost use Rattle.kept_places.specs.Seeking.{suits, wants, seeks, kindOf, fromPlace, toPlace, firstPlace, Keeping};
 use kept_certificates::block_at;
 use kept_certificates::is_kept;
 use kept_certificates::store_certificate;
@@ -85,12 +85,53 @@ fn is_sought(rec: &[u64], s: Slot, n: usize, sought: Sought) -> bool
     wants(sought, is_kept(rec, s, n))
 }
 
-// The first of a slot's places that is what is looked for, the number of places where none is.
+// The kind for which a place is looked for.
+fn kind_of(sought: Sought) -> CertificateKind
+    ensures { λ r. ⌜ r ≡ kindOf sought ⌝ }
+{
+    match sought {
+        Sought::Room(k) => k,
+        Sought::Same(k, _) => k,
+        Sought::Serving(k, _) => k,
+    }
+}
+
+// The places that can be of use for a kind: the first of them, and the one behind the last.
+fn from_place(kind: CertificateKind) -> usize
+    ensures { λ r. ⌜ r ≡ fromPlace kind ⌝ }
+{
+    match kind {
+        CertificateKind::FastFinal => 0,
+        CertificateKind::Notar => 0,
+        CertificateKind::NotarFallback => 0,
+        CertificateKind::Skip => 2,
+        CertificateKind::Final => 3,
+        CertificateKind::Other => 0,
+    }
+}
+
+fn to_place(kind: CertificateKind) -> usize
+    ensures { λ r. ⌜ r ≡ toPlace kind ⌝ }
+{
+    match kind {
+        CertificateKind::FastFinal => 1,
+        CertificateKind::Notar => 2,
+        CertificateKind::NotarFallback => 13,
+        CertificateKind::Skip => 3,
+        CertificateKind::Final => 4,
+        CertificateKind::Other => 13,
+    }
+}
+
+// The first of a slot's places that is what is looked for, the number of places where none is. Only those for its kind are asked.
 pub fn first_place(rec: &[u64], s: Slot, sought: Sought) -> usize
     requires { ⌜ InSlot (now rec) (s .0) ⌝ }
     ensures { λ r. ⌜ r ≡ firstPlace (seeks sought) 0 (certificatesAt (ledgerOf (now (rec .entry))) (s .0)) ⌝ }
 {
-    for n in 0..MOST_CERTIFICATES {
+    let kind = kind_of(sought);
+    let from = from_place(kind);
+    let to = to_place(kind);
+    for n in from..to {
         if is_sought(rec, s, n, sought) {
             return n;
         }
