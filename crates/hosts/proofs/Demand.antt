@@ -106,7 +106,7 @@ host-mail-is-enough stakes genesis honest lives ring =
 -- ---- what is accepted
 
 -- A check that answers 0 accepts the kind, slot and block that its values name.
-zero-accepted : {count : ℕ} {answer : CheckAnswer} {kind slot block signers weight missing : ℕ} → Checked count answer 0 (kind ∷ slot ∷ block ∷ signers ∷ weight ∷ []) missing
+pub zero-accepted : {count : ℕ} {answer : CheckAnswer} {kind slot block signers weight missing : ℕ} → Checked count answer 0 (kind ∷ slot ∷ block ∷ signers ∷ weight ∷ []) missing
     → AcceptedAs answer (kindIn count kind) slot block
 unfolding checkNumber checkValues
 zero-accepted {count} {answer} {kind} {slot} {block} {signers} {weight} {missing} c = go answer (c .numbered) (c .valued)

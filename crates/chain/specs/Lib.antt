@@ -1,0 +1,3 @@
+-- One chain: the many slots behind it, and the promises.
+pub mod Chain
+pub mod OneChain

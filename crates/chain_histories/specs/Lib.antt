@@ -1,0 +1,3 @@
+pub mod Tests
+pub mod Rings
+pub mod Histories

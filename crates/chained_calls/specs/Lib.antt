@@ -1,0 +1,2 @@
+-- One chain over histories of calls.
+pub mod OneChain

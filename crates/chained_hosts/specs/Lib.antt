@@ -1,0 +1,2 @@
+-- One chain over histories of calls of the C functions.
+pub mod OneChain
