@@ -138,11 +138,12 @@ fn certificate(task: &Task, written: Vec<u8>) -> (Vec<u64>, Vec<u8>, bool) {
 
 // ---- the model ----
 
-/// None when the operation is refused or there is none of that name.
+/// None when the operation is refused or there is none of that name. Records
+/// with certificates are not made here: the model takes them one by one.
 pub fn by_model(task: &Task) -> Option<()> {
+    (task.record != "kept").then_some(())?;
     let ones = vec![1; task.nodes];
     let mut node = Node::start(0, 1, &ones).ok()?.with_votes(stored(task)?);
-    (task.record != "kept").then_some(())?;
     node.look();
     let kind = node.stakes().family().kinds_after() + 3;
     let written = packet::write_cert(&node, kind, LAST_SLOT, FALLBACK).unwrap_or_default();

@@ -1802,6 +1802,7 @@ const SELDOM: &[&str] = &[
     "differ: other tables with equal votes",
     "differ: no line, large table",
     "D by a vote in another slot",
+    "D by a certificate in another slot",
     "D by its block, a later one, large table",
     "D by a vote in the parent's slot, large table",
     "D by a timeout in another slot, large table",

@@ -20,6 +20,9 @@ pub fn compared(w: &mut Writer) {
     if w.random.percent(15) {
         w.say("differ");
     }
+    if w.random.percent(20) {
+        two_fresh(w);
+    }
     feed(w, &votes);
     own_votes(w, &numbers);
     w.say("aside");
@@ -35,6 +38,16 @@ pub fn compared(w: &mut Writer) {
         w.say("differ");
         go_on(w, &numbers, most_slots);
     }
+}
+
+/// Two nodes without votes; then the first once more.
+fn two_fresh(w: &mut Writer) {
+    let first = w.ring.clone();
+    w.say("aside");
+    let other = other_ring(w, &first);
+    w.restart(other);
+    w.say("differ");
+    w.restart(first);
 }
 
 fn some_vote(w: &mut Writer, numbers: &Numbers, most_slots: u64) -> Fed {
@@ -53,7 +66,7 @@ fn feed(w: &mut Writer, votes: &[Fed]) {
 /// In another order, at times with some left out.
 fn feed_otherwise(w: &mut Writer, mut votes: Vec<Fed>) {
     w.random.shuffle(&mut votes);
-    let missing = w.random.pick(&[0, 5, 30]);
+    let missing = w.random.pick(&[0, 0, 5, 30]);
     votes.retain(|_| !w.random.percent(missing));
     feed(w, &votes);
 }
@@ -92,7 +105,7 @@ fn other_ring(w: &mut Writer, ring: &Ring) -> Ring {
     match w.random.below(12) {
         0 | 1 => ring.own = node,
         2 => ring.genesis = if ring.genesis == 7 { 8 } else { 7 },
-        3 => ring.stakes[node] = if ring.stakes[node] > 1 { ring.stakes[node] - 1 } else { 2 },
+        3 | 9 => ring.stakes[node] = if ring.stakes[node] > 1 { ring.stakes[node] - 1 } else { 2 },
         4 | 5 if ring.stakes[node] > 1 => {
             ring.stakes[node] -= 1;
             ring.stakes[other] += 1;

@@ -31,7 +31,7 @@ pub struct Script {
 
 /// Seeds in a row go through the scenes in turn, each as often as it has
 /// numbers here.
-const SCENES: u64 = 86;
+const SCENES: u64 = 92;
 
 /// Of so many scripts one has very many votes.
 const MANY_LINES_ONCE_IN: u64 = 1000;
@@ -53,13 +53,13 @@ pub fn script(seed: u64) -> Script {
         13..=15 => soup(random),
         16..=18 => pushes(random),
         19 => brink(random),
-        20..=23 => avalanche(random),
+        20..=23 | 75..=77 => avalanche(random),
         24..=27 => standoffs(random),
         28 | 29 => bridges(random),
         30 | 31 => leaps(random),
         32..=34 => messages(random),
         35 | 36 => trays(random),
-        37..=45 => waits(random),
+        37..=45 | 78 | 79 => waits(random),
         46..=48 => ancestry(random),
         49..=52 => in_pieces(random),
         53..=57 => compared(random),
@@ -88,7 +88,7 @@ fn begin(mut random: Random, mut ring: Ring, least: u64, most: u64) -> Writer {
 
 fn end(mut w: Writer) -> Script {
     w.ask_for_votes();
-    if w.random.percent(8) {
+    if w.random.percent(11) {
         malformed::long_silence(&mut w);
     }
     if w.random.percent(4) {
@@ -236,6 +236,7 @@ fn plays(mut random: Random) -> Script {
     let nodes = random.pick(&[5, 5, 6, 8]);
     let ring =
         if random.percent(80) { Ring::of_fifths(&mut random, nodes) } else { Ring::small(&mut random) };
+    let ring = if random.percent(15) { ring.widened(&mut random) } else { ring };
     let mut w = begin(random, ring, 60, 150);
     received::plays(&mut w);
     finish_with_audit(w, 10)

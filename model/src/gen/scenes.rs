@@ -149,6 +149,9 @@ const PRIMED: &[[Lean; 4]] = &[
 pub fn avalanche(w: &mut Writer) {
     let numbers = Numbers::any(&mut w.random, w.ring.genesis);
     let mains: Vec<u64> = (0..=LAST_SLOT).map(|slot| w.random.pick(&numbers.of_slot(slot))).collect();
+    if w.random.percent(25) {
+        return avalanche_upon_parent(w, &numbers, &mains);
+    }
     let mut actions = Vec::new();
     let shared = w.random.percent(40).then(|| w.random.pick(PRIMED));
     for slot in 1..=LAST_SLOT {
@@ -191,6 +194,30 @@ pub fn avalanche(w: &mut Writer) {
         let slot = slot + w.random.below(WINDOW);
         w.say(format!("timeout {slot}"));
     }
+}
+
+/// The same from a later window on, set off by the certificate of a parent, or
+/// by the votes for it.
+fn avalanche_upon_parent(w: &mut Writer, numbers: &Numbers, mains: &[u64]) {
+    let first = w.random.pick(&[5, 5, 9, 13]);
+    let mut actions = Vec::new();
+    for slot in first..=LAST_SLOT {
+        let main = mains[slot as usize];
+        let leans = w.random.pick(PRIMED);
+        primed_votes(w, &mut actions, slot, leans, blocks_led_by(main, numbers.of_slot(slot)));
+        actions.push(format!("block {slot} {main} {} {}", slot - 1, mains[slot as usize - 1]));
+    }
+    w.random.shuffle(&mut actions);
+    // Other blocks are known too, but never first.
+    for slot in first + 1..=LAST_SLOT {
+        for block in some_order(&mut w.random, numbers.of_slot(slot)) {
+            actions.push(format!("block {slot} {block} {} {}", slot - 1, mains[slot as usize - 1]));
+        }
+    }
+    for line in actions {
+        w.say(line);
+    }
+    push(w, Cert::NotarFallback(mains[first as usize - 1]), first - 1);
 }
 
 fn blocks_led_by(main: u64, mut blocks: [u64; 4]) -> [u64; 4] {

@@ -7,7 +7,8 @@
 //! words. A card is recounted in the pass that tests the cells, and rules read
 //! it. Where it does not tell, the votes of a slot are weighed in one pass, by a
 //! small table of blocks; what was weighed is kept for the rest of the call.
-//! Masks are stepped through from signer to signer.
+//! Masks are stepped through from signer to signer. Whether a block is certified
+//! is read off the places' blocks, without their masks.
 //!
 //! Block numbers that were chosen to fall on one place of that table make it
 //! slow, up to blocks times blocks. The product has no such table.
