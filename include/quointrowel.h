@@ -8,9 +8,9 @@
  * different records may run at the same time.
  *
  * Node. A node is its record: qr_record_words(stake_count) words, owned by the host, which may copy it, keep it and lend
- * it again, always with that length. qr_start makes lent words a fresh node. Words that no call of this library left are
- * looked through at every call and refused with QR_BAD_RECORD where they are no record; a record that this library left
- * is never refused so.
+ * it again, always with that length. qr_start makes lent words a fresh node, qr_watch a fresh watcher, a node that never
+ * votes. Words that no call of this library left are looked through at every call and refused with QR_BAD_RECORD where they
+ * are no record; a record that this library left is never refused so.
  *
  * Answers. Every operation answers a number: 0 where it is done, else why not (enum qr_number). A refusal changes none
  * of the record, the outbox and the buffers, and puts zeros into the places for the values beside it (qr_differ says what
@@ -34,7 +34,7 @@ enum qr_number {
     QR_BAD_SIZES = 1,     /* stake table, own number or genesis out of range */
     QR_BAD_NODE = 2,      /* node number not in the table */
     QR_BAD_SLOT = 3,      /* slot not 1 to 16 */
-    QR_BAD_KIND = 4,      /* kind not 1 to 5; of a certificate with a large table, not 11 to 15 */
+    QR_BAD_KIND = 4,      /* kind not 1 to 5; of a certificate with a large table, not 11 to 15; timeout for a watcher */
     QR_BAD_BLOCK = 5,     /* block 0 where one is needed, or not 0 where none is */
     QR_OWN_NAME = 6,      /* vote in the own node's name from outside */
     QR_ALREADY_KEPT = 7,  /* that very vote, block with parent, or timeout is kept; a certificate of that kind, slot and block is */
@@ -132,6 +132,15 @@ uint64_t qr_start(uint64_t *record, size_t record_words, const uint64_t *stakes,
                   uint64_t genesis);
 
 /*
+ * Makes the record's words a fresh watcher: a node of that ring that has no own number and never votes. It takes votes in every
+ * node's name, a tray of them, blocks, certificates and looks, and only arms windows and tells which blocks are final: its outbox
+ * gets records of kinds 6, 7 and 8 alone. It is never answered 6, and its timeouts are refused with 4. It writes certificates and
+ * proofs as a node does; fed what a node accepts and the votes that the node casts, it stores the same votes and holds the same
+ * certificates. Answers as qr_start does.
+ */
+uint64_t qr_watch(uint64_t *record, size_t record_words, const uint64_t *stakes, size_t stake_count, uint64_t genesis);
+
+/*
  * The inputs of a node. Each changes the record, writes the records that it makes to the outbox from its front,
  * three words each (kind, slot, block; enum qr_record_kind), and puts their number into *made; words of the outbox past
  * them stay. The host sends the votes out, and an armed window's timeouts begin.
@@ -149,7 +158,7 @@ uint64_t qr_vote(uint64_t *record, size_t record_words, uint64_t *outbox, size_t
 uint64_t qr_block(uint64_t *record, size_t record_words, uint64_t *outbox, size_t outbox_words, size_t *made, size_t slot,
                   uint64_t number, size_t parent_slot, uint64_t parent);
 
-/* A slot's time is out. Refusals: 17, 9, 3, 10, 7. */
+/* A slot's time is out. Refusals: 17, 9, 3, 10, 7; of a watcher 17, 9, and then 4 whatever the slot. */
 uint64_t qr_timeout(uint64_t *record, size_t record_words, uint64_t *outbox, size_t outbox_words, size_t *made, size_t slot);
 
 /* Only runs the rules. Refusals: 17, 9. */

@@ -145,6 +145,51 @@ static void show_taking(uint64_t *record, uint64_t *outbox)
     printf("\n");
 }
 
+/* Gives a watcher the votes that node 0 cast in a call, out of that call's outbox; answers how many there were. */
+static size_t follow(uint64_t *watcher, const uint64_t *outbox, size_t made)
+{
+    static uint64_t told[QR_OUTBOX_WORDS];
+    size_t cast = 0, more;
+    for (size_t i = 0; i < made; i++) {
+        const uint64_t *made_record = outbox + 3 * i;
+        if (made_record[0] > QR_RECORD_FINAL)
+            continue;
+        cast += qr_vote(watcher, QR_RECORD_WORDS(3), told, QR_OUTBOX_WORDS, &more, made_record[0], 0, made_record[1],
+                        made_record[2]) == QR_DONE;
+    }
+    return cast;
+}
+
+/* A watcher beside node 0: both get the same block and votes, and the watcher node 0's votes among them. */
+static void show_watching(uint64_t *record, uint64_t *outbox)
+{
+    const uint64_t stakes[3] = {4, 3, 3};
+    static uint64_t watcher[QR_RECORD_WORDS(3)];
+    uint64_t list[QR_LINE_WORDS];
+    uint8_t proof[QR_PROOF_BYTES];
+    size_t words = QR_RECORD_WORDS(3), made, cast, lines, written;
+
+    qr_start(record, words, stakes, 3, 0, 1);
+    uint64_t number = qr_watch(watcher, words, stakes, 3, 1);
+    printf("watcher: %" PRIu64 "\n", number);
+    number = qr_block(watcher, words, outbox, QR_OUTBOX_WORDS, &made, 1, 7, 0, 1);
+    show_records("watched block", number, outbox, made);
+    qr_block(record, words, outbox, QR_OUTBOX_WORDS, &made, 1, 7, 0, 1);
+    cast = follow(watcher, outbox, made);
+    for (size_t node = 1; node < 3; node++) {
+        qr_vote(record, words, outbox, QR_OUTBOX_WORDS, &made, QR_VOTE_NOTAR, node, 1, 7);
+        cast += follow(watcher, outbox, made);
+        number = qr_vote(watcher, words, outbox, QR_OUTBOX_WORDS, &made, QR_VOTE_NOTAR, node, 1, 7);
+        show_records("watched vote", number, outbox, made);
+    }
+    number = qr_timeout(watcher, words, outbox, QR_OUTBOX_WORDS, &made, 1);
+    printf("votes of node 0: %zu; a timeout: %" PRIu64, cast, number);
+    number = qr_differ(record, words, watcher, words, list, QR_LINE_WORDS, &lines);
+    printf("; beside node 0: %" PRIu64 ", %zu lines", number, lines);
+    number = qr_write_proof(watcher, words, proof, sizeof proof, &written, 1, 7);
+    printf("; its proof: %" PRIu64 ", %zu bytes\n", number, written);
+}
+
 /* The first bytes of a packet, with their number. */
 static void show_packet(const char *what, uint64_t number, const uint8_t *packet, size_t written)
 {
@@ -288,6 +333,7 @@ int main(void)
     show_card(record);
     show_blocks(record, outbox);
     show_taking(record, outbox);
+    show_watching(record, outbox);
     show_large(outbox);
     show_differences(record, outbox);
     show_pieces(stakes, 1, long_proof, sizeof long_proof);

@@ -7,7 +7,7 @@ use crate::packet;
 use crate::panel::{lines, Answer, Panel, MOST_LINES};
 use crate::refusal::Refusal;
 use crate::stakes::{Family, Stakes};
-use std::collections::BTreeMap;
+use std::collections::{BTreeMap, BTreeSet};
 use std::io::{self, Write};
 
 #[derive(Default)]
@@ -24,6 +24,8 @@ pub struct Cover {
     pub most_records_in_a_life: usize,
     /// Records since the last accepted start.
     life: usize,
+    /// Whether the node is a watcher.
+    watches: bool,
     /// Since the last end.
     pieces: usize,
     /// The slot and the leader of the last card.
@@ -32,6 +34,7 @@ pub struct Cover {
 
 const COMMANDS: &[&str] = &[
     "start",
+    "watch",
     "vote",
     "tray",
     "block",
@@ -161,6 +164,7 @@ impl Cover {
     }
 
     fn take_answer(&mut self, panel: &Panel, line: &str, answer: Answer) {
+        self.watches = panel.node.as_ref().map_or(false, |node| node.own().is_none());
         let words: Vec<&str> = line.split_ascii_whitespace().collect();
         let command = match words.first() {
             Some(word) if COMMANDS.contains(word) => word,
@@ -184,7 +188,11 @@ impl Cover {
         *self.answers.entry(command.to_string()).or_default().entry(number.to_string()).or_insert(0) += 1;
         match command {
             "start" if number == "0" => self.take_start(words.len() - 3),
-            "vote" | "block" | "timeout" | "look" => self.take_records(&answered),
+            "watch" if number == "0" => self.take_start(words.len() - 2),
+            "vote" | "block" | "timeout" | "look" => {
+                self.take_records(&answered);
+                self.take_watchers(panel, command, number);
+            }
             "take" if number != "?" => self.take_certificate(panel, words[1], &answered),
             "tray" if number == "0" => self.take_tray(&answered),
             "cert" | "proof" if number == "0" => self.take_written(panel, command, answered[2]),
@@ -198,6 +206,18 @@ impl Cover {
         }
         if number == "15" && command.starts_with("check") {
             self.take_missing(&words, answered[1]);
+        }
+    }
+
+    /// A vote with which no node is left that a watcher has no vote of.
+    fn take_watchers(&mut self, panel: &Panel, command: &str, number: &str) {
+        let node = match &panel.node {
+            Some(node) if self.watches && command == "vote" && number == "0" => node,
+            _ => return,
+        };
+        let voters: BTreeSet<usize> = node.stored_votes().iter().map(|&(_, voter, _)| voter).collect();
+        if voters.len() == node.stakes().count() {
+            self.note("watcher: a vote in every node's name");
         }
     }
 
@@ -220,6 +240,9 @@ impl Cover {
         for record in answered.iter().skip(2) {
             let kind = record.split(',').next().unwrap_or("");
             *self.records.entry(kind.to_string()).or_insert(0) += 1;
+            if self.watches {
+                self.note(format!("watcher: records of kind {kind}"));
+            }
         }
     }
 
@@ -279,8 +302,12 @@ impl Cover {
         if aside.stakes() != node.stakes() {
             return self.take_other_tables(aside, node);
         }
-        if aside.own() != node.own() {
-            self.note("differ: the same table, another own number");
+        match (aside.own(), node.own()) {
+            (Some(one), Some(other)) if one != other => {
+                self.note("differ: the same table, another own number");
+            }
+            (Some(_), None) | (None, Some(_)) => self.note("differ: a watcher and a voter"),
+            _ => {}
         }
         if aside.genesis() != node.genesis() {
             self.note("differ: the same table, another genesis");
@@ -315,6 +342,9 @@ impl Cover {
             _ => "differ: lines of one side",
         };
         self.note(sides);
+        if lines.is_empty() && aside.own().is_some() && node.own().is_none() {
+            self.note("watcher: no line beside a voter");
+        }
         if node.stakes().family() == Family::Large {
             self.note(format!("{sides}, large table"));
         }
@@ -382,6 +412,9 @@ impl Cover {
             kept.push(self.take_source(node, cert[0] % 10, cert[1], cert[2]));
         }
         self.note(format!("{command} written: kind {}", forms.join(" then ")));
+        if self.watches {
+            self.note(format!("watcher: {command} written"));
+        }
         if kept.contains(&true) && kept.contains(&false) {
             self.note("proof written of votes and a kept certificate");
         }

@@ -270,7 +270,8 @@ pub struct Record {
 #[derive(Clone)]
 pub struct Node {
     stakes: Stakes,
-    own: usize,
+    /// None for a watcher.
+    own: Option<usize>,
     genesis: u64,
     /// By slot and node, for the nodes with votes in that slot.
     pool: Vec<BTreeMap<usize, Cell>>,
@@ -311,12 +312,22 @@ fn window_of(slot: u64) -> std::ops::Range<u64> {
 
 impl Node {
     pub fn start(own: u64, genesis: u64, stakes: &[u64]) -> Result<Node, Refusal> {
+        let mut node = Node::watch(genesis, stakes)?;
+        if !node.stakes.has_node(own) {
+            return Err(Refusal::Sizes);
+        }
+        node.own = Some(own as usize);
+        Ok(node)
+    }
+
+    /// A node without an own number, which never votes.
+    pub fn watch(genesis: u64, stakes: &[u64]) -> Result<Node, Refusal> {
         let stakes = Stakes::new(stakes)?;
-        if !stakes.has_node(own) || genesis == 0 {
+        if genesis == 0 {
             return Err(Refusal::Sizes);
         }
         Ok(Node {
-            own: own as usize,
+            own: None,
             genesis,
             stakes,
             pool: vec![BTreeMap::new(); ROWS],
@@ -343,7 +354,8 @@ impl Node {
         &self.stakes
     }
 
-    pub fn own(&self) -> usize {
+    /// None for a watcher.
+    pub fn own(&self) -> Option<usize> {
         self.own
     }
 
@@ -356,7 +368,8 @@ impl Node {
     }
 
     pub fn own_cell(&self, slot: u64) -> Cell {
-        self.pool[slot as usize].get(&self.own).cloned().unwrap_or_default()
+        let own = self.own.and_then(|own| self.pool[slot as usize].get(&own));
+        own.cloned().unwrap_or_default()
     }
 
     pub fn kept_blocks(&self, slot: u64) -> &[Block] {
@@ -513,7 +526,7 @@ impl Node {
         if !self.stakes.has_node(node) {
             return Err(Refusal::NoSuchNode);
         }
-        if node == self.own as u64 {
+        if self.own == Some(node as usize) {
             return Err(Refusal::OwnName);
         }
         vote.allows_block(block)?;
@@ -611,6 +624,9 @@ impl Node {
     }
 
     pub fn timeout(&mut self, slot: u64) -> Result<Vec<Record>, Refusal> {
+        if self.own.is_none() {
+            return Err(Refusal::NoSuchKind);
+        }
         if !is_slot(slot) {
             return Err(Refusal::NoSuchSlot);
         }
@@ -645,6 +661,8 @@ type Rule = fn(&mut Node, u64) -> bool;
 const RULES: [Rule; 7] =
     [Node::rule_a, Node::rule_b, Node::rule_c, Node::rule_d, Node::rule_e, Node::rule_f, Node::rule_g];
 
+const WATCHERS_RULES: [Rule; 3] = [Node::rule_a, Node::rule_f, Node::rule_g];
+
 impl Node {
     fn run_rules(&mut self) -> Vec<Record> {
         while self.apply_first_rule() {}
@@ -653,7 +671,7 @@ impl Node {
 
     fn apply_first_rule(&mut self) -> bool {
         for slot in 1..=LAST_SLOT {
-            for rule in RULES {
+            for &rule in self.rules() {
                 if rule(self, slot) {
                     return true;
                 }
@@ -662,12 +680,20 @@ impl Node {
         false
     }
 
+    fn rules(&self) -> &'static [Rule] {
+        match self.own {
+            Some(_) => &RULES,
+            None => &WATCHERS_RULES,
+        }
+    }
+
     fn record(&mut self, kind: u64, slot: u64, block: u64) {
         self.outbox.push(Record { kind, slot, block });
     }
 
     fn cast(&mut self, slot: u64, vote: Vote) {
-        self.pool[slot as usize].entry(self.own).or_default().store(vote);
+        let own = self.own.expect("a watcher casts nothing");
+        self.pool[slot as usize].entry(own).or_default().store(vote);
         self.record(vote.kind(), slot, vote.block());
     }
 
@@ -1009,7 +1035,7 @@ impl Node {
             Cert::Final => "take: of kind 5",
         });
         self.note(if self.holds(slot, cert) { "take: held before" } else { "take: not held before" });
-        if certificate.a.contains(&self.own) || certificate.b.contains(&self.own) {
+        if self.own.map_or(false, |own| certificate.a.contains(&own) || certificate.b.contains(&own)) {
             self.note("take: signed by the own node");
         }
     }

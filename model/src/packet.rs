@@ -95,14 +95,18 @@ pub fn write_proof(node: &Node, slot: u64, block: u64) -> Result<Vec<u8>, Refusa
 }
 
 fn cert_bytes(node: &Node, slot: u64, cert: Cert) -> Vec<u8> {
-    let family = node.stakes().family();
     let (a, b) = match node.source(slot, cert).expect("asked for what is held") {
         Source::Votes => node.signers(slot, cert),
         Source::Kept(kept) => (kept.a.clone(), kept.b.clone()),
     };
+    certificate_bytes(node.stakes().family(), &Certificate { cert, slot, a, b })
+}
+
+pub fn certificate_bytes(family: Family, certificate: &Certificate) -> Vec<u8> {
+    let (cert, slot) = (certificate.cert, certificate.slot);
     let mut numbers = vec![cert.kind() + family.kinds_after(), slot, cert.block()];
-    numbers.extend(mask(&a, family));
-    numbers.extend(mask(&b, family));
+    numbers.extend(mask(&certificate.a, family));
+    numbers.extend(mask(&certificate.b, family));
     let mut packet = Vec::new();
     for number in numbers {
         put_number(&mut packet, number);

@@ -63,6 +63,7 @@ struct Malformed;
 
 enum Command {
     Start { own: u64, genesis: u64, stakes: Vec<u64> },
+    Watch { genesis: u64, stakes: Vec<u64> },
     Vote { kind: u64, node: u64, slot: u64, block: u64 },
     Tray { words: Vec<u64> },
     Block { slot: u64, number: u64, parent_slot: u64, parent: u64 },
@@ -115,6 +116,10 @@ impl Panel {
         let answer = match command {
             Command::Start { own, genesis, stakes } => {
                 self.node = Some(Node::start(own, genesis, &stakes)?);
+                "0".to_string()
+            }
+            Command::Watch { genesis, stakes } => {
+                self.node = Some(Node::watch(genesis, &stakes)?);
                 "0".to_string()
             }
             Command::Vote { kind, node, slot, block } => {
@@ -210,6 +215,14 @@ fn parse(words: &[&[u8]]) -> Result<Command, Malformed> {
             }
             let stakes = numbers.split_off(2);
             Ok(Command::Start { own: numbers[0], genesis: numbers[1], stakes })
+        }
+        b"watch" => {
+            let mut numbers = all_numbers(rest)?;
+            if numbers.is_empty() {
+                return Err(Malformed);
+            }
+            let stakes = numbers.split_off(1);
+            Ok(Command::Watch { genesis: numbers[0], stakes })
         }
         b"aside" => numbers::<0>(rest).map(|_| Command::Aside),
         b"differ" => numbers::<0>(rest).map(|_| Command::Differ),

@@ -1065,6 +1065,131 @@ fn take_on_the_panel() {
     assert_eq!(run(&script), ["0", "0 1 7,1,0", &format!("0 {} {large}", large.len() / 2), "4"]);
 }
 
+// ---- watchers ----
+
+#[test]
+fn a_watcher_takes_any_name_and_runs_a_f_and_the_walk_alone() {
+    let mut n = Node::watch(1, &[1; 10]).unwrap();
+    assert_eq!(look(&mut n), [(7, 1, 0)]);
+    assert_eq!(block(&mut n, 1, 10, 0, 1), []);
+    assert_eq!(block(&mut n, 2, 20, 1, 10), []);
+    assert_eq!(votes(&mut n, 1, 0..=6, 2, 20), []);
+    assert_eq!(votes(&mut n, 3, 0..=9, 1, 0), []);
+    assert_eq!(vote(&mut n, 1, 7, 2, 20), [(6, 2, 20), (6, 1, 10)]);
+    assert_eq!(votes(&mut n, 2, 0..=9, 2, 21), []);
+    assert_eq!(take(&mut n, &cert_of(3, 4, 40, 0b11_1111, 0)), [(7, 5, 0)]);
+    assert_eq!(check_proof(&write_proof(&n, 2, 20).unwrap(), &[1; 10]).unwrap().block, 20);
+    for slot in [0, 1, 2, 17] {
+        assert_eq!(refused(n.timeout(slot)), 4);
+    }
+}
+
+#[test]
+fn a_watcher_on_the_panel() {
+    let script = "watch 0 5\nwatch 1\ntimeout 1\nwatch 1 5\ntimeout 99\nvote 1 0 1 7\nvote 1 1 1 7\ntray 5 0 1 0\nwatch";
+    let answers = ["1", "1", "17", "0", "4", "0 2 7,1,0 6,1,7", "2", "0 0 : 0", "?"];
+    assert_eq!(run(script), answers);
+    // A refused start leaves the watcher, and its votes compare with a node's.
+    let script = "start 0 1 5\nblock 1 7 0 1\naside\nwatch 1 5\nstart 1 1 5\nvote 1 0 1 7\ndiffer\nvote 5 0 1 0\ndiffer";
+    assert_eq!(run(script)[4..], ["1", "0 2 7,1,0 6,1,7", "0 1 1,0,5,0,1", "0 0", "0 0"]);
+}
+
+/// The voter's own votes fed as ordinary ones: same pool, same held.
+#[test]
+fn a_watcher_fed_one_slot_holds_the_same() {
+    let mut voter = ten();
+    let mut watcher = Node::watch(1, &[1; 10]).unwrap();
+    block(&mut voter, 1, 7, 0, 1);
+    votes(&mut voter, 1, 1..=5, 1, 7);
+    votes(&mut voter, 3, 6..=9, 1, 0);
+    block(&mut watcher, 1, 7, 0, 1);
+    for (slot, from, stored) in voter.stored_votes() {
+        vote(&mut watcher, stored.kind(), from as u64, slot, stored.block());
+    }
+    assert_eq!(watcher.stored_votes(), voter.stored_votes());
+    for cert in [Cert::FastFinal(7), Cert::Notar(7), Cert::NotarFallback(7), Cert::Skip, Cert::Final] {
+        assert_eq!(watcher.holds(1, cert), voter.holds(1, cert));
+    }
+}
+
+/// A voter, and a watcher that is fed what the voter accepts and casts.
+#[derive(Default)]
+struct Watched {
+    voter: Panel,
+    watcher: Panel,
+    own: String,
+}
+
+impl Watched {
+    fn say(&mut self, line: &str) {
+        let answer = self.voter.line(line.as_bytes()).map_or(String::new(), |answer| answer.lines().concat());
+        let words: Vec<&str> = line.split_ascii_whitespace().collect();
+        if answer.split(' ').next() != Some("0") {
+            return;
+        }
+        match words[0] {
+            "start" => {
+                self.own = words[1].to_string();
+                return self.feed(&format!("watch {}", words[2..].join(" ")));
+            }
+            "watch" => return self.feed(line),
+            "vote" | "block" | "take" | "look" => self.feed(line),
+            "tray" => {
+                let answers = answer.split(" : ").nth(1).unwrap_or("").split(' ');
+                let votes = words[1..].chunks(4).zip(answers).filter(|&(_, answer)| answer == "0");
+                votes.for_each(|(vote, _)| self.feed(&format!("vote {}", vote.join(" "))));
+            }
+            "timeout" => {}
+            _ => return,
+        }
+        for record in answer.split(' ').skip(2).take_while(|&word| word != ":") {
+            if let [kind @ ("1" | "2" | "3" | "4" | "5"), slot, block] =
+                record.split(',').collect::<Vec<_>>()[..]
+            {
+                self.feed(&format!("vote {kind} {} {slot} {block}", self.own));
+            }
+        }
+    }
+
+    fn feed(&mut self, line: &str) {
+        let answer = self.watcher.line(line.as_bytes()).unwrap().lines().concat();
+        assert!(answer.starts_with('0'), "{line}: {answer}");
+    }
+}
+
+/// Every accepted line of many scripts, and the voter's own votes as ordinary
+/// ones: same votes, blocks and certificates, and the same is held.
+#[test]
+fn a_watcher_fed_the_same_holds_the_same() {
+    for seed in 0..200 {
+        let mut both = Watched::default();
+        for line in lines(gen::script(seed).text.as_bytes()) {
+            both.say(&String::from_utf8_lossy(line));
+        }
+        if let (Some(voter), Some(watcher)) = (both.voter.node, both.watcher.node) {
+            assert_eq!(watcher.stored_votes(), voter.stored_votes(), "seed {seed}");
+            for slot in 1..=LAST_SLOT {
+                assert_eq!(watcher.kept_blocks(slot), voter.kept_blocks(slot), "seed {seed}");
+                assert_eq!(watcher.kept_certificates(slot), voter.kept_certificates(slot), "seed {seed}");
+                for cert in certs_named(&voter, slot) {
+                    assert_eq!(watcher.holds(slot, cert), voter.holds(slot, cert), "seed {seed}");
+                    let kind = voter.stakes().family().kinds_after() + cert.kind();
+                    let written = |node: &Node| write_cert(node, kind, slot, cert.block()).ok();
+                    assert_eq!(written(&watcher), written(&voter), "seed {seed}");
+                }
+            }
+        }
+    }
+}
+
+fn certs_named(node: &Node, slot: u64) -> Vec<Cert> {
+    let mut certs = vec![Cert::Skip, Cert::Final];
+    for block in node.named_blocks(slot) {
+        certs.extend([Cert::FastFinal(block), Cert::Notar(block), Cert::NotarFallback(block)]);
+    }
+    certs
+}
+
 // ---- packets ----
 
 #[test]
@@ -1575,11 +1700,12 @@ fn scripts_are_of_fair_size_and_end_with_the_votes() {
 /// Every refusal that a command can give, by command.
 const POSSIBLE: &[(&str, &[u64])] = &[
     ("start", &[0, 1]),
+    ("watch", &[0, 1]),
     ("vote", &[0, 2, 3, 4, 5, 6, 7, 8, 17]),
     ("tray", &[0, 12, 17]),
     ("block", &[0, 3, 5, 7, 8, 11, 17]),
     ("take", &[0, 3, 4, 5, 7, 8, 12, 13, 14, 15, 17]),
-    ("timeout", &[0, 3, 7, 10, 17]),
+    ("timeout", &[0, 3, 4, 7, 10, 17]),
     ("look", &[0, 17]),
     ("cert", &[0, 3, 4, 5, 17, 18]),
     ("proof", &[0, 3, 5, 17, 18]),
@@ -1664,6 +1790,13 @@ const BRANCHES: &[&str] = &[
     "cert written: kind 15",
     "check 4 for a kind of the other family",
     "checkproof 4 for a kind of the other family",
+    "watcher: records of kind 6",
+    "watcher: records of kind 7",
+    "watcher: records of kind 8",
+    "watcher: cert written",
+    "watcher: proof written",
+    "watcher: a vote in every node's name",
+    "watcher: no line beside a voter",
     "take: of kind 1",
     "take: of kind 2",
     "take: of kind 3",
@@ -1840,6 +1973,9 @@ fn a_thousand_scripts_reach_everything() {
         want(&what, seen.notes(&what), least);
     }
     assert!(few.is_empty(), "too few of {few:#?}");
+    for kind in 1..=5 {
+        assert_eq!(seen.notes(&format!("watcher: records of kind {kind}")), 0);
+    }
     // The document's bound for a life.
     assert!(seen.most_records_in_a_life <= 132);
 }

@@ -13,7 +13,7 @@ use Rattle.rulebook.specs.Writers as writer
 use Rattle.rulebook.specs.Writers.{Writes}
 use Rattle.node.specs.Stepping.{StepOf, stepLeaves}
 use Rattle.taking.specs.Taking.{TakeOf}
-use Rattle.soundness.specs.Starting.{StartOf}
+use Rattle.soundness.specs.Starting.{StartOf, WatchOf}
 use Rattle.trays.specs.Lent.{TrayOf}
 use Rattle.cards.specs.declared.CardAnswer.{CardAnswer}
 use Rattle.cards.specs.Asked.{cardPanel}
@@ -22,11 +22,16 @@ use Rattle.differences.specs.Lent.{DifferOf, differPanel}
 use Rattle.pieces.specs.declared.PieceAnswer.{PieceAnswer}
 use Rattle.pieces.specs.Pieces.{piecePanel}
 use Rattle.pieces.specs.State.{nodes, PieceOf, EndOf, endLeaves}
-use Rattle.answers.specs.Face.{Beside, Started, Stepped, Taken, Trayed, Wrote, MessageRead, CardRead, Checked, Compared, Pieced, Ended}
+use Rattle.answers.specs.Face.{Beside, Started, Watched, Stepped, Taken, Trayed, Wrote, MessageRead, CardRead, Checked, Compared, Pieced, Ended}
 
 pub started : (ws stakes : List ℕ) (own genesis : ℕ) (a : StartAnswer) (n : ℕ) (left : List ℕ) → StartOf ws stakes own genesis a left
     → n ≡ startPanel a .number → Started ws stakes own genesis n left
 started ws stakes own genesis a n left s e =
+    record { numbered = e ∙ ap (λ (x : StartAnswer). startPanel x .number) (s .answered); words = s .words }
+
+pub watched : (ws stakes : List ℕ) (genesis : ℕ) (a : StartAnswer) (n : ℕ) (left : List ℕ) → WatchOf ws stakes genesis a left
+    → n ≡ startPanel a .number → Watched ws stakes genesis n left
+watched ws stakes genesis a n left s e =
     record { numbered = e ∙ ap (λ (x : StartAnswer). startPanel x .number) (s .answered); words = s .words }
 
 -- A step of an input that stands for the host's numbers.

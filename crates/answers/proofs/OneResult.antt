@@ -8,7 +8,7 @@ use Rattle.rulebook.specs.declared.ReadAnswer.{ReadAnswer}
 use Rattle.rulebook.specs.declared.CheckAnswer.{CheckAnswer}
 use Rattle.rulebook.specs.Writers as writer
 use Rattle.cards.specs.declared.CardAnswer.{CardAnswer}
-use Rattle.answers.specs.Face.{Beside, Started, Stepped, Taken, Trayed, Wrote, MessageRead, CardRead, Checked, Compared, Pieced, Ended}
+use Rattle.answers.specs.Face.{Beside, Started, Watched, Stepped, Taken, Trayed, Wrote, MessageRead, CardRead, Checked, Compared, Pieced, Ended}
 
 -- One value beside one number.
 beside-one : {v v' : ℕ} {values : List ℕ} → Beside v values → Beside v' values → v ≡ v'
@@ -18,6 +18,11 @@ beside-one a b = cc
 pub started-one : {ws stakes left left' : List ℕ} {own genesis n n' : ℕ} → Started ws stakes own genesis n left → Started ws stakes own genesis n' left'
     → (n ≡ n') × (left ≡ left')
 started-one a b = (a .numbered ∙ sym (b .numbered), a .words ∙ sym (b .words))
+
+-- qr_watch.
+pub watched-one : {ws stakes left left' : List ℕ} {genesis n n' : ℕ} → Watched ws stakes genesis n left → Watched ws stakes genesis n' left'
+    → (n ≡ n') × (left ≡ left')
+watched-one a b = (a .numbered ∙ sym (b .numbered), a .words ∙ sym (b .words))
 
 -- qr_vote, qr_block, qr_timeout, qr_look.
 pub stepped-one : {ws out left left' box box' : List ℕ} {i : Input} {n n' made made' : ℕ} → Stepped ws out i n made left box → Stepped ws out i n' made' left' box'

@@ -19,7 +19,7 @@ use Rattle.cards.specs.declared.CardAnswer.{CardAnswer}
 use Rattle.cards.specs.Asked.{cardPanel}
 use Rattle.differences.specs.Lines.{spellLines}
 use Rattle.differences.specs.Lent.{differ, differPanel}
-use Rattle.soundness.specs.Starting.{startJudged, startAnswer, startLeft}
+use Rattle.soundness.specs.Starting.{startJudged, startAnswer, startLeft, watchJudged}
 use Rattle.pieces.specs.Pieces.{piecePanel}
 use Rattle.pieces.specs.State.{nodes, pieceLeaves, endLeaves}
 
@@ -39,6 +39,11 @@ acceptedValues count a = numberIn count (a .kind) ∷ a .slot .0 ∷ a .block �
 pub record Started (ws stakes : List ℕ) (own genesis number : ℕ) (left : List ℕ) : Type 0 where
   pub numbered : number ≡ startPanel (startAnswer (startJudged ws stakes own genesis)) .number
   pub words : left ≡ startLeft (startJudged ws stakes own genesis) ws stakes own genesis
+
+-- A watcher's start: its number, and all the record's words, those of a fresh node with the number after the last.
+pub record Watched (ws stakes : List ℕ) (genesis number : ℕ) (left : List ℕ) : Type 0 where
+  pub numbered : number ≡ startPanel (startAnswer (watchJudged ws stakes genesis)) .number
+  pub words : left ≡ startLeft (watchJudged ws stakes genesis) ws stakes (length stakes) genesis
 
 -- A step: its number, the count of its records, and all the words of record and outbox.
 pub record Stepped (ws out : List ℕ) (i : Input) (number made : ℕ) (ws' left : List ℕ) : Type 0 where

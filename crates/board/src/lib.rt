@@ -27,6 +27,7 @@ use shown::own_of;
 use shown::timed_out_in;
 use shown::total_of;
 use shown::touched;
+use shown::watches;
 use shown_blocks::block_after;
 use shown_blocks::block_from;
 use shown_heavy::heavy_after;
@@ -448,11 +449,19 @@ fn touched_board(page: &mut [u8], at: usize, rec: &[u64], s: Slot) -> usize {
     at
 }
 
+// The own number, or that there is none.
+fn put_own(page: &mut [u8], rec: &[u64]) -> usize {
+    if watches(rec) {
+        return put_text(page, 0, b"watcher");
+    }
+    let me = own_of(rec);
+    put_named(page, 0, b"node ", me.0 as u64)
+}
+
 // The node's own line.
 fn head_line(page: &mut [u8], rec: &[u64]) -> usize {
-    let me = own_of(rec);
     let all = total_of(rec);
-    let p = put_named(page, 0, b"node ", me.0 as u64);
+    let p = put_own(page, rec);
     let q = put_named(page, p, b" of ", nodes_of(rec) as u64);
     let r = put_named(page, q, b", total stake ", all.0);
     let t = put_named(page, r, b", genesis ", genesis_of(rec));

@@ -20,7 +20,7 @@ use Rattle.chain.specs.OneChain as book
 use Rattle.chain.proofs.Chains.{proofs-chained, honest-proofs-chained, settled-chained, settled-once, final-marks-agree, certificates-descend, no-clash, announced-is-enough}
 use Rattle.histories.specs.Calls.{Call, Life, Lived, leftBy, arrivalsOf}
 use Rattle.histories.specs.Ring.{upTo}
-use Rattle.histories.proofs.Lives.{lived}
+use Rattle.histories.proofs.Lives.{lived, begun}
 use Rattle.histories.proofs.Demand.{genuine, ring-of-calls, code-mail-is-enough, proof-on}
 use Rattle.histories.proofs.Honest.{lived-before, arrivals-split}
 use Rattle.chained_calls.specs.OneChain.{blockKept, CodeOneParent, CodeIsOrDescends, CodeOnOneChain, CodeSettled, proved, reported, CodeProofsChained, CodeHonestProofsChained, CodeSettledChained, CodeSettledOnce, CodeFinalMarksAgree, CodeCertificatesDescend, CodeNoClash, CodeAnnouncedIsEnough, CodeArrivalsAreEnough}
@@ -76,7 +76,8 @@ module _ (stakes : List ℕ) (genesis : ℕ → ℕ) (honest : Test) (lives : �
       → Writes (proofOn (leftBy (upTo (lives n) before)) (length buffer) s b) buffer written after → written ≡ write.Written size
       → writeProof (afterAll (fresh stakes n (genesis n)) (arrivalsOf before)) (length buffer) s b .answer ≡ write.Written size
   proof-written n h before later e buffer after s b size written w x =
-      let on = proof-on stakes n (genesis n) (upTo (lives n) before) (lived-before stakes n (genesis n) (lives n) (all n h) before later e) (length buffer) s b in
+      let l = upTo (lives n) before in
+      let on = proof-on stakes n (genesis n) l (begun stakes n (genesis n) l (lived-before stakes n (genesis n) (lives n) (all n h) before later e)) (length buffer) s b in
       ap (λ (y : Wrote). y .answer) (sym on) ∙ sym (w .answered) ∙ x
 
 -- ---- the promises

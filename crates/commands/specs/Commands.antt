@@ -19,6 +19,9 @@ sameText a b = eqb (length a) (length b) && allTo (length a) (λ i. eqb (getD a 
 abbrev pub startText : List ℕ
 startText = 115 ∷ 116 ∷ 97 ∷ 114 ∷ 116 ∷ []
 
+abbrev pub watchText : List ℕ
+watchText = 119 ∷ 97 ∷ 116 ∷ 99 ∷ 104 ∷ []
+
 abbrev pub voteText : List ℕ
 voteText = 118 ∷ 111 ∷ 116 ∷ 101 ∷ []
 
@@ -111,10 +114,10 @@ unfoldable pub questionOf : List ℕ → Command
 questionOf w =
     choose (sameText w certText) command.Cert (choose (sameText w proofText) command.Proof (choose (sameText w checkText) command.Check (choose (sameText w checkProofText) command.CheckProof (choose (sameText w cardText) command.Card (messageOf w)))))
 
--- and "start", "vote", "block", "timeout", "look", "tray" and "take" tell the node something.
+-- and "start", "watch", "vote", "block", "timeout", "look", "tray" and "take" tell the node something.
 unfoldable pub inputOf : List ℕ → Command
 inputOf w =
-    choose (sameText w startText) command.Start (choose (sameText w voteText) command.Vote (choose (sameText w blockText) command.Block (choose (sameText w timeoutText) command.Timeout (choose (sameText w lookText) command.Look (choose (sameText w trayText) command.Tray (choose (sameText w takeText) command.Take (questionOf w)))))))
+    choose (sameText w startText) command.Start (choose (sameText w watchText) command.Watch (choose (sameText w voteText) command.Vote (choose (sameText w blockText) command.Block (choose (sameText w timeoutText) command.Timeout (choose (sameText w lookText) command.Look (choose (sameText w trayText) command.Tray (choose (sameText w takeText) command.Take (questionOf w))))))))
 
 -- From a place on, a line holds numbers and nothing else: so many, or so many at least.
 unfoldable pub exactly : List ℕ → ℕ → ℕ → Bool
@@ -147,6 +150,7 @@ countAndMessage line at = exactly (take (wordTo line at) line) at 1 && packetAlo
 -- What follows the command's word, from a place on, is what the command asks for.
 unfoldable pub argumentsFit : Command → List ℕ → ℕ → Bool
 argumentsFit command.Start line at = atLeast line at 2
+argumentsFit command.Watch line at = atLeast line at 1
 argumentsFit command.Vote line at = exactly line at 4
 argumentsFit command.Block line at = exactly line at 4
 argumentsFit command.Timeout line at = exactly line at 1
@@ -179,6 +183,7 @@ commandOf line = let c = inputOf (wordOf line 0) in choose (argumentsFit c line 
 -- The commands that can change a node.
 unfoldable pub tells : Command → Bool
 tells command.Start = true
+tells command.Watch = true
 tells command.Vote = true
 tells command.Block = true
 tells command.Timeout = true

@@ -8,6 +8,7 @@ use script::word_at;
 // The commands, and one case for every other line.
 pub enum Command {
     Start,
+    Watch,
     Vote,
     Block,
     Timeout,
@@ -55,6 +56,9 @@ fn input_of(word: &[u8]) -> Command
 {
     if same(word, b"start") {
         return Command::Start;
+    }
+    if same(word, b"watch") {
+        return Command::Watch;
     }
     if same(word, b"vote") {
         return Command::Vote;
@@ -237,6 +241,7 @@ fn arguments_fit(c: Command, line: &[u8], at: usize) -> bool
 {
     match c {
         Command::Start => at_least(line, at, 2),
+        Command::Watch => at_least(line, at, 1),
         Command::Vote => exactly(line, at, 4),
         Command::Block => exactly(line, at, 4),
         Command::Timeout => exactly(line, at, 1),

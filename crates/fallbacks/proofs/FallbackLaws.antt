@@ -7,19 +7,19 @@ use borrow.Author.Tests.{ne-eqb}
 use Rattle.rulebook.specs.declared.Cell.{Cell}
 use Rattle.rulebook.specs.declared.VoteKind.the-variants as vote
 use Rattle.rulebook.specs.Weights.{lastSlot}
-use Rattle.rulebook.specs.Ledger.{none, noInitial, ownCell}
+use Rattle.rulebook.specs.Ledger.{none, noInitial, isWatcher, ownCell}
 use Rattle.rulebook.specs.Inputs.{misfits}
 use Rattle.rulebook.specs.Rules.{State, cast, castSkips, ruleD, ruleE, mayFallback, fallbackWeights, fallbackBlock, castFallback, windowOpen, maySkipFallback, skipWeights, castSkipFallback}
 use Rattle.rulebook.proofs.ToolLaws.{given-on, given-off, given-keeps, and-both}
 use Rattle.record.specs.Layout.{ledgerOf}
 use Rattle.settling.specs.Facts.{Sound}
-use Rattle.settling.specs.Steps.{Came, weighed}
+use Rattle.settling.specs.Steps.{AndVotes, Came, weighed}
 use Rattle.settling.proofs.VoteLaws.{skipfallback-free}
-use Rattle.settling.proofs.LawfulRules.{falls-weigh, skips-weigh, behind-keeps}
+use Rattle.settling.proofs.LawfulRules.{voter-casting, falls-weigh, skips-weigh, behind-keeps}
 use Rattle.settling.proofs.Spending.{came-self, came-lawful}
 use Rattle.voter.specs.Outbox.{stateIn}
-use Rattle.voter.specs.Voting.{LiveAt, Onward}
-use Rattle.voter.proofs.LiveLaws.{onward-then}
+use Rattle.voter.specs.Voting.{CastingAt, Onward}
+use Rattle.voter.proofs.LiveLaws.{votes-on, onward-then}
 use Rattle.fallbacks.specs.Fallbacks.{addNotarFallback, addSkipFallback}
 use Rattle.fallbacks.specs.UnderWay.{WeighedAt}
 
@@ -77,26 +77,26 @@ module _ (o : State) (s : ℕ) where
 
 -- ---- what D and E cast behind the skips is paid from the potential
 
-module _ (o : State) (s : ℕ) (h : Sound (o .ledger)) (low : 1 ≤ s) (high : s ≤ lastSlot) where
+module _ (o : State) (s : ℕ) (h : Sound (o .ledger)) (v : isWatcher (o .ledger) ≡ false) (low : 1 ≤ s) (high : s ≤ lastSlot) where
   pub fallback-comes : (b : ℕ) → none b ≡ false → fallbackWeights (o .ledger) s b ≡ true → Came o (addNotarFallback o s b)
   unfolding addNotarFallback
-  fallback-comes b m w = behind-keeps (Came o) (came-lawful o) s low high o b m w (came-self o h)
+  fallback-comes b m w = behind-keeps (AndVotes (Came o)) (voter-casting (Came o) (came-lawful o)) s low high o b m w (came-self o h, v) .0
 
   pub skipFallback-comes : Came o (addSkipFallback o s)
   unfolding addSkipFallback maySkipFallback misfits weighed
   skipFallback-comes =
       let c : Cell = ownCell (o .ledger) s in
       given-keeps (Came o) (maySkipFallback c) o (λ _. cast o s vote.SkipFallback 0) (came-self o h)
-      (λ e. came-lawful o .vote o s vote.SkipFallback 0 low high (skipfallback-free c (and-both (none (c .finalvote)) (none (c .skipfallback)) e .1)) refl refl (came-self o h))
+      (λ e. came-lawful o .vote o s vote.SkipFallback 0 low high v (skipfallback-free c (and-both (none (c .finalvote)) (none (c .skipfallback)) e .1)) refl refl (came-self o h))
 
 -- ---- the skips, then the fallback
 
 -- The block that D acts on has its weights.
-pub weighed-block : {ws out : List ℕ} {at s b : ℕ} → LiveAt ws out at s → b ≡ fallbackBlock (ledgerOf ws) s → (b ≡ 0 → ⊥) → WeighedAt ws out at s b
+pub weighed-block : {ws out : List ℕ} {at s b : ℕ} → CastingAt ws out at s → b ≡ fallbackBlock (ledgerOf ws) s → (b ≡ 0 → ⊥) → WeighedAt ws out at s b
 weighed-block {ws = ws} {s = s} {b = b} v e ne =
     let m : none (fallbackBlock (ledgerOf ws) s) ≡ false = ne-eqb (fallbackBlock (ledgerOf ws) s) 0 (λ z. ne (e ∙ z)) in
     record {
-      live = v;
+      casting = v;
       block = ne-eqb b 0 ne;
       weights = ap (λ (x : ℕ). fallbackWeights (ledgerOf ws) s x) e ∙ falls-weigh (ledgerOf ws) s m;
     }
@@ -106,9 +106,10 @@ pub weighed-behind : {ws out ws' out' : List ℕ} {at now s b : ℕ} → Weighed
     → WeighedAt ws' out' now s b
 weighed-behind {ws = ws} {out = out} {at = at} {s = s} {b = b} v a =
     let o : State = stateIn ws out at in
-    let k = skips-weigh (Came o) (came-lawful o) s (v .live .low) (v .live .high) o b (v .block) (v .weights) (came-self o (v .live .live .sound)) in
+    let p = v .casting .live in
+    let k = skips-weigh (AndVotes (Came o)) (voter-casting (Came o) (came-lawful o)) s (p .low) (p .high) o b (v .block) (v .weights) (came-self o (p .live .sound), v .casting .votes) in
     record {
-      live = record { live = a .live; low = v .live .low; high = v .live .high };
+      casting = record { live = record { live = a .live; low = p .low; high = p .high }; votes = votes-on (a .same) (v .casting .votes) };
       block = v .block;
       weights = ap (λ (x : State). fallbackWeights (x .ledger) s b) (a .moved .is) ∙ k .1;
     }

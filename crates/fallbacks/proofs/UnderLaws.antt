@@ -7,8 +7,9 @@ use Rattle.rulebook.specs.Ledger.{cellAt}
 use Rattle.record.specs.Layout.{ledgerOf}
 use Rattle.settling.proofs.FactLaws.{formed, cell-facts}
 use Rattle.pool.specs.Weighing.{Carded}
+use Rattle.voter.specs.Voting.{CastingAt}
 use Rattle.candidates.specs.Judging.{Judging}
-use Rattle.fallbacks.specs.UnderWay.{UnderWayAt}
+use Rattle.fallbacks.specs.UnderWay.{UnderWayAt, VotingAt}
 
 module _ {ws out : List ℕ} {at s : ℕ} (v : UnderWayAt ws out at s) where
   pub under-carded : Carded ws s
@@ -28,3 +29,6 @@ module _ {ws out : List ℕ} {at s : ℕ} (v : UnderWayAt ws out at s) where
 
   pub under-staked : (n : ℕ) → n < ledgerOf ws .count → 1 ≤ stakeIn (ledgerOf ws .stakes) n
   under-staked = formed (ledgerOf ws) (v .live .live .sound .formed) .head .staked
+
+pub under-casting : {ws out : List ℕ} {at s : ℕ} → VotingAt ws out at s → CastingAt ws out at s
+under-casting v = record { live = v .under .live; votes = v .votes }

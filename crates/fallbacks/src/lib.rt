@@ -5,10 +5,10 @@ ghost use Rattle.rulebook.specs.Ledger.{none, ownCell};
 ghost use Rattle.rulebook.specs.Rules.{windowOpen, castFallback, ruleD, maySkipFallback, castSkipFallback, ruleE};
 ghost use Rattle.record.specs.Layout.{ledgerOf};
 ghost use Rattle.voter.specs.Outbox.{stateIn};
-ghost use Rattle.voter.specs.Voting.{LiveAt, Onward};
+ghost use Rattle.voter.specs.Voting.{CastingAt, Onward};
 ghost use Rattle.pool.specs.Weighing.{Carded};
 ghost use Rattle.fallbacks.specs.Fallbacks.{addNotarFallback, addSkipFallback};
-ghost use Rattle.fallbacks.specs.UnderWay.{UnderWayAt, WeighedAt};
+ghost use Rattle.fallbacks.specs.UnderWay.{VotingAt, WeighedAt};
 use candidates::fallback_block;
 use candidates::skip_weights;
 use own_votes::may_fallback;
@@ -43,7 +43,7 @@ fn cast_fallback(rec: &mut [u64], outbox: &mut [u64], at: usize, s: Slot, b: u64
 
 // D. Own initial vote present, and some block falls back: casts for the lowest.
 pub fn rule_d(rec: &mut [u64], outbox: &mut [u64], at: usize, s: Slot) -> usize
-    requires { ⌜ UnderWayAt (now rec) (now outbox) at (s .0) ⌝ }
+    requires { ⌜ VotingAt (now rec) (now outbox) at (s .0) ⌝ }
     ensures { λ r. ⌜ Onward (now (rec .entry)) (now (outbox .entry)) at (now (rec .exit)) (now (outbox .exit)) r (ruleD (stateIn (now (rec .entry)) (now (outbox .entry)) at) (s .0)) ⌝ }
 {
     if no_initial(own_cell(rec, s)) {
@@ -58,7 +58,7 @@ pub fn rule_d(rec: &mut [u64], outbox: &mut [u64], at: usize, s: Slot) -> usize
 
 // E's last cast: without an own final, skip-fallback unless cast.
 fn add_skip_fallback(rec: &mut [u64], outbox: &mut [u64], at: usize, s: Slot) -> usize
-    requires { ⌜ LiveAt (now rec) (now outbox) at (s .0) ⌝ }
+    requires { ⌜ CastingAt (now rec) (now outbox) at (s .0) ⌝ }
     ensures { λ r. ⌜ Onward (now (rec .entry)) (now (outbox .entry)) at (now (rec .exit)) (now (outbox .exit)) r (addSkipFallback (stateIn (now (rec .entry)) (now (outbox .entry)) at) (s .0)) ⌝ }
 {
     if may_skip_fallback(own_cell(rec, s)) {
@@ -69,7 +69,7 @@ fn add_skip_fallback(rec: &mut [u64], outbox: &mut [u64], at: usize, s: Slot) ->
 
 // E's casts: skips for the window, then the skip-fallback.
 fn cast_skip_fallback(rec: &mut [u64], outbox: &mut [u64], at: usize, s: Slot) -> usize
-    requires { ⌜ LiveAt (now rec) (now outbox) at (s .0) ⌝ }
+    requires { ⌜ CastingAt (now rec) (now outbox) at (s .0) ⌝ }
     ensures { λ r. ⌜ Onward (now (rec .entry)) (now (outbox .entry)) at (now (rec .exit)) (now (outbox .exit)) r (castSkipFallback (stateIn (now (rec .entry)) (now (outbox .entry)) at) (s .0)) ⌝ }
 {
     let made = cast_skips(rec, outbox, at, s);
@@ -87,7 +87,7 @@ fn may_skip(rec: &[u64], s: Slot) -> bool
 
 // E. Own initial vote present and not skip, and the skip weights reach: casts.
 pub fn rule_e(rec: &mut [u64], outbox: &mut [u64], at: usize, s: Slot) -> usize
-    requires { ⌜ UnderWayAt (now rec) (now outbox) at (s .0) ⌝ }
+    requires { ⌜ VotingAt (now rec) (now outbox) at (s .0) ⌝ }
     ensures { λ r. ⌜ Onward (now (rec .entry)) (now (outbox .entry)) at (now (rec .exit)) (now (outbox .exit)) r (ruleE (stateIn (now (rec .entry)) (now (outbox .entry)) at) (s .0)) ⌝ }
 {
     if may_skip(rec, s) {

@@ -7,26 +7,31 @@ fn inputs(page: &mut [u8], at: usize) -> usize {
     let q = tell_line(
         page,
         p,
-        b"vote KIND NODE SLOT BLOCK            0 N kind,slot,block ..",
+        b"watch GENESIS STAKE..                0; a node that never votes",
     );
     let r = tell_line(
         page,
         q,
-        b"tray KIND NODE SLOT BLOCK ..         0 N kind,slot,block .. : ANSWER ..",
+        b"vote KIND NODE SLOT BLOCK            0 N kind,slot,block ..",
     );
     let s = tell_line(
         page,
         r,
-        b"take HEX                             0 N kind,slot,block ..",
+        b"tray KIND NODE SLOT BLOCK ..         0 N kind,slot,block .. : ANSWER ..",
     );
     let t = tell_line(
         page,
         s,
+        b"take HEX                             0 N kind,slot,block ..",
+    );
+    let u = tell_line(
+        page,
+        t,
         b"block SLOT NUMBER PARENTSLOT PARENT  0 N kind,slot,block ..",
     );
     tell_line(
         page,
-        t,
+        u,
         b"timeout SLOT | look                  0 N kind,slot,block ..",
     )
 }
@@ -169,7 +174,7 @@ fn early_refusal(page: &mut [u8], at: usize, n: u64) -> usize {
         4 => tell_line(
             page,
             at,
-            b"4: The kind is not 1 to 5; or, with more than 64 nodes, a certificate's is not 11 to 15.",
+            b"4: The kind is not 1 to 5; or, with more than 64 nodes, a certificate's is not 11 to 15; or the timeout is for a watcher.",
         ),
         5 => tell_line(
             page,
@@ -244,7 +249,7 @@ fn refusal(page: &mut [u8], at: usize, n: u64) -> usize {
         17 => tell_line(
             page,
             at,
-            b"17: No node is started; or the record has a wrong length, a field outside its range, a total that is not the sum, a fallback block kept twice for one node, an own notar-fallback whose block does not reach rule D's weights, a block kept twice in a slot, a tally card that a recount of the slot's votes does not give, a kept certificate that the checker refuses or that repeats another, or an unused place that is not 0.",
+            b"17: No node is started; or the record has a wrong length, a field outside its range, an own number above the number of nodes, a total that is not the sum, a fallback block kept twice for one node, an own notar-fallback whose block does not reach rule D's weights, a block kept twice in a slot, a tally card that a recount of the slot's votes does not give, a kept certificate that the checker refuses or that repeats another, or an unused place that is not 0.",
         ),
         18 => tell_line(
             page,

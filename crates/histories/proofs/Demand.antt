@@ -2,13 +2,14 @@
 use mathlib.Core.Path.{_≡_, sym, ap, _∙_, subst}
 use mathlib.Core.Bool.{Bool}
 use mathlib.Core.List.{List}
-use Prim.Native.Nat.{ℕ, _-_}
+use Prim.Native.Nat.{ℕ, _-_, _<_}
 use native.Mathlib.Omega.{arith}
 use lib.Dec.{T}
 use lib.ListN.{length, take}
 use Rattle.rulebook.specs.declared.CertificateKind.{CertificateKind}
 use Rattle.rulebook.specs.declared.CheckAnswer.{CheckAnswer}
 use Rattle.rulebook.specs.declared.WriteAnswer.{WriteAnswer}
+use Rattle.rulebook.specs.declared.WriteAnswer.the-variants as write
 use Rattle.rulebook.specs.Certificates.{Certificate, Kept}
 use Rattle.rulebook.specs.Ledger.{Ledger, fresh, cellAt, keptAt, isKept}
 use Rattle.rulebook.specs.Pool.{placeKind}
@@ -28,10 +29,12 @@ use Rattle.safety.specs.Ring.{afterAll, castBy, Signers, ballotA, ballotB, Ring
 use Rattle.safety.specs.Promises.{AcceptedAs}
 use Rattle.safety.proofs.Packets.{packet-more}
 use Rattle.safety.proofs.Promises.{packets-safe, proofs-agree, mail-is-enough}
-use Rattle.safety.proofs.Written.{count-is, written-certificate-accepted, written-proof-accepted}
+use Rattle.safety.specs.Watchers.{HoldsGenuine}
+use Rattle.safety.proofs.Written.{count-is, certificate-written, proof-written}
+use Rattle.safety.proofs.Honest.{certificate-holds, proof-holds}
 use Rattle.histories.specs.Calls.{Life, Lived, leftBy, arrivalsOf}
-use Rattle.histories.specs.Ring.{toldBallot, CodeRing, CodeSafe, CodeProofsAgree, CodeMailIsEnough, CodeFedSafe, CodeCertificateAccepted, CodeProofAccepted}
-use Rattle.histories.proofs.Lives.{started, lived}
+use Rattle.histories.specs.Ring.{toldBallot, CodeRing, CodeSafe, CodeProofsAgree, CodeMailIsEnough, CodeFedSafe, CertificateAccepted, ProofAccepted, CodeCertificateAccepted, CodeProofAccepted, CertificateGenuine, ProofGenuine}
+use Rattle.histories.proofs.Lives.{started, begun, Begun, begun-did, lived}
 
 -- ---- the ring
 
@@ -50,7 +53,7 @@ module _ (stakes : List ℕ) (genesis : ℕ → ℕ) (honest : Test) (lives : �
   fed n = arrivalsOf (lives n .calls)
 
   -- What an honest node told is what it cast.
-  told-cast : (n s : ℕ) (v : Ballot) → T (honest n) → T (toldBallot lives n s v) → T (castBy stakes genesis honest fed n s v)
+  pub told-cast : (n s : ℕ) (v : Ballot) → T (honest n) → T (toldBallot lives n s v) → T (castBy stakes genesis honest fed n s v)
   told-cast n s v h t = subst T (lived stakes n (genesis n) (lives n) (all n h) .told (recordFor s v)) t
 
   pub cast-told : (n s : ℕ) (v : Ballot) → T (honest n) → T (castBy stakes genesis honest fed n s v) → T (toldBallot lives n s v)
@@ -127,11 +130,12 @@ code-fed-safe stakes genesis honest lives ring =
 -- ---- what is written
 
 -- The first bytes of the buffer, as many as were written.
-pub front : {w : Wrote} {buffer after : List ℕ} {a : WriteAnswer} (n : ℕ) → Writes w buffer a after → n ≡ length (w .bytes) → take n after ≡ w .bytes
+front : {w : Wrote} {buffer after : List ℕ} {a : WriteAnswer} (n : ℕ) → Writes w buffer a after → n ≡ length (w .bytes) → take n after ≡ w .bytes
 front {w} {buffer} {after} n x e =
     let z : n - 0 ≡ n = omega arith in subst (λ (m : ℕ). take m after ≡ w .bytes) z (packet-is (w .bytes) buffer after n (x .bytes) e)
 
-module _ (stakes : List ℕ) (own genesis : ℕ) (life : Life) (h : Lived stakes own genesis life) where
+-- A node's life, or a watcher's.
+module _ (stakes : List ℕ) (own genesis : ℕ) (life : Life) (h : Begun stakes own genesis life) where
   -- On the words that the calls left, the writers write of the ledger after what arrived.
   abbrev now : Ledger
   now = afterAll (fresh stakes own genesis) (arrivalsOf (life .calls))
@@ -139,33 +143,68 @@ module _ (stakes : List ℕ) (own genesis : ℕ) (life : Life) (h : Lived stakes
   pub certificate-on : (room kind s b : ℕ) → certificateOn (leftBy life) room kind s b ≡ writeCertificate now room (kindIn (length stakes) kind) s b
   unfolding certificateOn
   certificate-on room kind s b =
-      given-on (soundWords (leftBy life)) unsound (λ _. writeCertificate (ledgerOf (leftBy life)) room (kindOn (leftBy life) kind) s b) (lived stakes own genesis life h .sound)
-      ∙ ap (λ (l : Ledger). writeCertificate l room (kindIn (l .count) kind) s b) (lived stakes own genesis life h .ledger)
-      ∙ ap (λ (n : ℕ). writeCertificate now room (kindIn n kind) s b) (count-is stakes own genesis (started stakes own genesis life h .0) (arrivalsOf (life .calls)))
+      given-on (soundWords (leftBy life)) unsound (λ _. writeCertificate (ledgerOf (leftBy life)) room (kindOn (leftBy life) kind) s b) (begun-did stakes own genesis life h .sound)
+      ∙ ap (λ (l : Ledger). writeCertificate l room (kindIn (l .count) kind) s b) (begun-did stakes own genesis life h .ledger)
+      ∙ ap (λ (n : ℕ). writeCertificate now room (kindIn n kind) s b) (count-is stakes own genesis (h .size) (arrivalsOf (life .calls)))
 
   pub proof-on : (room s b : ℕ) → proofOn (leftBy life) room s b ≡ writeProof now room s b
   unfolding proofOn
   proof-on room s b =
-      given-on (soundWords (leftBy life)) unsound (λ _. writeProof (ledgerOf (leftBy life)) room s b) (lived stakes own genesis life h .sound)
-      ∙ ap (λ (l : Ledger). writeProof l room s b) (lived stakes own genesis life h .ledger)
+      given-on (soundWords (leftBy life)) unsound (λ _. writeProof (ledgerOf (leftBy life)) room s b) (begun-did stakes own genesis life h .sound)
+      ∙ ap (λ (l : Ledger). writeProof l room s b) (begun-did stakes own genesis life h .ledger)
+
+  -- What stands at the buffer's front is what the written rules write there.
+  module _ (buffer after : List ℕ) (written : WriteAnswer) (n : ℕ) where
+    record Laid (w : Wrote) : Type 0 where
+      bytes : take n after ≡ w .bytes
+      answer : w .answer ≡ write.Written n
+
+    laid-certificate : (kind s b : ℕ) → Writes (certificateOn (leftBy life) (length buffer) kind s b) buffer written after → written ≡ write.Written n
+        → Laid (writeCertificate now (length buffer) (kindIn (length stakes) kind) s b)
+    laid-certificate kind s b w e =
+        let on = certificate-on (length buffer) kind s b in
+        let f = sym (w .answered) ∙ e in
+        record {
+          bytes = front n w (certificate-length (leftBy life) (length buffer) kind s b n f) ∙ ap (λ (x : Wrote). x .bytes) on;
+          answer = ap (λ (x : Wrote). x .answer) (sym on) ∙ f;
+        }
+
+    laid-proof : (s b : ℕ) → Writes (proofOn (leftBy life) (length buffer) s b) buffer written after → written ≡ write.Written n → Laid (writeProof now (length buffer) s b)
+    laid-proof s b w e =
+        let on = proof-on (length buffer) s b in
+        let f = sym (w .answered) ∙ e in
+        record {
+          bytes = front n w (proof-length (leftBy life) (length buffer) s b n f) ∙ ap (λ (x : Wrote). x .bytes) on;
+          answer = ap (λ (x : Wrote). x .answer) (sym on) ∙ f;
+        }
+
+  pub laid-accepted : CertificateAccepted stakes life × ProofAccepted stakes life
+  laid-accepted = (
+    (λ buffer after kind s b n written answer small w e c.
+        let p = laid-certificate buffer after written n kind s b w e in
+        subst (λ (x : CheckAnswer). AcceptedAs x (kindIn (length stakes) kind) s b) (sym (c ∙ ap (checkCertificate stakes) (p .bytes)))
+        (certificate-written stakes own genesis (h .size) (arrivalsOf (life .calls)) (length buffer) (kindIn (length stakes) kind) s b n small (p .answer))),
+    (λ buffer after s b n written answer small w e c.
+        let p = laid-proof buffer after written n s b w e in
+        subst (λ (x : CheckAnswer). (k : CertificateKind) × AcceptedAs x k s b) (sym (c ∙ ap (checkProof stakes) (p .bytes)))
+        (proof-written stakes own genesis (h .size) (arrivalsOf (life .calls)) (length buffer) s b n small (p .answer))),
+  )
+
+  pub laid-genuine : (honest : Test) (cast : ℕ → ℕ → Ballot → Bool) → ((m : ℕ) → T (honest m) → m < length stakes) → HoldsGenuine honest cast now
+      → CertificateGenuine stakes honest cast life × ProofGenuine stakes honest cast life
+  laid-genuine honest cast in-table holds = (
+    (λ buffer after kind s b n written small w e.
+        let p = laid-certificate buffer after written n kind s b w e in
+        subst (GenuinePacket (length stakes) honest cast) (sym (p .bytes))
+        (certificate-holds stakes honest cast in-table own genesis (h .size) (arrivalsOf (life .calls)) holds (length buffer) (kindIn (length stakes) kind) s b n small (p .answer))),
+    (λ buffer after s b n written small w e.
+        let p = laid-proof buffer after written n s b w e in
+        subst (GenuinePacket (length stakes) honest cast) (sym (p .bytes))
+        (proof-holds stakes honest cast in-table own genesis (h .size) (arrivalsOf (life .calls)) holds (length buffer) s b n small (p .answer))),
+  )
 
 pub code-certificate-accepted : CodeCertificateAccepted
-code-certificate-accepted stakes own genesis life h buffer after kind s b n written answer small w e c =
-    let room = length buffer in
-    let k = kindIn (length stakes) kind in
-    let on = certificate-on stakes own genesis life h room kind s b in
-    let f = sym (w .answered) ∙ e in
-    let p = front n w (certificate-length (leftBy life) room kind s b n f) in
-    subst (λ (x : CheckAnswer). AcceptedAs x k s b) (sym (c ∙ ap (checkCertificate stakes) (p ∙ ap (λ (x : Wrote). x .bytes) on)))
-    (written-certificate-accepted stakes own genesis (started stakes own genesis life h .0) (arrivalsOf (life .calls)) room k s b n small
-    (ap (λ (x : Wrote). x .answer) (sym on) ∙ f))
+code-certificate-accepted stakes own genesis life h = laid-accepted stakes own genesis life (begun stakes own genesis life h) .0
 
 pub code-proof-accepted : CodeProofAccepted
-code-proof-accepted stakes own genesis life h buffer after s b n written answer small w e c =
-    let room = length buffer in
-    let on = proof-on stakes own genesis life h room s b in
-    let f = sym (w .answered) ∙ e in
-    let p = front n w (proof-length (leftBy life) room s b n f) in
-    subst (λ (x : CheckAnswer). (k : CertificateKind) × AcceptedAs x k s b) (sym (c ∙ ap (checkProof stakes) (p ∙ ap (λ (x : Wrote). x .bytes) on)))
-    (written-proof-accepted stakes own genesis (started stakes own genesis life h .0) (arrivalsOf (life .calls)) room s b n small
-    (ap (λ (x : Wrote). x .answer) (sym on) ∙ f))
+code-proof-accepted stakes own genesis life h = laid-accepted stakes own genesis life (begun stakes own genesis life h) .1

@@ -3,16 +3,15 @@ use mathlib.Core.Path.{_≡_, refl, sym, ap, _∙_, subst}
 use mathlib.Core.List.{List, [], _∷_, _++_, append-assoc}
 use Prim.Native.Nat.{ℕ}
 use lib.ListN.{length}
-use Rattle.rulebook.specs.PaperNumbers.{kindIn}
 use Rattle.rulebook.specs.Taking.{Arrival}
-use Rattle.rulebook.specs.Writers.{Wrote}
-use Rattle.readback.proofs.Words.{certificate-length, proof-length}
 use Rattle.safety.specs.Ring.{castBy, GenuinePacket}
 use Rattle.safety.proofs.Packets.{packet-more}
-use Rattle.safety.proofs.Honest.{written-certificate-genuine, written-proof-genuine}
-use Rattle.histories.specs.Calls.{Call, Calls, noMore, called, fedBy, arrivalsOf, Life, Lived, leftBy}
+use Rattle.safety.proofs.Safety.{in-table}
+use Rattle.safety.proofs.Honest.{node-holds}
+use Rattle.histories.specs.Calls.{Call, Calls, noMore, called, fedBy, arrivalsOf, Life, Lived}
 use Rattle.histories.specs.Ring.{toldBallot, upTo, CodeWrittenGenuine}
-use Rattle.histories.proofs.Demand.{cast-told, ring-of-calls, front, certificate-on, proof-on}
+use Rattle.histories.proofs.Demand.{cast-told, ring-of-calls, laid-genuine}
+use Rattle.histories.proofs.Lives.{begun}
 
 -- ---- a life up to one of its moments is a life
 
@@ -35,25 +34,16 @@ arrivals-split (c ∷ cs) later =
 -- ---- what is written then
 
 pub code-written-genuine : CodeWrittenGenuine
-code-written-genuine stakes genesis honest lives ring =
+code-written-genuine stakes genesis honest lives ring n h before later e =
     let fed : ℕ → List Arrival = λ n. arrivalsOf (lives n .calls) in
     let r = ring-of-calls stakes genesis honest lives ring in
     let all = ring .nodes .lived in
+    let life = upTo (lives n) before in
     let told : (packet : List ℕ) → GenuinePacket (length stakes) honest (castBy stakes genesis honest fed) packet → GenuinePacket (length stakes) honest (toldBallot lives) packet =
     packet-more (length stakes) honest (castBy stakes genesis honest fed) (toldBallot lives) (cast-told stakes genesis honest lives all)
-    in (
-      (λ n h before later e buffer after kind s b size written small w x.
-          let on = certificate-on stakes n (genesis n) (upTo (lives n) before) (lived-before stakes n (genesis n) (lives n) (all n h) before later e) (length buffer) kind s b in
-          let f = sym (w .answered) ∙ x in
-          subst (GenuinePacket (length stakes) honest (toldBallot lives))
-          (sym (front size w (certificate-length (leftBy (upTo (lives n) before)) (length buffer) kind s b size f) ∙ ap (λ (y : Wrote). y .bytes) on))
-          (told _ (written-certificate-genuine stakes genesis honest fed r n h (arrivalsOf before) (arrivalsOf later) (ap arrivalsOf e ∙ arrivals-split before later) (length buffer) (kindIn (length stakes) kind) s b size small
-          (ap (λ (y : Wrote). y .answer) (sym on) ∙ f)))),
-      (λ n h before later e buffer after s b size written small w x.
-          let on = proof-on stakes n (genesis n) (upTo (lives n) before) (lived-before stakes n (genesis n) (lives n) (all n h) before later e) (length buffer) s b in
-          let f = sym (w .answered) ∙ x in
-          subst (GenuinePacket (length stakes) honest (toldBallot lives))
-          (sym (front size w (proof-length (leftBy (upTo (lives n) before)) (length buffer) s b size f) ∙ ap (λ (y : Wrote). y .bytes) on))
-          (told _ (written-proof-genuine stakes genesis honest fed r n h (arrivalsOf before) (arrivalsOf later) (ap arrivalsOf e ∙ arrivals-split before later) (length buffer) s b size small
-          (ap (λ (y : Wrote). y .answer) (sym on) ∙ f)))),
+    in
+    let g = laid-genuine stakes n (genesis n) life (begun stakes n (genesis n) life (lived-before stakes n (genesis n) (lives n) (all n h) before later e)) honest (castBy stakes genesis honest fed)
+    (in-table stakes genesis honest fed r) (node-holds stakes genesis honest fed r n h (arrivalsOf before) (arrivalsOf later) (ap arrivalsOf e ∙ arrivals-split before later)) in (
+      (λ buffer after kind s b size written small w x. told _ (g .0 buffer after kind s b size written small w x)),
+      (λ buffer after s b size written small w x. told _ (g .1 buffer after s b size written small w x)),
     )

@@ -8,3 +8,5 @@ pub mod Received
 pub mod Grounded
 pub mod Fallbacks
 pub mod Cards
+pub mod Watchers
+pub mod Following

@@ -14,6 +14,7 @@ use Rattle.rulebook.specs.declared.Refusal.{Refusal}
 use Rattle.rulebook.specs.declared.Refusal.the-variants as refusal
 use Rattle.rulebook.specs.declared.StartAnswer.the-variants as start
 use Rattle.rulebook.specs.declared.StepAnswer.{StepAnswer}
+use Rattle.rulebook.specs.declared.StepAnswer.the-variants as answers
 use Rattle.rulebook.specs.declared.Vote.{Vote}
 use Rattle.rulebook.specs.declared.Verdict.{Verdict}
 use Rattle.rulebook.specs.declared.Verdict.the-variants.{Fine, Refused}
@@ -22,9 +23,10 @@ use Rattle.rulebook.specs.PaperNumbers.{kindIn}
 use Rattle.rulebook.specs.Weights.{placesFor}
 use Rattle.rulebook.specs.Ledger.{Ledger, certificatesAt, fresh}
 use Rattle.rulebook.specs.Rules.{Record, State}
-use Rattle.rulebook.specs.Inputs.{Fed, startVerdict, verdict, fedWith, refusedWith, fedOn, feed}
+use Rattle.rulebook.specs.Inputs.{Fed, refuseIf, startVerdict, watchVerdict, verdict, fedWith, refusedWith, fedOn, feed}
 use Rattle.rulebook.specs.Taking.{keptVerdict, takenOn, taken, Arrival, ofInput, ofPacket, served}
 use Rattle.rulebook.specs.WellFormed.{wellFormed, outboxWords, step, takeCertificate}
+use Rattle.rulebook.specs.Tools.{given}
 use Rattle.rulebook.proofs.ToolLaws.{given-on, given-off, by-test}
 use Rattle.rulebook.proofs.RuleLaws.{refuse-fine}
 use Rattle.rulebook.proofs.AcceptedLaws.{packet-cases}
@@ -32,11 +34,11 @@ use Rattle.settling.specs.Facts.{Sound}
 use Rattle.settling.specs.Steps as settle
 use Rattle.settling.proofs.FeedLaws.{step-short, step-fed, take-short, take-on}
 use Rattle.settling.proofs.Soundness.{served-sound}
-use Rattle.settling.proofs.Start.{fresh-sound}
+use Rattle.settling.proofs.Start.{fresh-sound, watching-sound}
 use Rattle.record.specs.Layout.{recordWords, ledgerOf}
 use Rattle.record.specs.Spelling.{wordsOf}
 use Rattle.soundness.specs.Sound.{soundWords}
-use Rattle.soundness.specs.Starting.{startJudged, startAnswer, startLeft}
+use Rattle.soundness.specs.Starting.{startJudged, watchJudged, startAnswer, startLeft}
 use Rattle.soundness.proofs.Laws.{words-spelled, sound-formed, sound-ledger}
 use Rattle.soundness.proofs.InStep.{spelled-sound, spelled-back}
 use Rattle.node.specs.Stepping.{spelled, asFed, Leaves, stepLeaves, StepOf}
@@ -47,8 +49,10 @@ use Rattle.trays.specs.Lent as trays
 use Rattle.trays.proofs.Theorems.{serve-life, serve-sound}
 use Rattle.safety.specs.Ballots.{sameRecord, among}
 use Rattle.safety.specs.Ring.{afterAll, madeIn}
-use Rattle.safety.proofs.Lives.{life-on}
-use Rattle.histories.specs.Calls.{Operation, oneInput, aTray, aPacket, Call, Meets, Calls, noMore, called, lastOf, oneWith, fedBy, arrivalsOf, firstRecords, toldIn, toldBy, allTold, Life, Lived}
+use Rattle.safety.proofs.Lives.{life-on, Sized, start-sized, watch-sized}
+use Rattle.watchers.specs.Watching.{asVotes, passedOn, isDone, shownOf, shown}
+use Rattle.histories.specs.Watchers.{shownOne, shownWith}
+use Rattle.histories.specs.Calls.{Operation, oneInput, aTray, aPacket, Call, Meets, Calls, noMore, called, lastOf, oneWith, fedBy, arrivalsOf, firstRecords, toldIn, toldBy, allTold, Life, Lived, Watched}
 
 -- ---- records among others
 
@@ -194,6 +198,18 @@ module _ (ws lent : List ℕ) (i : Arrival) (answer : StepAnswer) (ws' left : Li
       (λ t. subst (λ (is : List Arrival). Did ws is answer ws' left) (sym (given-on _ _ _ t)) (served-all (leb-true outboxWords (length lent) t)))
       (λ t. subst (λ (is : List Arrival). Did ws is answer ws' left) (sym (given-off _ _ _ t)) (served-none (leb-false outboxWords (length lent) t)))
 
+  -- What a watcher is shown of it.
+  one-shown : shownOne (ledgerOf ws .own) i answer left ≡ shown (ledgerOf ws) (oneWith i lent)
+  unfolding oneWith shownOne shown shownOf isDone refusedWith
+  one-shown =
+      by-test (leb outboxWords (length lent))
+      (λ t. let d = call-served (leb-true outboxWords (length lent) t) in
+      (λ j. given (isDone (d .answered j)) [] (λ _. passedOn i ++ asVotes (ledgerOf ws .own) (d .told j)))
+      ∙ sym (append-nil _) ∙ ap (shown (ledgerOf ws)) (sym (given-on _ _ _ t)))
+      (λ t. let b : answer ≡ answers.Refused refusal.NoRoom = a ∙ ap (λ (x : Leaves). x .answer) (one .short (leb-false outboxWords (length lent) t)) in
+      ap (λ (x : StepAnswer). given (isDone x) [] (λ _. passedOn i ++ asVotes (ledgerOf ws .own) (toldIn x left))) b
+      ∙ given-off false [] _ refl ∙ ap (shown (ledgerOf ws)) (sym (given-off _ _ _ t)))
+
 -- A step's input with room in the outbox.
 pub step-served : (ws lent : List ℕ) (i : Input) (answer : StepAnswer) (ws' left : List ℕ) → soundWords ws ≡ true → StepOf ws lent i answer ws' left
     → outboxWords ≤ length lent → CallServed ws (ofInput i) answer ws' left
@@ -253,7 +269,7 @@ module _ (ws lent votes places : List ℕ) (answer : StepAnswer) (ws' left answe
       (tray-none refusal.NoRoom (given-on _ _ _ formed ∙ given-off _ _ _ t)))
 
 -- A call of any operation.
-call-did : (ws lent : List ℕ) (o : Operation) (answer : StepAnswer) (ws' left : List ℕ) → soundWords ws ≡ true → Meets o ws lent answer ws' left
+pub call-did : (ws lent : List ℕ) (o : Operation) (answer : StepAnswer) (ws' left : List ℕ) → soundWords ws ≡ true → Meets o ws lent answer ws' left
     → Did ws (fedBy o lent) answer ws' left
 unfolding fedBy
 call-did ws lent (oneInput i) answer ws' left e s =
@@ -261,6 +277,15 @@ call-did ws lent (oneInput i) answer ws' left e s =
 call-did ws lent (aTray votes places answers) answer ws' left e s = tray-did ws lent votes places answer ws' left answers e s
 call-did ws lent (aPacket packet) answer ws' left e s =
     one-did ws lent (ofPacket packet) answer ws' left e (takeLeaves ws lent packet) (take-leaves ws lent e packet) (s .answered) (s .words) (s .outbox)
+
+pub call-shown : (ws lent : List ℕ) (o : Operation) (answer : StepAnswer) (ws' left : List ℕ) → soundWords ws ≡ true → Meets o ws lent answer ws' left
+    → shownWith (ledgerOf ws .own) ws o lent answer left ≡ shown (ledgerOf ws) (fedBy o lent)
+unfolding fedBy shownWith
+call-shown ws lent (oneInput i) answer ws' left e s =
+    one-shown ws lent (ofInput i) answer ws' left e (stepLeaves ws lent i) (step-leaves ws lent e i) (s .answered) (s .words) (s .outbox)
+call-shown ws lent (aTray votes places answers) answer ws' left e s = refl
+call-shown ws lent (aPacket packet) answer ws' left e s =
+    one-shown ws lent (ofPacket packet) answer ws' left e (takeLeaves ws lent packet) (take-leaves ws lent e packet) (s .answered) (s .words) (s .outbox)
 
 -- ---- many calls
 
@@ -271,7 +296,7 @@ life-both l (i ∷ is) js =
     ap (λ (rs : List Record). served l i .records ++ rs) (life-both (served l i .ledger) is js)
     ∙ sym (append-assoc (served l i .records) (settle.life (served l i .ledger) is) (settle.life (afterAll (served l i .ledger) is) js))
 
-told-among : (cs : List Call) (r : Record) → toldBy cs r ≡ among (allTold cs) r
+pub told-among : (cs : List Call) (r : Record) → toldBy cs r ≡ among (allTold cs) r
 unfolding toldBy allTold
 told-among [] r = refl
 told-among (c ∷ cs) r =
@@ -306,24 +331,52 @@ all-done ws (c ∷ cs) e (called s k) =
 
 -- ---- a life
 
+-- A history of calls from the words of a fresh node, or of a fresh watcher.
+pub record Begun (stakes : List ℕ) (own genesis : ℕ) (life : Life) : Type 0 where
+  pub size : Sized stakes own
+  pub fine : Sound (fresh stakes own genesis)
+  pub words : life .words ≡ wordsOf (fresh stakes own genesis)
+  pub steps : Calls (life .words) (life .calls)
+
+module _ (stakes : List ℕ) (own genesis : ℕ) (life : Life) (h : Begun stakes own genesis life) where
+  pub begun-back : ledgerOf (life .words) ≡ fresh stakes own genesis
+  begun-back = ap ledgerOf (h .words) ∙ spelled-back (fresh stakes own genesis) (h .fine)
+
+  pub begun-words : soundWords (life .words) ≡ true
+  begun-words = ap soundWords (h .words) ∙ spelled-sound (fresh stakes own genesis) (h .fine)
+
+  -- It is a life of the safety theorem.
+  pub begun-did : DidAll (fresh stakes own genesis) (life .words) (life .calls)
+  begun-did = subst (λ (m : Ledger). DidAll m (life .words) (life .calls)) begun-back (all-done (life .words) (life .calls) begun-words (h .steps))
+
+-- A start that was accepted passed its tests, and left the fresh ledger's words.
+accepted-start : (found stakes words : List ℕ) (own genesis : ℕ) (v judged : Verdict)
+    → refuseIf (not (eqb (length found) (recordWords (placesFor (length stakes))))) refusal.BadRecord v ≡ judged → start.Started ≡ startAnswer judged → words ≡ startLeft judged found stakes own genesis
+    → (v ≡ Fine) × (words ≡ wordsOf (fresh stakes own genesis))
+unfolding startAnswer startLeft
+accepted-start found stakes words own genesis v Fine e a w =
+    (refuse-fine (not (eqb (length found) (recordWords (placesFor (length stakes))))) refusal.BadRecord v e .1, w)
+accepted-start found stakes words own genesis v (Refused r) e a w = let z : _≡_ {A = ℕ} 0 1 = cc in absurd (omega arith)
+
 module _ (stakes : List ℕ) (own genesis : ℕ) (life : Life) (h : Lived stakes own genesis life) where
   -- The start was accepted, and left the fresh ledger's words.
   pub started : (startVerdict stakes own genesis ≡ Fine) × (life .words ≡ wordsOf (fresh stakes own genesis))
-  unfolding startAnswer startLeft startJudged
-  started = go (startJudged (life .found) stakes own genesis) refl
-    where
-      go : (v : Verdict) → startJudged (life .found) stakes own genesis ≡ v → (startVerdict stakes own genesis ≡ Fine) × (life .words ≡ wordsOf (fresh stakes own genesis))
-      go Fine e =
-          let f = refuse-fine (not (eqb (length (life .found)) (recordWords (placesFor (length stakes))))) refusal.BadRecord (startVerdict stakes own genesis) e in
-          (f .1, h .start .words ∙ ap (λ (v : Verdict). startLeft v (life .found) stakes own genesis) e)
-      go (Refused r) e =
-          let q : start.Started ≡ start.Refused r = h .start .answered ∙ ap startAnswer e in
-          let z : _≡_ {A = ℕ} 0 1 = cc in
-          absurd (omega arith)
+  unfolding startJudged
+  started =
+      accepted-start (life .found) stakes (life .words) own genesis (startVerdict stakes own genesis) (startJudged (life .found) stakes own genesis) refl (h .start .answered) (h .start .words)
 
-  -- The history is a life of the safety theorem.
+  pub begun : Begun stakes own genesis life
+  begun = record { size = start-sized stakes own genesis (started .0); fine = fresh-sound stakes own genesis (started .0); words = started .1; steps = h .steps }
+
   pub lived : DidAll (fresh stakes own genesis) (life .words) (life .calls)
-  lived =
-      let f : Sound (fresh stakes own genesis) = fresh-sound stakes own genesis (started .0) in
-      subst (λ (l : Ledger). DidAll l (life .words) (life .calls)) (ap ledgerOf (started .1) ∙ spelled-back (fresh stakes own genesis) f)
-      (all-done (life .words) (life .calls) (ap soundWords (started .1) ∙ spelled-sound (fresh stakes own genesis) f) (h .steps))
+  lived = begun-did stakes own genesis life begun
+
+-- A watcher's likewise.
+module _ (stakes : List ℕ) (genesis : ℕ) (life : Life) (h : Watched stakes genesis life) where
+  pub watching : (watchVerdict stakes genesis ≡ Fine) × (life .words ≡ wordsOf (fresh stakes (length stakes) genesis))
+  unfolding watchJudged
+  watching =
+      accepted-start (life .found) stakes (life .words) (length stakes) genesis (watchVerdict stakes genesis) (watchJudged (life .found) stakes genesis) refl (h .start .answered) (h .start .words)
+
+  pub watch-begun : Begun stakes (length stakes) genesis life
+  watch-begun = record { size = watch-sized stakes genesis (watching .0); fine = watching-sound stakes genesis (watching .0); words = watching .1; steps = h .steps }

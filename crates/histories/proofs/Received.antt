@@ -32,7 +32,7 @@ use Rattle.safety.proofs.Written.{stakes-are}
 use Rattle.histories.specs.Calls.{arrivalsOf, Lived, leftBy}
 use Rattle.histories.specs.Ring.{upTo}
 use Rattle.histories.specs.Received.{CodeNeverEight, Welcome, CodeWrittenTaken}
-use Rattle.histories.proofs.Lives.{started, lived}
+use Rattle.histories.proofs.Lives.{begun, lived}
 use Rattle.histories.proofs.Demand.{genuine, ring-of-calls, code-certificate-accepted}
 use Rattle.histories.proofs.Honest.{lived-before, arrivals-split, code-written-genuine}
 
@@ -77,11 +77,11 @@ code-written-taken stakes genesis honest lives ring n m h h′ before later e be
     let d = lived stakes m (genesis m) (upTo (lives m) before′) life in
     let ws = leftBy (upTo (lives m) before′) in
     let l : Ledger = ledgerOf ws in
-    let table : tableOf l ≡ stakes = ap tableOf (d .ledger) ∙ stakes-are stakes m (genesis m) (started stakes m (genesis m) (upTo (lives m) before′) life .0) (arrivalsOf before′) in
+    let table : tableOf l ≡ stakes = ap tableOf (d .ledger) ∙ stakes-are stakes m (genesis m) (begun stakes m (genesis m) (upTo (lives m) before′) life .size) (arrivalsOf before′) in
     let a = code-certificate-accepted stakes n (genesis n) (upTo (lives n) before) (lived-before stakes n (genesis n) (lives n) (all n h) before later e)
     buffer after kind s b size written (checkCertificate stakes packet) small w x refl in
     welcome l packet (a .what) answer (ap (λ (ts : List ℕ). checkCertificate ts packet) table ∙ a .accepted)
     (take-answers ws lent packet answer words left (d .sound) t
     ∙ ap (λ (f : Fed). f .answer) (take-on l packet (length lent) (sound-formed ws (d .sound)) room))
     (code-never-eight stakes genesis honest lives ring m h′ before′ later′ e′ lent packet answer words left
-    (code-written-genuine stakes genesis honest lives ring .0 n h before later e buffer after kind s b size written small w x) t)
+    (code-written-genuine stakes genesis honest lives ring n h before later e .0 buffer after kind s b size written small w x) t)

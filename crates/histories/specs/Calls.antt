@@ -1,5 +1,5 @@
--- A node's life as a host sees it: a start, and then calls of the public step, of the tray and of the taking of certificates in any mixture, each
--- known by its contract alone.
+-- A node's life as a host sees it, or a watcher's: a start, and then calls of the public step, of the tray and of the taking of certificates in any
+-- mixture, each known by its contract alone.
 use mathlib.Core.Bool.{Bool, false, _&&_, _||_}
 use mathlib.Core.List.{List, [], _∷_, _++_, map}
 use Prim.Native.Nat.{ℕ, zero, suc, _%_}
@@ -14,7 +14,7 @@ use Rattle.rulebook.specs.Tools.{given}
 use Rattle.rulebook.specs.Rules.{Record, recordOf}
 use Rattle.rulebook.specs.Taking.{Arrival, ofInput, ofPacket}
 use Rattle.rulebook.specs.WellFormed.{outboxWords}
-use Rattle.soundness.specs.Starting.{StartOf}
+use Rattle.soundness.specs.Starting.{StartOf, WatchOf}
 use Rattle.node.specs.Stepping.{StepOf}
 use Rattle.taking.specs.Taking.{TakeOf}
 use Rattle.trays.specs.Trays.{votesIn, wholeVotes}
@@ -107,4 +107,9 @@ leftBy l = lastOf (l .words) (l .calls)
 -- It was started with this table under its own number, the start was accepted, and every call was as the contract has it.
 pub record Lived (stakes : List ℕ) (own genesis : ℕ) (l : Life) : Type 0 where
   pub start : StartOf (l .found) stakes own genesis Started (l .words)
+  pub steps : Calls (l .words) (l .calls)
+
+-- A watcher's life: it was started as one with this table, the start was accepted, and every call was as the contract has it.
+pub record Watched (stakes : List ℕ) (genesis : ℕ) (l : Life) : Type 0 where
+  pub start : WatchOf (l .found) stakes genesis Started (l .words)
   pub steps : Calls (l .words) (l .calls)

@@ -109,49 +109,54 @@ CodeRingMet =
     (stakes : List ℕ) (genesis : ℕ → ℕ) (honest : Test) (fed : ℕ → List Arrival) → Ring stakes genesis honest fed
     → (lives : ℕ → Life) × CodeRing stakes genesis honest lives × ((n : ℕ) → arrivalsOf (lives n .calls) ≡ fed n)
 
--- Whatever bytes the certificate writer's contract lets stand at a buffer's front, on the words that a node's calls left, at any moment, from
--- stored votes or from kept masks: every answer that the checker's contract allows to them, with the table of the node's start, accepts them as
--- what was asked for. Blocks are 64-bit numbers. Nothing is asked of other nodes.
+-- ---- what the writers lay down
+
+module _ (stakes : List ℕ) (life : Life) where
+  -- Whatever bytes the certificate writer's contract lets stand at a buffer's front, on the words that the calls left, from stored votes or from
+  -- kept masks: every answer that the checker's contract allows to them, with this table, accepts them as what was asked for. Blocks are 64-bit
+  -- numbers.
+  abbrev pub CertificateAccepted : Type 0
+  CertificateAccepted =
+      (buffer after : List ℕ) (kind s b n : ℕ) (written : WriteAnswer) (answer : CheckAnswer) → b < 2 ^ 64
+      → Writes (certificateOn (leftBy life) (length buffer) kind s b) buffer written after → written ≡ write.Written n
+      → answer ≡ checkCertificate stakes (take n after) → AcceptedAs answer (kindIn (length stakes) kind) s b
+
+  -- Likewise the proof writer's.
+  abbrev pub ProofAccepted : Type 0
+  ProofAccepted =
+      (buffer after : List ℕ) (s b n : ℕ) (written : WriteAnswer) (answer : CheckAnswer) → b < 2 ^ 64
+      → Writes (proofOn (leftBy life) (length buffer) s b) buffer written after → written ≡ write.Written n
+      → answer ≡ checkProof stakes (take n after) → (k : CertificateKind) × AcceptedAs answer k s b
+
+-- At any moment of a node's life, with the table of its start; nothing is asked of other nodes.
 abbrev pub CodeCertificateAccepted : Type 0
-CodeCertificateAccepted =
-    (stakes : List ℕ) (own genesis : ℕ) (life : Life) → Lived stakes own genesis life
-    → (buffer after : List ℕ) (kind s b n : ℕ) (written : WriteAnswer) (answer : CheckAnswer) → b < 2 ^ 64
-    → Writes (certificateOn (leftBy life) (length buffer) kind s b) buffer written after → written ≡ write.Written n
-    → answer ≡ checkCertificate stakes (take n after) → AcceptedAs answer (kindIn (length stakes) kind) s b
+CodeCertificateAccepted = (stakes : List ℕ) (own genesis : ℕ) (life : Life) → Lived stakes own genesis life → CertificateAccepted stakes life
 
--- Likewise the proof writer's.
 abbrev pub CodeProofAccepted : Type 0
-CodeProofAccepted =
-    (stakes : List ℕ) (own genesis : ℕ) (life : Life) → Lived stakes own genesis life
-    → (buffer after : List ℕ) (s b n : ℕ) (written : WriteAnswer) (answer : CheckAnswer) → b < 2 ^ 64
-    → Writes (proofOn (leftBy life) (length buffer) s b) buffer written after → written ≡ write.Written n
-    → answer ≡ checkProof stakes (take n after) → (k : CertificateKind) × AcceptedAs answer k s b
+CodeProofAccepted = (stakes : List ℕ) (own genesis : ℕ) (life : Life) → Lived stakes own genesis life → ProofAccepted stakes life
 
--- ---- what honest nodes write is genuine, so that the promises hold of it with no premise on packets
+module _ (stakes : List ℕ) (honest : Test) (cast : ℕ → ℕ → Ballot → Bool) (life : Life) where
+  -- Whatever the certificate writer's contract lets stand at a buffer's front, on the words that the calls left, is genuine by what was cast.
+  abbrev pub CertificateGenuine : Type 0
+  CertificateGenuine =
+      (buffer after : List ℕ) (kind s b size : ℕ) (written : WriteAnswer) → b < 2 ^ 64
+      → Writes (certificateOn (leftBy life) (length buffer) kind s b) buffer written after → written ≡ write.Written size
+      → GenuinePacket (length stakes) honest cast (take size after)
+
+  -- Likewise the proof writer's.
+  abbrev pub ProofGenuine : Type 0
+  ProofGenuine =
+      (buffer after : List ℕ) (s b size : ℕ) (written : WriteAnswer) → b < 2 ^ 64
+      → Writes (proofOn (leftBy life) (length buffer) s b) buffer written after → written ≡ write.Written size
+      → GenuinePacket (length stakes) honest cast (take size after)
 
 -- A life up to one of its moments: some of its calls are still to come.
 abbrev pub upTo : Life → List Call → Life
 upTo l before = record { found = l .found; words = l .words; calls = before }
 
-module _ (stakes : List ℕ) (genesis : ℕ → ℕ) (honest : Test) (lives : ℕ → Life) where
-  -- Whatever the proof writer's contract lets stand at a buffer's front, at any moment of an honest node's life, from stored votes or from kept
-  -- masks, is genuine.
-  abbrev pub ProofGenuine : Type 0
-  ProofGenuine =
-      (n : ℕ) → T (honest n) → (before later : List Call) → lives n .calls ≡ before ++ later
-      → (buffer after : List ℕ) (s b size : ℕ) (written : WriteAnswer) → b < 2 ^ 64
-      → Writes (proofOn (leftBy (upTo (lives n) before)) (length buffer) s b) buffer written after → written ≡ write.Written size
-      → GenuinePacket (length stakes) honest (toldBallot lives) (take size after)
-
-  -- Likewise the certificate writer's.
-  abbrev pub CertificateGenuine : Type 0
-  CertificateGenuine =
-      (n : ℕ) → T (honest n) → (before later : List Call) → lives n .calls ≡ before ++ later
-      → (buffer after : List ℕ) (kind s b size : ℕ) (written : WriteAnswer) → b < 2 ^ 64
-      → Writes (certificateOn (leftBy (upTo (lives n) before)) (length buffer) kind s b) buffer written after → written ≡ write.Written size
-      → GenuinePacket (length stakes) honest (toldBallot lives) (take size after)
-
+-- What honest nodes write at any moment of their lives is genuine by what was told, so that the promises hold of it with no premise on packets.
 abbrev pub CodeWrittenGenuine : Type 0
 CodeWrittenGenuine =
     (stakes : List ℕ) (genesis : ℕ → ℕ) (honest : Test) (lives : ℕ → Life) → CodeRing stakes genesis honest lives
-    → CertificateGenuine stakes genesis honest lives × ProofGenuine stakes genesis honest lives
+    → (n : ℕ) → T (honest n) → (before later : List Call) → lives n .calls ≡ before ++ later
+    → CertificateGenuine stakes honest (toldBallot lives) (upTo (lives n) before) × ProofGenuine stakes honest (toldBallot lives) (upTo (lives n) before)

@@ -29,12 +29,13 @@ use Rattle.safety.specs.Ballots.{has, recordFor}
 use Rattle.safety.specs.Ring.{broughtBy, HandedBy, Signers, GenuinePacket}
 use Rattle.safety.specs.Promises.{AcceptedAs}
 use Rattle.safety.proofs.Packets.{packet-more}
-use Rattle.histories.specs.Calls.{Life, Lived, leftBy}
+use Rattle.histories.specs.Calls.{Life, leftBy}
 use Rattle.histories.specs.Ring as code
-use Rattle.histories.proofs.Demand.{signers-more, code-safe, code-proofs-agree, code-mail-is-enough, certificate-on, code-certificate-accepted, code-proof-accepted}
+use Rattle.histories.proofs.Demand.{signers-more, code-safe, code-proofs-agree, code-mail-is-enough, certificate-on, laid-accepted}
+use Rattle.histories.proofs.Lives.{Begun, begun}
 use Rattle.answers.specs.Face.{Beside, acceptedValues, Wrote, Checked}
 use Rattle.hosts.specs.Calls.{HostLife, HostLived, wordsLeft}
-use Rattle.hosts.specs.Ring.{toldBallot, countedBallot, keptBy, HostRing, HostSafe, HostProofsAgree, HostMailIsEnough, HostFedSafe, NamedAs, HostCertificateAccepted, HostProofAccepted}
+use Rattle.hosts.specs.Ring.{toldBallot, countedBallot, keptBy, HostRing, HostSafe, HostProofsAgree, HostMailIsEnough, HostFedSafe, NamedAs, CertificateAccepted, ProofAccepted, HostCertificateAccepted, HostProofAccepted}
 use Rattle.hosts.proofs.Lives.{refusal-above, last-is, arrivals-are, told-is, lifeOf, lived-is}
 
 -- ---- the ring
@@ -176,33 +177,38 @@ named count answer number values missing k slot block c a =
     }
 
 -- The words at the end of a life.
-left-is : (life : HostLife) → leftBy (lifeOf life) ≡ wordsLeft life
+pub left-is : (life : HostLife) → leftBy (lifeOf life) ≡ wordsLeft life
 left-is life = last-is (life .words) (life .calls)
 
--- What is written is of a kind.
-kind-written : (stakes : List ℕ) (own genesis : ℕ) (life : Life) → Lived stakes own genesis life → (room kind s b n : ℕ)
-    → certificateOn (leftBy life) room kind s b .answer ≡ write.Written n → isOtherKind (kindIn (length stakes) kind) ≡ false
-unfolding writeCertificate certificateVerdict
-kind-written stakes own genesis life h room kind s b n e =
-    let on = certificate-on stakes own genesis life h room kind s b in
-    let v = wrote-fine _ _ n (ap (λ (w : writer.Wrote). w .answer) (sym on) ∙ e) in
-    refuse-fine _ _ _ (refuse-fine _ _ _ v .1) .0
+-- A node's life, or a watcher's.
+module _ (stakes : List ℕ) (own genesis : ℕ) (life : HostLife) (h : Begun stakes own genesis (lifeOf life)) where
+  -- What is written is of a kind.
+  kind-written : (room kind s b n : ℕ) → certificateOn (leftBy (lifeOf life)) room kind s b .answer ≡ write.Written n → isOtherKind (kindIn (length stakes) kind) ≡ false
+  unfolding writeCertificate certificateVerdict
+  kind-written room kind s b n e =
+      let on = certificate-on stakes own genesis (lifeOf life) h room kind s b in
+      let v = wrote-fine _ _ n (ap (λ (w : writer.Wrote). w .answer) (sym on) ∙ e) in
+      refuse-fine _ _ _ (refuse-fine _ _ _ v .1) .0
+
+  pub life-accepted : CertificateAccepted stakes life × ProofAccepted stakes life
+  life-accepted =
+      let ws = leftBy (lifeOf life) in
+      let good = laid-accepted stakes own genesis (lifeOf life) h in (
+        (λ buffer after values kind slot block written number missing small w c.
+            let on = certificateOn ws (length buffer) kind slot block in
+            let z = zero-written on buffer after written (subst (λ (x : List ℕ). Wrote (certificateOn x (length buffer) kind slot block) buffer 0 written after) (sym (left-is life)) w) in
+            let a = good .0 buffer after kind slot block written (on .answer) (checkCertificate stakes (take written after)) small (z .0) (z .1) refl in
+            subst (λ (x : ℕ). NamedAs number values x slot block) (number-back (length stakes) kind (kind-written (length buffer) kind slot block written (z .1)))
+            (named (length stakes) (checkCertificate stakes (take written after)) number values missing (kindIn (length stakes) kind) slot block c a)),
+        (λ buffer after values slot block written number missing small w c.
+            let on = proofOn ws (length buffer) slot block in
+            let z = zero-written on buffer after written (subst (λ (x : List ℕ). Wrote (proofOn x (length buffer) slot block) buffer 0 written after) (sym (left-is life)) w) in
+            let a = good .1 buffer after slot block written (on .answer) (checkProof stakes (take written after)) small (z .0) (z .1) refl in
+            (numberIn (length stakes) (a .0), named (length stakes) (checkProof stakes (take written after)) number values missing (a .0) slot block c (a .1))),
+      )
 
 pub host-certificate-accepted : HostCertificateAccepted
-host-certificate-accepted stakes own genesis life h buffer after values kind slot block written number missing small w c =
-    let ws = leftBy (lifeOf life) in
-    let on = certificateOn ws (length buffer) kind slot block in
-    let lived = lived-is stakes own genesis life h in
-    let z = zero-written on buffer after written (subst (λ (x : List ℕ). Wrote (certificateOn x (length buffer) kind slot block) buffer 0 written after) (sym (left-is life)) w) in
-    let a = code-certificate-accepted stakes own genesis (lifeOf life) lived buffer after kind slot block written (on .answer) (checkCertificate stakes (take written after)) small (z .0) (z .1) refl in
-    subst (λ (x : ℕ). NamedAs number values x slot block)
-    (number-back (length stakes) kind (kind-written stakes own genesis (lifeOf life) lived (length buffer) kind slot block written (z .1)))
-    (named (length stakes) (checkCertificate stakes (take written after)) number values missing (kindIn (length stakes) kind) slot block c a)
+host-certificate-accepted stakes own genesis life h = life-accepted stakes own genesis life (begun stakes own genesis (lifeOf life) (lived-is stakes own genesis life h)) .0
 
 pub host-proof-accepted : HostProofAccepted
-host-proof-accepted stakes own genesis life h buffer after values slot block written number missing small w c =
-    let ws = leftBy (lifeOf life) in
-    let on = proofOn ws (length buffer) slot block in
-    let z = zero-written on buffer after written (subst (λ (x : List ℕ). Wrote (proofOn x (length buffer) slot block) buffer 0 written after) (sym (left-is life)) w) in
-    let a = code-proof-accepted stakes own genesis (lifeOf life) (lived-is stakes own genesis life h) buffer after slot block written (on .answer) (checkProof stakes (take written after)) small (z .0) (z .1) refl in
-    (numberIn (length stakes) (a .0), named (length stakes) (checkProof stakes (take written after)) number values missing (a .0) slot block c (a .1))
+host-proof-accepted stakes own genesis life h = life-accepted stakes own genesis life (begun stakes own genesis (lifeOf life) (lived-is stakes own genesis life h)) .1

@@ -7,3 +7,5 @@ pub mod Honest
 pub mod Received
 pub mod Fallbacks
 pub mod Cards
+pub mod Watchers
+pub mod Following

@@ -13,15 +13,15 @@ use Rattle.rulebook.specs.declared.StepAnswer.the-variants.{Done, Refused}
 use Rattle.rulebook.specs.PaperNumbers.{refusalNumber, startPanel, stepPanel}
 use Rattle.rulebook.specs.Rules.{Record}
 use Rattle.rulebook.specs.Taking.{Arrival}
-use Rattle.soundness.specs.Starting.{startJudged, startAnswer}
+use Rattle.soundness.specs.Starting.{startJudged, watchJudged, startAnswer}
 use Rattle.node.specs.Stepping.{stepLeaves}
 use Rattle.taking.specs.Taking.{takeLeaves}
 use Rattle.trays.specs.Lent.{trayLeaves}
 use Rattle.safety.specs.Ballots.{among}
 use Rattle.histories.specs.Calls as code
-use Rattle.histories.specs.Calls.{Call, Meets, Calls, Life, Lived, lastOf, fedBy, arrivalsOf, firstRecords, toldIn, toldBy, allTold}
+use Rattle.histories.specs.Calls.{Call, Meets, Calls, Life, Lived, Watched, lastOf, fedBy, arrivalsOf, firstRecords, toldIn, toldBy, allTold}
 use Rattle.answers.specs.Face.{Beside}
-use Rattle.hosts.specs.Calls.{inputFor, Function, asks, qr-tray, qr-take, operationFor, HostMeets, HostCall, HostCalls, noMore, called, lastWords, arrivalsIn, toldOut, allOut, HostLife, HostLived, HostCallIsCall, StartedIsStart}
+use Rattle.hosts.specs.Calls.{inputFor, Function, asks, qr-tray, qr-take, operationFor, HostMeets, HostCall, HostCalls, noMore, called, lastWords, arrivalsIn, toldOut, allOut, HostLife, HostLived, HostWatched, HostCallIsCall, StartedIsStart}
 
 -- No refusal's number is 0.
 pub refusal-above : {X : Type 0} (r : Refusal) → refusalNumber r ≡ 0 → X
@@ -68,7 +68,7 @@ module _ (number made : ℕ) where
   made-told (Refused r) left b = let q : 0 ≡ made = cc in ap (λ (k : ℕ). firstRecords k left) q
 
 -- What the operation answers on these words.
-pub answerOf : Function → List ℕ → List ℕ → StepAnswer
+unfoldable pub answerOf : Function → List ℕ → List ℕ → StepAnswer
 answerOf (asks a) ws out = stepLeaves ws out (inputFor a) .answer
 answerOf (qr-tray votes places answers) ws out = trayLeaves ws out votes places .answer
 answerOf (qr-take packet) ws out = takeLeaves ws out packet .answer
@@ -118,7 +118,7 @@ started-is-start ws stakes own genesis number left s = (
 -- ---- many calls
 
 -- Each call as one of the public operation, on the words that it found, with the answer that its contract has.
-pub callOf : List ℕ → HostCall → Call
+unfoldable pub callOf : List ℕ → HostCall → Call
 callOf ws c =
     record {
       operation = operationFor (c .function);
@@ -128,12 +128,12 @@ callOf ws c =
       left = c .left;
     }
 
-pub callsOf : List ℕ → List HostCall → List Call
+unfoldable pub callsOf : List ℕ → List HostCall → List Call
 callsOf ws [] = []
 callsOf ws (c ∷ cs) = callOf ws c ∷ callsOf (c .words) cs
 
 -- The contract and what is told, of one function's call.
-call-meets : (f : Function) (ws out : List ℕ) (number made : ℕ) (ws' left : List ℕ) → HostMeets f ws out number made ws' left
+pub call-meets : (f : Function) (ws out : List ℕ) (number made : ℕ) (ws' left : List ℕ) → HostMeets f ws out number made ws' left
     → Meets (operationFor f) ws out (answerOf f ws out) ws' left × (toldIn (answerOf f ws out) left ≡ firstRecords made left)
 unfolding host-call-is-call
 call-meets (asks a) ws out number made ws' left s =
@@ -189,5 +189,12 @@ pub lived-is : (stakes : List ℕ) (own genesis : ℕ) (l : HostLife) → HostLi
 lived-is stakes own genesis l h =
     record {
       start = started-is-start (l .found) stakes own genesis 0 (l .words) (h .start) .0 refl;
+      steps = calls-meet (l .words) (l .calls) (h .steps);
+    }
+
+pub watched-is : (stakes : List ℕ) (genesis : ℕ) (l : HostLife) → HostWatched stakes genesis l → Watched stakes genesis (lifeOf l)
+watched-is stakes genesis l h =
+    record {
+      start = record { answered = start-zero (startAnswer (watchJudged (l .found) stakes genesis)) 0 (h .start .numbered) refl; words = h .start .words };
       steps = calls-meet (l .words) (l .calls) (h .steps);
     }

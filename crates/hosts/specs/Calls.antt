@@ -1,5 +1,5 @@
--- A node's life as a host in C sees it: qr_start, and calls of qr_vote, qr_block, qr_timeout, qr_look, qr_tray and qr_take, each known by its
--- contract alone.
+-- A node's life as a host in C sees it, or a watcher's: qr_start or qr_watch, and calls of qr_vote, qr_block, qr_timeout, qr_look, qr_tray and
+-- qr_take, each known by its contract alone.
 use mathlib.Core.Path.{_≡_}
 use mathlib.Core.Bool.{Bool, false, _||_}
 use mathlib.Core.List.{List, [], _∷_, _++_}
@@ -15,7 +15,7 @@ use Rattle.soundness.specs.Starting.{StartOf}
 use Rattle.safety.specs.Ballots.{among}
 use Rattle.histories.specs.Calls.{Operation, oneInput, aTray, aPacket, Meets, fedBy, firstRecords, toldIn}
 use Rattle.inputs.specs.Inputs.{voteInput, blockInput, timeoutInput}
-use Rattle.answers.specs.Face.{Started, Stepped, Taken, Trayed}
+use Rattle.answers.specs.Face.{Started, Watched, Stepped, Taken, Trayed}
 
 -- The function that feeds one input, and the numbers that it was given.
 pub data Asked : Type 0 where
@@ -100,6 +100,11 @@ wordsLeft l = lastWords (l .words) (l .calls)
 -- qr_start was given this table and the node's own number and answered 0, and every call was as its contract has it.
 pub record HostLived (stakes : List ℕ) (own genesis : ℕ) (l : HostLife) : Type 0 where
   pub start : Started (l .found) stakes own genesis 0 (l .words)
+  pub steps : HostCalls (l .words) (l .calls)
+
+-- qr_watch was given this table and answered 0, and every call was as its contract has it.
+pub record HostWatched (stakes : List ℕ) (genesis : ℕ) (l : HostLife) : Type 0 where
+  pub start : Watched (l .found) stakes genesis 0 (l .words)
   pub steps : HostCalls (l .words) (l .calls)
 
 -- ---- the C functions are the operations

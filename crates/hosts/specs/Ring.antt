@@ -114,42 +114,46 @@ pub record NamedAs (number : ℕ) (values : List ℕ) (kind slot block : ℕ) : 
   pub weight : ℕ
   pub names : values ≡ kind ∷ slot ∷ block ∷ signers ∷ weight ∷ []
 
--- What qr_write_certificate, answering 0, wrote to the buffer's front on the words that a node's calls left, at any moment, from stored votes or
--- from kept masks, qr_check_certificate accepts with the table of the node's start, and names the kind, slot and block that were asked for. Blocks
--- are 64-bit numbers.
+-- ---- what is written
+
+module _ (stakes : List ℕ) (life : HostLife) where
+  -- What qr_write_certificate, answering 0, wrote to the buffer's front on the words that the calls left, from stored votes or from kept masks,
+  -- qr_check_certificate accepts with this table, and names the kind, slot and block that were asked for. Blocks are 64-bit numbers.
+  abbrev pub CertificateAccepted : Type 0
+  CertificateAccepted =
+      (buffer after values : List ℕ) (kind slot block written number missing : ℕ) → block < 2 ^ 64
+      → Wrote (certificateOn (wordsLeft life) (length buffer) kind slot block) buffer 0 written after
+      → Checked (length stakes) (checkCertificate stakes (take written after)) number values missing → NamedAs number values kind slot block
+
+  -- Likewise qr_write_proof and qr_check_proof.
+  abbrev pub ProofAccepted : Type 0
+  ProofAccepted =
+      (buffer after values : List ℕ) (slot block written number missing : ℕ) → block < 2 ^ 64
+      → Wrote (proofOn (wordsLeft life) (length buffer) slot block) buffer 0 written after
+      → Checked (length stakes) (checkProof stakes (take written after)) number values missing → (kind : ℕ) × NamedAs number values kind slot block
+
+-- At any moment of a node's life, with the table of its start.
 abbrev pub HostCertificateAccepted : Type 0
-HostCertificateAccepted =
-    (stakes : List ℕ) (own genesis : ℕ) (life : HostLife) → HostLived stakes own genesis life
-    → (buffer after values : List ℕ) (kind slot block written number missing : ℕ) → block < 2 ^ 64
-    → Wrote (certificateOn (wordsLeft life) (length buffer) kind slot block) buffer 0 written after
-    → Checked (length stakes) (checkCertificate stakes (take written after)) number values missing → NamedAs number values kind slot block
+HostCertificateAccepted = (stakes : List ℕ) (own genesis : ℕ) (life : HostLife) → HostLived stakes own genesis life → CertificateAccepted stakes life
 
--- Likewise qr_write_proof and qr_check_proof.
 abbrev pub HostProofAccepted : Type 0
-HostProofAccepted =
-    (stakes : List ℕ) (own genesis : ℕ) (life : HostLife) → HostLived stakes own genesis life
-    → (buffer after values : List ℕ) (slot block written number missing : ℕ) → block < 2 ^ 64
-    → Wrote (proofOn (wordsLeft life) (length buffer) slot block) buffer 0 written after
-    → Checked (length stakes) (checkProof stakes (take written after)) number values missing → (kind : ℕ) × NamedAs number values kind slot block
+HostProofAccepted = (stakes : List ℕ) (own genesis : ℕ) (life : HostLife) → HostLived stakes own genesis life → ProofAccepted stakes life
 
--- What qr_write_certificate and qr_write_proof, answering 0, wrote to the buffer's front at any moment of an honest node's life, from stored votes
--- or from kept masks, is genuine, so that the promises hold of it with no premise on packets.
-module _ (stakes : List ℕ) (genesis : ℕ → ℕ) (honest : Test) (lives : ℕ → HostLife) where
+module _ (stakes : List ℕ) (honest : Test) (cast : ℕ → ℕ → Ballot → Bool) (words : List ℕ) where
+  -- What qr_write_certificate and qr_write_proof, answering 0, wrote to the buffer's front on these words is genuine by what was cast.
   abbrev pub CertificateGenuine : Type 0
   CertificateGenuine =
-      (n : ℕ) → T (honest n) → (before later : List HostCall) → lives n .calls ≡ before ++ later
-      → (buffer after : List ℕ) (kind slot block written : ℕ) → block < 2 ^ 64
-      → Wrote (certificateOn (lastWords (lives n .words) before) (length buffer) kind slot block) buffer 0 written after
-      → GenuinePacket (length stakes) honest (toldBallot lives) (take written after)
+      (buffer after : List ℕ) (kind slot block written : ℕ) → block < 2 ^ 64 → Wrote (certificateOn words (length buffer) kind slot block) buffer 0 written after
+      → GenuinePacket (length stakes) honest cast (take written after)
 
   abbrev pub ProofGenuine : Type 0
   ProofGenuine =
-      (n : ℕ) → T (honest n) → (before later : List HostCall) → lives n .calls ≡ before ++ later
-      → (buffer after : List ℕ) (slot block written : ℕ) → block < 2 ^ 64
-      → Wrote (proofOn (lastWords (lives n .words) before) (length buffer) slot block) buffer 0 written after
-      → GenuinePacket (length stakes) honest (toldBallot lives) (take written after)
+      (buffer after : List ℕ) (slot block written : ℕ) → block < 2 ^ 64 → Wrote (proofOn words (length buffer) slot block) buffer 0 written after
+      → GenuinePacket (length stakes) honest cast (take written after)
 
+-- It is at any moment of an honest node's life, so that the promises hold of it with no premise on packets.
 abbrev pub HostWrittenGenuine : Type 0
 HostWrittenGenuine =
     (stakes : List ℕ) (genesis : ℕ → ℕ) (honest : Test) (lives : ℕ → HostLife) → HostRing stakes genesis honest lives
-    → CertificateGenuine stakes genesis honest lives × ProofGenuine stakes genesis honest lives
+    → (n : ℕ) → T (honest n) → (before later : List HostCall) → lives n .calls ≡ before ++ later
+    → CertificateGenuine stakes honest (toldBallot lives) (lastWords (lives n .words) before) × ProofGenuine stakes honest (toldBallot lives) (lastWords (lives n .words) before)

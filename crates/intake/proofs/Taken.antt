@@ -28,8 +28,8 @@ use Rattle.settling.proofs.Verdicts.{vote-fine, block-fine, timeout-fine}
 use Rattle.settling.proofs.Life.{vote-paid, block-paid, timedOut-paid}
 use Rattle.storing.specs.Storing.{Storing}
 use Rattle.voter.specs.Outbox.{recordsIn, stateIn, Moved}
-use Rattle.voter.specs.Voting.{Live, LiveAt, Onward}
-use Rattle.voter.proofs.LiveLaws.{node-then, onward-none}
+use Rattle.voter.specs.Voting.{Live, LiveAt, CastingAt, Onward}
+use Rattle.voter.proofs.LiveLaws.{node-then, votes-on, onward-none}
 use Rattle.intake.specs.Taking.{Taking}
 
 -- A call begins: nothing is told yet.
@@ -115,18 +115,26 @@ module _ {ws out : List ℕ} (s : Slot) (b : Block) (h : Taking ws out (input.Bl
       stored ws' (begin h) long is (block-paid (ledgerOf ws) (h .sound) (s .0) b block-fits) refl
 
 module _ {ws out : List ℕ} (s : Slot) (h : Taking ws out (input.Timeout s)) where
-  pub timeout-live : LiveAt ws out 0 (s .0)
+  pub timeout-casting : CastingAt ws out 0 (s .0)
   unfolding verdict
-  timeout-live =
-      let f = timeout-fine (ledgerOf ws) (s .0) (h .fine) in record { live = begin h; low = f .low; high = f .high }
+  timeout-casting =
+      let f = timeout-fine (ledgerOf ws) (s .0) (h .fine) in
+      record { live = record { live = begin h; low = f .low; high = f .high }; votes = f .votes }
 
-module _ {ws out : List ℕ} (ws' : List ℕ) {s : ℕ} (h : LiveAt ws out 0 s) (long : length ws' ≡ length ws) (is : ledgerOf ws' ≡ putTimedOut (ledgerOf ws) s) where
+module _ {ws out : List ℕ} (ws' : List ℕ) {s : ℕ} (v : CastingAt ws out 0 s) (long : length ws' ≡ length ws) (is : ledgerOf ws' ≡ putTimedOut (ledgerOf ws) s) where
+  abbrev h : LiveAt ws out 0 s
+  h = v .live
+
   out-paid : Paid (ledgerOf ws) (putTimedOut (ledgerOf ws) s) 0
   out-paid = timedOut-paid (ledgerOf ws) (h .live .sound) s (h .low) (h .high)
 
   -- The window of a timed-out slot can be skipped.
-  pub skips-live : LiveAt ws' out 0 s
-  skips-live = record { live = live-stored ws' (h .live) long is out-paid; low = h .low; high = h .high }
+  pub skips-casting : CastingAt ws' out 0 s
+  skips-casting =
+      record {
+        live = record { live = live-stored ws' (h .live) long is out-paid; low = h .low; high = h .high };
+        votes = votes-on (same-as ws' (h .live) long is out-paid) (v .votes);
+      }
 
   pub timed-quiet : noInitial (ownCell (ledgerOf ws) s) ≡ false → Onward ws out 0 ws' out 0 (timeOut (ledgerOf ws) s)
   unfolding timeOut

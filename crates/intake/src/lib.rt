@@ -1,7 +1,7 @@
 // What an accepted input stores in the record, and casts before the rules run.
 ghost use Rattle.rulebook.specs.Inputs.{timeOut, intake};
 ghost use Rattle.record.specs.Layout.{ledgerOf};
-ghost use Rattle.voter.specs.Voting.{LiveAt, Onward};
+ghost use Rattle.voter.specs.Voting.{CastingAt, Onward};
 ghost use Rattle.intake.specs.Taking.{Taking};
 use record::keep_block;
 use record::mark_timed_out;
@@ -14,7 +14,7 @@ use voter::no_initial;
 
 // Takes a timeout: it is kept, and a slot without an own initial vote has its window skipped.
 fn time_out(rec: &mut [u64], outbox: &mut [u64], s: Slot) -> usize
-    requires { ⌜ LiveAt (now rec) (now outbox) 0 (s .0) ⌝ }
+    requires { ⌜ CastingAt (now rec) (now outbox) 0 (s .0) ⌝ }
     ensures { λ r. ⌜ Onward (now (rec .entry)) (now (outbox .entry)) 0 (now (rec .exit)) (now (outbox .exit)) r (timeOut (ledgerOf (now (rec .entry))) (s .0)) ⌝ }
 {
     let idle = no_initial(own_cell(rec, s));

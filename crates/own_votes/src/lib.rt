@@ -1,8 +1,7 @@
 // What the own votes let rules C to E still cast.
 ghost use mathlib.Core.Path.{_≡_};
 ghost use Rattle.rulebook.specs.Rules.{windowOpen, mayFinal, mayFallback, maySkipFallback};
-ghost use Rattle.record.specs.Layout.{ledgerOf};
-ghost use Rattle.own_votes.specs.Windowed.{Windowed};
+ghost use Rattle.record.specs.Layout.{InWindow, ledgerOf};
 use cells::has_fallback;
 use record::own_cell;
 use rulebook::Cell;
@@ -32,7 +31,7 @@ pub fn may_skip_fallback(c: Cell) -> bool
 
 // Whether some slot of the window of s is without an own initial vote.
 pub fn window_open(rec: &[u64], s: Slot) -> bool
-    requires { ⌜ Windowed (now rec) (s .0) ⌝ }
+    requires { ⌜ InWindow (now rec) (s .0) ⌝ }
     ensures { λ r. ⌜ r ≡ windowOpen (ledgerOf (now (rec .entry))) (s .0) ⌝ }
 {
     let first = (s.0 - 1) / 4 * 4 + 1;

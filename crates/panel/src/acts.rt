@@ -17,6 +17,7 @@ use telling::take;
 use telling::timeout;
 use telling::tray;
 use telling::vote;
+use telling::watch;
 
 // Answers a command that tells the node nothing, from as many of the words as are the node's.
 fn ask(page: &mut [u8], c: Command, line: &[u8], at: usize, rec: &[u64]) -> Turn {
@@ -62,6 +63,7 @@ pub fn obey(
     let c = command_of(line);
     match c {
         Command::Start => answered(start(page, line, at, rec)),
+        Command::Watch => answered(watch(page, line, at, rec)),
         Command::Vote => answered(vote(page, line, at, rec, outbox)),
         Command::Block => answered(block(page, line, at, rec, outbox)),
         Command::Timeout => answered(timeout(page, line, at, rec, outbox)),

@@ -12,3 +12,4 @@ pub mod Differs
 pub mod Pieces
 pub mod Cards
 pub mod Certificates
+pub mod Watchers

@@ -58,6 +58,11 @@ refusal-numbered refusal.NotAProof = omega arith
 refusal-numbered refusal.BadRecord = omega arith
 refusal-numbered refusal.NotHeld = omega arith
 
+pub start-done : (a : StartAnswer) → startPanel a .number ≡ 0 → start.Started ≡ a
+unfolding startPanel
+start-done start.Started e = refl
+start-done (start.Refused r) e = absurd (omega (arith, refusal-numbered r))
+
 pub check-accepted : (a : CheckAnswer) → checkNumber a ≡ 0 → (x : Accepted) × (a ≡ check.Accepted x)
 unfolding checkNumber
 check-accepted (check.Accepted x) e = (x, refl)

@@ -7,7 +7,7 @@ use Rattle.rulebook.proofs.RuleLaws.{over-front}
 use Rattle.lines.specs.Answers.{numberLine, startLine, stepLine, trayLine, packetLine, messageLine, checkLine}
 use Rattle.lines.proofs.Putting.{stands-whole}
 use Rattle.trays.specs.Trays.{wholeVotes}
-use Rattle.promises.specs.Printed.{Sends, StartPrinted, StepPrinted, TakePrinted, TrayPrinted, PacketPrinted, MessagePrinted, CheckPrinted}
+use Rattle.promises.specs.Printed.{Sends, StartPrinted, WatchPrinted, StepPrinted, TakePrinted, TrayPrinted, PacketPrinted, MessagePrinted, CheckPrinted}
 
 -- A text in other words is sent as it stands.
 pub sends : (made sent : List ℕ) → made ≡ sent → Sends made sent
@@ -17,6 +17,10 @@ sends made sent e page page' used w h =
 pub start-printed : StartPrinted
 unfolding startLine
 start-printed ws stakes own genesis number left s = sends _ _ (ap numberLine (s .numbered))
+
+pub watch-printed : WatchPrinted
+unfolding startLine
+watch-printed ws stakes genesis number left s = sends _ _ (ap numberLine (s .numbered))
 
 pub step-printed : StepPrinted
 step-printed ws out i number made ws' left s =

@@ -30,7 +30,7 @@ use Rattle.record.specs.Layout.{ledgerOf}
 use Rattle.record.specs.Spelling.{wordsOf, isSpelled}
 use Rattle.record.proofs.Spelled.{spelled-words}
 use Rattle.soundness.specs.Sound.{soundWords}
-use Rattle.soundness.specs.Starting.{startJudged, startAnswer, startLeft}
+use Rattle.soundness.specs.Starting.{startJudged, startAnswer, startLeft, watchJudged}
 use Rattle.node.specs.Stepping.{Leaves, spelled, asFound, asFed, stepLeaves}
 use Rattle.taking.specs.Taking.{takeLeaves}
 use Rattle.trays.specs.Trays.{votesIn, wholeVotes, Served, serve, Tray, trayRefused, trayServed, tray}
@@ -38,7 +38,7 @@ use Rattle.trays.specs.Lent as trays
 use Rattle.trays.specs.Lent.{asServed, trayLeaves}
 use Rattle.writers.specs.Writing.{unsound, kindOn, certificateOn, proofOn}
 use Rattle.answers.specs.Face.{Beside}
-use Rattle.promises.specs.Refusals.{StartRefused, StepRefused, TakeRefused, TrayRefused, CertificateRefused, ProofRefused, MessageRefused, FaceStartRefused, FaceStepRefused, FaceTakeRefused, FaceTrayRefused, FaceCertificateRefused, FaceProofRefused, FaceMessageRefused, FaceCheckRefused}
+use Rattle.promises.specs.Refusals.{StartRefused, WatchRefused, StepRefused, TakeRefused, TrayRefused, CertificateRefused, ProofRefused, MessageRefused, FaceStartRefused, FaceWatchRefused, FaceStepRefused, FaceTakeRefused, FaceTrayRefused, FaceCertificateRefused, FaceProofRefused, FaceMessageRefused, FaceCheckRefused}
 use Rattle.promises.proofs.Numbered.{start-refusal, step-refusal, write-refusal, check-refusal}
 
 -- ---- start
@@ -51,6 +51,10 @@ left-found (Refused x) ws stakes own genesis r e = refl
 pub start-refused : StartRefused
 start-refused ws stakes own genesis r left h =
     h .words ∙ left-found (startJudged ws stakes own genesis) ws stakes own genesis r (sym (h .answered))
+
+pub watch-refused : WatchRefused
+watch-refused ws stakes genesis r left h =
+    h .words ∙ left-found (watchJudged ws stakes genesis) ws stakes (length stakes) genesis r (sym (h .answered))
 
 -- ---- step
 
@@ -199,6 +203,11 @@ pub face-start-refused : FaceStartRefused
 face-start-refused ws stakes own genesis number left h ne =
     let x = start-refusal (startAnswer (startJudged ws stakes own genesis)) (λ e. ne (h .numbered ∙ e)) in
     start-refused ws stakes own genesis (x .0) left (record { answered = sym (x .1); words = h .words })
+
+pub face-watch-refused : FaceWatchRefused
+face-watch-refused ws stakes genesis number left h ne =
+    let x = start-refusal (startAnswer (watchJudged ws stakes genesis)) (λ e. ne (h .numbered ∙ e)) in
+    watch-refused ws stakes genesis (x .0) left (record { answered = sym (x .1); words = h .words })
 
 -- The one value beside a refusal is 0.
 step-none : (a : StepAnswer) (made : ℕ) (r : Refusal) → a ≡ step-answer.Refused r → Beside made (stepPanel a .values) → made ≡ 0

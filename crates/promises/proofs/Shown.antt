@@ -35,14 +35,14 @@ use Rattle.packets.proofs.Table.{table-of-record}
 use Rattle.record.specs.Layout.{ledgerOf}
 use Rattle.record.specs.Spelling.{isSpelled}
 use Rattle.soundness.specs.Sound.{soundWords}
-use Rattle.soundness.specs.Starting.{startJudged, startAnswer}
+use Rattle.soundness.specs.Starting.{startJudged, startAnswer, watchJudged}
 use Rattle.node.specs.Stepping.{asFound, asFed, stepLeaves}
 use Rattle.taking.specs.Taking.{takeLeaves}
 use Rattle.trays.specs.Trays.{votesIn, wholeVotes, serve, Tray, trayRefused, trayServed, tray}
 use Rattle.trays.specs.Lent as trays
 use Rattle.trays.specs.Lent.{trayLeaves}
 use Rattle.writers.specs.Writing.{unsound, kindOn, certificateOn, proofOn}
-use Rattle.promises.specs.Panels.{besideIt, shown, soundFirst, stepJudged, VotePassed, trayJudged, elseThen, wholeThen, nothingAfter, certificateChecked, keptJudged, takeJudged, StartShown, StepShown, TakeShown, TrayShown, PlaceShown, CertificateShown, ProofShown}
+use Rattle.promises.specs.Panels.{besideIt, shown, soundFirst, stepJudged, VotePassed, trayJudged, elseThen, wholeThen, nothingAfter, certificateChecked, keptJudged, takeJudged, StartShown, WatchShown, StepShown, TakeShown, TrayShown, PlaceShown, CertificateShown, ProofShown}
 
 -- ---- start
 
@@ -53,6 +53,9 @@ verdict-started (Refused r) = refl
 
 pub start-shown : StartShown
 start-shown ws stakes own genesis a left h = ap startPanel (h .answered) ∙ verdict-started (startJudged ws stakes own genesis)
+
+pub watch-shown : WatchShown
+watch-shown ws stakes genesis a left h = ap startPanel (h .answered) ∙ verdict-started (watchJudged ws stakes genesis)
 
 -- ---- step
 

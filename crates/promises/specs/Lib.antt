@@ -10,3 +10,4 @@ pub mod Differs
 pub mod Pieces
 pub mod Cards
 pub mod Certificates
+pub mod Watchers

@@ -32,7 +32,7 @@ use Rattle.rulebook.specs.Checker.{signed, signedWeight, judge, checkCertificat
 use Rattle.rulebook.specs.Writers.{certificateFor, certificateVerdict, proofVerdict, proofBytes, Writes}
 use Rattle.record.specs.Layout.{ledgerOf}
 use Rattle.soundness.specs.Sound.{soundWords}
-use Rattle.soundness.specs.Starting.{startJudged, StartOf}
+use Rattle.soundness.specs.Starting.{startJudged, StartOf, watchJudged, WatchOf}
 use Rattle.node.specs.Stepping.{StepOf}
 use Rattle.taking.specs.Taking.{TakeOf}
 use Rattle.trays.specs.Trays.{votesIn, wholeVotes, serve}
@@ -53,6 +53,12 @@ abbrev pub StartShown : Type 0
 StartShown =
     (ws stakes : List ℕ) (own genesis : ℕ) (a : StartAnswer) (left : List ℕ) → StartOf ws stakes own genesis a left
     → startPanel a ≡ shown (startJudged ws stakes own genesis) []
+
+-- A watcher's start likewise.
+abbrev pub WatchShown : Type 0
+WatchShown =
+    (ws stakes : List ℕ) (genesis : ℕ) (a : StartAnswer) (left : List ℕ) → WatchOf ws stakes genesis a left
+    → startPanel a ≡ shown (watchJudged ws stakes genesis) []
 
 -- 17 comes before all that is asked of a record.
 unfoldable pub soundFirst : List ℕ → Verdict → Verdict

@@ -11,12 +11,12 @@ use Rattle.rulebook.specs.PaperNumbers.{startPanel, stepPanel, writePanel, read
 use Rattle.rulebook.specs.Writers as written
 use Rattle.lines.specs.Put.{Put}
 use Rattle.lines.specs.Answers.{numberLine, startLine, stepLine, trayLine, packetLine, messageLine, checkLine}
-use Rattle.soundness.specs.Starting.{startJudged, startAnswer}
+use Rattle.soundness.specs.Starting.{startJudged, startAnswer, watchJudged}
 use Rattle.node.specs.Stepping.{stepLeaves}
 use Rattle.taking.specs.Taking.{takeLeaves}
 use Rattle.trays.specs.Trays.{wholeVotes}
 use Rattle.trays.specs.Lent.{trayLeaves}
-use Rattle.answers.specs.Face.{Started, Stepped, Taken, Trayed, Wrote, MessageRead, Checked}
+use Rattle.answers.specs.Face.{Started, Watched, Stepped, Taken, Trayed, Wrote, MessageRead, Checked}
 
 -- A page in which one text was put, and the other is what is sent of it.
 abbrev pub Sends : List ℕ → List ℕ → Type 0
@@ -27,6 +27,12 @@ abbrev pub StartPrinted : Type 0
 StartPrinted =
     (ws stakes : List ℕ) (own genesis number : ℕ) (left : List ℕ) → Started ws stakes own genesis number left
     → Sends (numberLine number) (startLine (startPanel (startAnswer (startJudged ws stakes own genesis))))
+
+-- watch.
+abbrev pub WatchPrinted : Type 0
+WatchPrinted =
+    (ws stakes : List ℕ) (genesis number : ℕ) (left : List ℕ) → Watched ws stakes genesis number left
+    → Sends (numberLine number) (startLine (startPanel (startAnswer (watchJudged ws stakes genesis))))
 
 -- vote, block, timeout and look: the records stand in the outbox that the step left.
 abbrev pub StepPrinted : Type 0

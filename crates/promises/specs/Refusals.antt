@@ -14,12 +14,12 @@ use Rattle.rulebook.specs.declared.Vote.{Vote}
 use Rattle.rulebook.specs.declared.WriteAnswer.the-variants as write
 use Rattle.rulebook.specs.Writers.{Writes}
 use Rattle.rulebook.specs.Messages.{writeVote}
-use Rattle.soundness.specs.Starting.{StartOf}
+use Rattle.soundness.specs.Starting.{StartOf, WatchOf}
 use Rattle.node.specs.Stepping.{StepOf}
 use Rattle.taking.specs.Taking.{TakeOf}
 use Rattle.trays.specs.Lent.{TrayOf}
 use Rattle.writers.specs.Writing.{certificateOn, proofOn}
-use Rattle.answers.specs.Face.{Started, Stepped, Taken, Trayed, Wrote, Checked}
+use Rattle.answers.specs.Face.{Started, Watched, Stepped, Taken, Trayed, Wrote, Checked}
 
 -- ---- the public operations
 
@@ -27,6 +27,11 @@ use Rattle.answers.specs.Face.{Started, Stepped, Taken, Trayed, Wrote, Checked}
 abbrev pub StartRefused : Type 0
 StartRefused =
     (ws stakes : List ℕ) (own genesis : ℕ) (r : Refusal) (left : List ℕ) → StartOf ws stakes own genesis (start.Refused r) left → left ≡ ws
+
+-- A refused start of a watcher likewise.
+abbrev pub WatchRefused : Type 0
+WatchRefused =
+    (ws stakes : List ℕ) (genesis : ℕ) (r : Refusal) (left : List ℕ) → WatchOf ws stakes genesis (start.Refused r) left → left ≡ ws
 
 -- A refused vote, block, timeout or look leaves the record and the outbox as found.
 abbrev pub StepRefused : Type 0
@@ -68,6 +73,11 @@ MessageRefused =
 abbrev pub FaceStartRefused : Type 0
 FaceStartRefused =
     (ws stakes : List ℕ) (own genesis number : ℕ) (left : List ℕ) → Started ws stakes own genesis number left → ¬ (number ≡ 0) → left ≡ ws
+
+-- qr_watch.
+abbrev pub FaceWatchRefused : Type 0
+FaceWatchRefused =
+    (ws stakes : List ℕ) (genesis number : ℕ) (left : List ℕ) → Watched ws stakes genesis number left → ¬ (number ≡ 0) → left ≡ ws
 
 -- qr_vote, qr_block, qr_timeout, qr_look: 0 records made.
 abbrev pub FaceStepRefused : Type 0

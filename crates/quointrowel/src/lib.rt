@@ -11,7 +11,7 @@ ghost use Rattle.writers.specs.Writing.{certificateOn, proofOn};
 ghost use Rattle.rulebook.specs.declared.Input.the-variants as input;
 ghost use Rattle.cards.specs.Asked.{cardOn};
 ghost use Rattle.pieces.specs.State.{stateWords, frontBytes};
-ghost use Rattle.answers.specs.Face.{voteInput, blockInput, timeoutInput, Started, Stepped, Taken, Trayed, Wrote, MessageRead, CardRead, Checked, Compared, Pieced, Ended};
+ghost use Rattle.answers.specs.Face.{voteInput, blockInput, timeoutInput, Started, Watched, Stepped, Taken, Trayed, Wrote, MessageRead, CardRead, Checked, Compared, Pieced, Ended};
 use answers::bytes_written;
 use answers::card_number;
 use answers::card_values;
@@ -48,6 +48,7 @@ use rulebook::Input;
 use rulebook::Node;
 use rulebook::Slot;
 use soundness::start;
+use soundness::watch;
 use taking::take;
 use trays::tray;
 use writers::write_certificate;
@@ -75,6 +76,14 @@ pub extern "C" fn qr_start(rec: &mut [u64], stakes: &[u64], own: usize, genesis:
     ensures { λ r. ⌜ Started (now (rec .entry)) (now (stakes .entry)) own genesis r (now (rec .exit)) ⌝ }
 {
     start_number(start(rec, stakes, Node(own), genesis))
+}
+
+// Makes the record's words a fresh watcher, a node that has no own number and never votes.
+#[no_mangle]
+pub extern "C" fn qr_watch(rec: &mut [u64], stakes: &[u64], genesis: u64) -> u64
+    ensures { λ r. ⌜ Watched (now (rec .entry)) (now (stakes .entry)) genesis r (now (rec .exit)) ⌝ }
+{
+    start_number(watch(rec, stakes, genesis))
 }
 
 // Gives the node another node's vote.

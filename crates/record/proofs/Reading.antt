@@ -3,7 +3,7 @@ use mathlib.Core.Path.{_≡_, refl, sym, ap, _∙_}
 use mathlib.Core.List.{List}
 use native.Mathlib.Omega.{arith}
 use Prim.Native.Nat.{ℕ, suc, _+_, _≤_, _<_}
-use lib.ListN.{length, getD}
+use lib.ListN.{length, getD, List·getD-eq-default}
 use Rattle.rulebook.specs.Weights.{lastSlot, windows, windowOf, stakeIn}
 use Rattle.rulebook.specs.Ledger.{Row, noRow, noCell, noBlock, noKept, mostBlocks, mostCertificates, blocksAt, certificatesAt, places, rowAt, cellAt}
 use Rattle.rulebook.specs.WellFormed.{Shaped}
@@ -73,6 +73,10 @@ ledger-shaped ws = shaped (placesIn ws) ws
 
 pub cell-read : (ws : List ℕ) (s n i : ℕ) → Placed ws s n → i ≡ cellStart (placesIn ws) s n → cellFrom ws i ≡ cellAt (ledgerOf ws) s n
 cell-read ws s n i h e = ap (cellFrom ws) e ∙ sym (cell-words (placesIn ws) ws s n (h .slot) (node-placed ws n (h .node)))
+
+-- A number past the places has no cell.
+pub cell-past : (ws : List ℕ) (s n : ℕ) → InSlot ws s → places (ledgerOf ws) ≤ n → noCell ≡ cellAt (ledgerOf ws) s n
+cell-past ws s n h b = sym (List·getD-eq-default (rowAt (ledgerOf ws) s .cells) noCell (omega (arith, ledger-shaped ws .cells s (h .slot))))
 
 pub block-read : (ws : List ℕ) (s n i : ℕ) → InBlocks ws s n → i ≡ blockStart (placesIn ws) s n → blockFrom ws i ≡ getD (blocksAt (ledgerOf ws) s) n noBlock
 block-read ws s n i h e = ap (blockFrom ws) e ∙ sym (block-words (placesIn ws) ws s n (h .slot) (h .place))

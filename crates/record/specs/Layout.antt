@@ -221,12 +221,6 @@ pub record InTable (ws : List ℕ) (n : ℕ) : Type 0 where
   pub long : Long ws
   pub node : n < places (ledgerOf ws)
 
--- The words are as many as their places ask for, the slot has a row, and the own number has a cell.
-pub record OwnIn (ws : List ℕ) (s : ℕ) : Type 0 where
-  pub long : Long ws
-  pub slot : s < suc lastSlot
-  pub own : ledgerOf ws .own < places (ledgerOf ws)
-
 -- The words are as many as their places ask for, and all nodes that they count have a place.
 pub record Counted (ws : List ℕ) : Type 0 where
   pub long : Long ws

@@ -5,10 +5,10 @@ ghost use mathlib.Core.Bool.{not};
 ghost use Prim.Native.Nat.{_<_};
 ghost use lib.ListN.{length, getD, set, take, replicate};
 ghost use Rattle.rulebook.specs.Weights.{placesFor, windows, stakeIn};
-ghost use Rattle.rulebook.specs.Ledger.{none, noBlock, places, rowAt, cellAt, ownCell, blocksAt, isArmed, putCell, putCard, putBlocks, putTimedOut, putFinal, putClash, putArmed};
+ghost use Rattle.rulebook.specs.Ledger.{none, noBlock, places, rowAt, cellAt, isWatcher, ownCell, blocksAt, isArmed, putCell, putCard, putBlocks, putTimedOut, putFinal, putClash, putArmed};
 ghost use Rattle.rulebook.specs.Rules.{findBlock};
 ghost use Rattle.rulebook.specs.Inputs.{keepBlock};
-ghost use Rattle.record.specs.Layout.{maskWords, masksOf, rowHead, recordWords, Long, InSlot, InWindow, InTable, InBlocks, InKept, Placed, RowAt, BlockAt, CardAt, KeptAt, CellAt, OwnIn, Counted, ledgerOf};
+ghost use Rattle.record.specs.Layout.{maskWords, masksOf, rowHead, recordWords, Long, InSlot, InWindow, InTable, InBlocks, InKept, Placed, RowAt, BlockAt, CardAt, KeptAt, CellAt, Counted, ledgerOf};
 ghost use Rattle.record.specs.Spelling.{isSpelled};
 ghost use Rattle.record.specs.Setting.{putHead, putStake};
 ghost use Rattle.record.specs.BlockPlaces.{freePlace};
@@ -68,6 +68,17 @@ const PLACE_WORDS: usize = 1 + CELL_WORDS * (LAST_SLOT + 1);
 
 // The words of the least record whose masks are large.
 const LARGE_WORDS: usize = BARE_WORDS + MASK_WORDS * LARGE_MASK + PLACE_WORDS * (SMALL_PLACES + 1);
+
+// A cell without a vote.
+const NO_CELL: Cell = Cell {
+    notar: 0,
+    skip: 0,
+    fallback1: 0,
+    fallback2: 0,
+    fallback3: 0,
+    skipfallback: 0,
+    finalvote: 0,
+};
 
 // How many places for nodes a record has, by the number of stakes.
 pub fn places_for(count: usize) -> usize
@@ -453,12 +464,25 @@ pub fn stakes_of(rec: &[u64]) -> &[u64]
     &rec[STAKE_START..end]
 }
 
-// The own votes in a slot.
+// Whether the node has no own number: the one after the last node's stands for none.
+pub fn is_watcher(rec: &[u64]) -> bool
+    requires { ⌜ Long (now rec) ⌝ }
+    ensures { λ r. ⌜ r ≡ isWatcher (ledgerOf (now (rec .entry))) ⌝ }
+{
+    let n = own(rec);
+    n.0 == count(rec)
+}
+
+// The own votes in a slot: none where the own number has no place, as a watcher's has not.
 pub fn own_cell(rec: &[u64], s: Slot) -> Cell
-    requires { ⌜ OwnIn (now rec) (s .0) ⌝ }
+    requires { ⌜ InSlot (now rec) (s .0) ⌝ }
     ensures { λ r. ⌜ r ≡ ownCell (ledgerOf (now (rec .entry))) (s .0) ⌝ }
 {
-    load_cell(rec, s, own(rec))
+    let n = own(rec);
+    if n.0 < places_in(rec) {
+        return load_cell(rec, s, n);
+    }
+    NO_CELL
 }
 
 // Forgets everything.

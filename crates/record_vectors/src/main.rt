@@ -16,6 +16,7 @@ use script::read_numbers;
 use slices::copy_words;
 use slices::put_word;
 use soundness::start;
+use soundness::watch;
 use writers::write_certificate;
 use writers::write_proof;
 
@@ -247,6 +248,56 @@ fn starts() {
     tell_start(start(&mut most, &stakes, Node(0), 1));
 }
 
+// A watcher's start, likewise.
+fn watched_starts() {
+    let mut two = [0u64; 1251];
+    let mut most = [0u64; 260473];
+    let stakes = [1u64; 2049];
+    say(b"a watcher of two stakes on two places");
+    tell_start(watch(&mut two, &stakes[..2], 1));
+    say(b"a watcher of two stakes and genesis 0 on two places");
+    tell_start(watch(&mut two, &stakes[..2], 0));
+    say(b"a watcher of no stakes and genesis 0 on two places");
+    tell_start(watch(&mut two, &stakes[..0], 0));
+    say(b"a watcher of 2048 stakes on 2048 places");
+    tell_start(watch(&mut most, &stakes[..2048], 1));
+    say(b"a watcher of 2049 stakes on 2048 places");
+    tell_start(watch(&mut most, &stakes, 1));
+}
+
+// A word of an outbox, where it is the kind of one of so many records.
+fn tell_kind(outbox: &[u64], i: usize, many: usize) {
+    if i < outbox.len() {
+        if (i / 3 < many) & (i % 3 == 0) {
+            number(outbox[i]);
+        }
+    }
+}
+
+fn tell_kinds(outbox: &[u64], many: usize) {
+    for i in 0..outbox.len() {
+        tell_kind(outbox, i, many);
+    }
+}
+
+// A look at the record with another own number: its number, and the kinds of what it tells.
+fn look_as(sound: &[u64], own: u64) {
+    let mut rec = [0u64; RECORD_WORDS];
+    let mut outbox = [0u64; 480];
+    copy_words(sound, &mut rec);
+    put_word(&mut rec, 2, own);
+    say(b"a look with own number");
+    number(own);
+    say(b":");
+    let answer = step(&mut rec, &mut outbox, Input::Look);
+    tell_step(answer);
+    match answer {
+        StepAnswer::Done(n) => tell_kinds(&outbox, n),
+        StepAnswer::Refused(_) => {}
+    }
+    end_line();
+}
+
 fn main() {
     let mut sound = [0u64; RECORD_WORDS];
     let mut buffer = io::large_buffer();
@@ -254,6 +305,10 @@ fn main() {
     let got = libc::read(0, &mut buffer);
     let n = io::count(got, &buffer);
     lines(&buffer[..n], &mut sound);
+    look_as(&sound, 0);
+    look_as(&sound, 2);
+    look_as(&sound, 3);
     lengths();
     starts();
+    watched_starts();
 }

@@ -136,7 +136,7 @@ heads =
     let a = odd .armed in
     let w = odd .stakes in
     all (not (headed 0 0 0 1 a []) ∷ not (headed 3 10 0 1 a (w ++ (0 ∷ []))) ∷ not (headed 1 6 0 1 a w) ∷ not (headed 2 9 0 1 a w) ∷ not (headed 2 11 0 1 a w)
-    ∷ not (headed 2 10 2 1 a w) ∷ not (headed 2 10 0 0 a w) ∷ not (headed 2 10 0 1 (set a 0 2) w) ∷ not (headed 2 10 0 1 (set a 1 2) w) ∷ not (headed 2 10 0 1 (set a 2 2) w)
+    ∷ not (headed 2 10 3 1 a w) ∷ not (headed 2 10 0 0 a w) ∷ not (headed 2 10 0 1 (set a 0 2) w) ∷ not (headed 2 10 0 1 (set a 1 2) w) ∷ not (headed 2 10 0 1 (set a 2 2) w)
     ∷ not (headed 2 10 0 1 (set a 3 2) w) ∷ not (headed 2 6 0 1 a (set w 1 0)) ∷ not (headed 2 10 0 1 a (w ++ (1 ∷ []))) ∷ not (headed 2 (2 ^ 48 + 1) 0 1 a (set (set w 0 (2 ^ 48)) 1 1)) ∷ [])
 
 -- A ring of n nodes of stake 1 whose record has p places.

@@ -90,7 +90,11 @@ rowAt l s = getD (l .rows) s noRow
 abbrev pub cellAt : Ledger → ℕ → ℕ → Cell
 cellAt l s n = getD (rowAt l s .cells) n noCell
 
--- The own votes in a slot.
+-- "A watcher has no own number": the number that stands for none is the one after the last node's.
+unfoldable pub isWatcher : Ledger → Bool
+isWatcher l = eqb (l .own) (l .count)
+
+-- The own votes in a slot; a watcher has none, since there is no cell past the last node's.
 abbrev pub ownCell : Ledger → ℕ → Cell
 ownCell l s = cellAt l s (l .own)
 
@@ -224,7 +228,7 @@ putArmed l s =
       rows = l .rows;
     }
 
--- A fresh node: its stakes, number and genesis, and nothing else.
+-- A fresh node: its stakes, number and genesis, and nothing else. With the number after the last it is a watcher.
 unfoldable pub fresh : List ℕ → ℕ → ℕ → Ledger
 fresh stakes own genesis =
     record {

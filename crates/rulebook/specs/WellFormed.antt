@@ -140,13 +140,13 @@ rowBlank l =
     allBlocks blockBlank (r .blocks)
     && ((none (r .timedOut) && (none (r .final) && none (r .clash))) && (sameCard (r .card) noCard && (eachKept (λ i q. keptBlank q) 0 (r .certificates) && cellsFit l 0 0)))
 
--- "node record of wrong length": as many places as the count asks for. Then count, own number, genesis, stakes and "a total that is not
--- the sum".
+-- "node record of wrong length": as many places as the count asks for. Then count, own number (a node's, or the one after the last for a
+-- watcher), genesis, stakes and "a total that is not the sum".
 unfoldable pub headFits : Ledger → Bool
 headFits l =
     eqb (places l) (placesFor (l .count))
     && ((stakesFit (l .stakes) (l .count) && eqb (totalTo (l .stakes) (l .count)) (l .total))
-    && ((ltb (l .own) (l .count) && not (none (l .genesis)))
+    && ((leb (l .own) (l .count) && not (none (l .genesis)))
     && (allTo windows (λ w. flag (getD (l .armed) w 0))
     && allTo (places l) (λ n. ltb n (l .count) || none (stakeIn (l .stakes) n)))))
 

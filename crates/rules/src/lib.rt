@@ -8,7 +8,7 @@ ghost use Rattle.record.specs.Layout.{InWindow, ledgerOf};
 ghost use Rattle.voter.specs.Outbox.{stateIn};
 ghost use Rattle.voter.specs.Voting.{Onward};
 ghost use Rattle.pool.specs.Weighing.{Carded};
-ghost use Rattle.fallbacks.specs.UnderWay.{UnderWayAt};
+ghost use Rattle.fallbacks.specs.UnderWay.{UnderWayAt, VotingAt};
 use own_votes::may_final;
 use pool::held;
 use pool::is_first;
@@ -63,7 +63,7 @@ fn parent_fits(rec: &[u64], s: Slot, b: Block) -> bool
 
 // B. No own initial vote, and the first block announced has a parent that fits: casts notar for it.
 pub fn rule_b(rec: &mut [u64], outbox: &mut [u64], at: usize, s: Slot) -> usize
-    requires { ⌜ UnderWayAt (now rec) (now outbox) at (s .0) ⌝ }
+    requires { ⌜ VotingAt (now rec) (now outbox) at (s .0) ⌝ }
     ensures { λ r. ⌜ Onward (now (rec .entry)) (now (outbox .entry)) at (now (rec .exit)) (now (outbox .exit)) r (ruleB (stateIn (now (rec .entry)) (now (outbox .entry)) at) (s .0)) ⌝ }
 {
     let c = own_cell(rec, s);
@@ -78,7 +78,7 @@ pub fn rule_b(rec: &mut [u64], outbox: &mut [u64], at: usize, s: Slot) -> usize
 
 // C. Own initial vote notar b, kind 2 held for b, no own fallback, no own final: casts final.
 pub fn rule_c(rec: &mut [u64], outbox: &mut [u64], at: usize, s: Slot) -> usize
-    requires { ⌜ UnderWayAt (now rec) (now outbox) at (s .0) ⌝ }
+    requires { ⌜ VotingAt (now rec) (now outbox) at (s .0) ⌝ }
     ensures { λ r. ⌜ Onward (now (rec .entry)) (now (outbox .entry)) at (now (rec .exit)) (now (outbox .exit)) r (ruleC (stateIn (now (rec .entry)) (now (outbox .entry)) at) (s .0)) ⌝ }
 {
     let c = own_cell(rec, s);

@@ -1,5 +1,6 @@
 -- The search for the first rule that applies and the run, as the loops go through them over the lent memory. Assumes nothing.
 use mathlib.Core.Path.{_≡_, refl, sym, ap, _∙_, subst}
+use mathlib.Core.Bool.{Bool, false}
 use mathlib.Core.List.{List}
 use Prim.Native.Nat.{ℕ, _+_, _-_, _≤_, _<_}
 use native.Mathlib.Omega.{arith}
@@ -18,9 +19,10 @@ use Rattle.settling.proofs.Settling.{running-start, running-more, running-less,
 use Rattle.voter.specs.Outbox.{stateIn, Moved}
 use Rattle.voter.specs.Voting.{Live, LiveAt, Onward}
 use Rattle.voter.proofs.OutboxLaws.{made-in}
-use Rattle.voter.proofs.LiveLaws.{live-own, onward-none, onward-is, onward-then}
-use Rattle.fallbacks.specs.UnderWay.{UnderWay, UnderWayAt}
-use Rattle.run.proofs.SlotLaws.{rules-on, rules-off}
+use Rattle.voter.proofs.LiveLaws.{votes-on, onward-none, onward-is, onward-then}
+use Rattle.fallbacks.specs.UnderWay.{UnderWay, UnderWayAt, VotingAt}
+use Rattle.run.specs.Idle.{isIdle}
+use Rattle.run.proofs.SlotLaws.{rules-on, rules-off, busy-votes}
 
 -- The stakes stay a table.
 pub under-way : {ws out ws' left : List ℕ} {at now : ℕ} {q : State} → Tabled (ledgerOf ws) → Onward ws out at ws' left now q → UnderWay ws' left now
@@ -31,7 +33,6 @@ under-way h a =
       table =
           record {
             few = omega (arith, h .few, e .count, ap length (e .stakes));
-            own = live-own (a .live);
             sum = (λ i. totalTo (e .stakes i) (e .count i)) ∙ h .sum ∙ sym (e .total);
             some = omega (arith, h .some, e .total);
             light = omega (arith, h .light, e .total);
@@ -44,6 +45,13 @@ under-way-at v a b = record { live = record { live = v .live; low = a; high = b 
 -- A part of the call was run at slot s: it can go on there.
 pub still-under-way : {ws out ws' left : List ℕ} {at now s : ℕ} {q : State} → UnderWayAt ws out at s → Onward ws out at ws' left now q → UnderWayAt ws' left now s
 still-under-way v a = under-way-at (under-way (v .table) a) (v .live .low) (v .live .high)
+
+-- Likewise for the rules that vote; a slot where something is left for them lets them begin.
+pub voting-begins : {ws out : List ℕ} {at s : ℕ} → UnderWayAt ws out at s → (i : Bool) → i ≡ isIdle (ledgerOf ws) s → i ≡ false → VotingAt ws out at s
+voting-begins {ws = ws} {s = s} v i e f = record { under = v; votes = busy-votes (ledgerOf ws) s (sym e ∙ f) }
+
+pub still-voting : {ws out ws' left : List ℕ} {at now s : ℕ} {q : State} → VotingAt ws out at s → Onward ws out at ws' left now q → VotingAt ws' left now s
+still-voting v a = record { under = still-under-way (v .under) a; votes = votes-on (a .same) (v .votes) }
 
 -- The words of one node are as many as before: its stakes tell the places.
 pub held-long : {ws out ws' left : List ℕ} {at now : ℕ} {q : State} → Live ws out at → Onward ws out at ws' left now q → length ws' ≡ length ws

@@ -1,15 +1,15 @@
 -- The first rule that applies in one slot: rules tried in two parts, and an idle slot. Assumes nothing.
 use mathlib.Core.Path.{_≡_, refl, sym, ap, _∙_}
-use mathlib.Core.Bool.{Bool, true, false}
-use Prim.Native.Nat.{ℕ, zero, suc, _+_}
+use mathlib.Core.Bool.{Bool, true, false, _&&_, _||_}
+use Prim.Native.Nat.{ℕ, zero, suc, _+_, _≤_}
 use native.Mathlib.Omega.{arith}
 use native.Mathlib.Numerals.{add-one}
-use Rattle.rulebook.specs.Ledger.{none, firstBlock, ownCell, noInitial}
+use Rattle.rulebook.specs.Ledger.{Ledger, none, firstBlock, isWatcher, ownCell, noInitial}
 use Rattle.rulebook.specs.Rules.{State, ruleA, ruleB, ruleC, ruleD, ruleE, ruleF, ruleG}
 use Rattle.rulebook.specs.Run.{made, quiet, ruleAt, firstRule}
-use Rattle.rulebook.proofs.ToolLaws.{given-off, and-both}
+use Rattle.rulebook.proofs.ToolLaws.{given-off, by-test, and-both, or-none}
 use Rattle.rulebook.proofs.RuleLaws.{C-needs-vote, D-needs-vote, E-needs-vote}
-use Rattle.settling.proofs.RunLaws.{quiet-true, quiet-false, rule-step, rule-stop, rule-end, rule-A, rule-B, rule-C, rule-D, rule-E, rule-F, rule-G}
+use Rattle.settling.proofs.RunLaws.{quiet-true, quiet-false, rule-step, rule-stop, rule-end, passed-over, rule-A, rule-B, rule-C, rule-D, rule-E, rule-F, rule-G}
 use Rattle.run.specs.Idle.{isIdle}
 
 -- ---- k rules and then n more
@@ -69,17 +69,17 @@ module _ (o : State) (s : ℕ) where
   pub only-A : ruleA o s ≡ firstRule 1 0 o s
   only-A = sym (one-rule 0 o s ∙ rule-A o s)
 
-  pub only-B : ruleB o s ≡ firstRule 1 1 o s
-  only-B = sym (one-rule 1 o s ∙ rule-B o s)
+  pub only-B : isWatcher (o .ledger) ≡ false → ruleB o s ≡ firstRule 1 1 o s
+  only-B v = sym (one-rule 1 o s ∙ rule-B o s v)
 
-  pub only-C : ruleC o s ≡ firstRule 1 2 o s
-  only-C = sym (one-rule 2 o s ∙ rule-C o s)
+  pub only-C : isWatcher (o .ledger) ≡ false → ruleC o s ≡ firstRule 1 2 o s
+  only-C v = sym (one-rule 2 o s ∙ rule-C o s v)
 
-  pub only-D : ruleD o s ≡ firstRule 1 3 o s
-  only-D = sym (one-rule 3 o s ∙ rule-D o s)
+  pub only-D : isWatcher (o .ledger) ≡ false → ruleD o s ≡ firstRule 1 3 o s
+  only-D v = sym (one-rule 3 o s ∙ rule-D o s v)
 
-  pub only-E : ruleE o s ≡ firstRule 1 4 o s
-  only-E = sym (one-rule 4 o s ∙ rule-E o s)
+  pub only-E : isWatcher (o .ledger) ≡ false → ruleE o s ≡ firstRule 1 4 o s
+  only-E v = sym (one-rule 4 o s ∙ rule-E o s v)
 
   pub only-F : ruleF o s ≡ firstRule 1 5 o s
   only-F = sym (one-rule 5 o s ∙ rule-F o s)
@@ -89,21 +89,40 @@ module _ (o : State) (s : ℕ) where
 
 -- ---- an idle slot
 
-module _ (o : State) (s : ℕ) (e : isIdle (o .ledger) s ≡ true) where
-  -- Neither an own initial vote nor a kept block.
-  bare : (noInitial (ownCell (o .ledger) s) ≡ true) × (none (firstBlock (o .ledger) s .number) ≡ true)
-  unfolding isIdle
-  bare = and-both (noInitial (ownCell (o .ledger) s)) (none (firstBlock (o .ledger) s .number)) e
+module _ (o : State) (s : ℕ) where
+  -- A watcher passes over rules B to E.
+  watching-quiet : isWatcher (o .ledger) ≡ true → firstRule 4 1 o s ≡ o
+  watching-quiet w =
+      let over : (r : ℕ) → 1 ≤ r → r ≤ 4 → firstRule 1 r o s ≡ o = λ r a b. one-rule r o s ∙ passed-over o s w r a b in
+      pass o s 1 3 1 (over 1 (omega arith) (omega arith))
+      ∙ pass o s 1 2 2 (over 2 (omega arith) (omega arith))
+      ∙ pass o s 1 1 3 (over 3 (omega arith) (omega arith))
+      ∙ over 4 (omega arith) (omega arith)
 
-  B-needs-block : ruleB o s ≡ o
-  unfolding ruleB
-  B-needs-block = given-off _ _ _ (rw (bare .0, bare .1))
+  module _ (v : isWatcher (o .ledger) ≡ false) (vote : noInitial (ownCell (o .ledger) s) ≡ true) (block : none (firstBlock (o .ledger) s .number) ≡ true) where
+    B-needs-block : ruleB o s ≡ o
+    unfolding ruleB
+    B-needs-block = given-off _ _ _ (rw (vote, block))
+
+    -- Neither an own initial vote nor a kept block.
+    bare-quiet : firstRule 4 1 o s ≡ o
+    bare-quiet =
+        pass o s 1 3 1 (sym (only-B o s v) ∙ B-needs-block)
+        ∙ pass o s 1 2 2 (sym (only-C o s v) ∙ C-needs-vote o s vote)
+        ∙ pass o s 1 1 3 (sym (only-D o s v) ∙ D-needs-vote o s vote)
+        ∙ sym (only-E o s v)
+        ∙ E-needs-vote o s vote
 
   -- None of rules B to E applies.
-  pub idle-quiet : firstRule 4 1 o s ≡ o
-  idle-quiet =
-      pass o s 1 3 1 (sym (only-B o s) ∙ B-needs-block)
-      ∙ pass o s 1 2 2 (sym (only-C o s) ∙ C-needs-vote o s (bare .0))
-      ∙ pass o s 1 1 3 (sym (only-D o s) ∙ D-needs-vote o s (bare .0))
-      ∙ sym (only-E o s)
-      ∙ E-needs-vote o s (bare .0)
+  pub idle-quiet : isIdle (o .ledger) s ≡ true → firstRule 4 1 o s ≡ o
+  unfolding isIdle
+  idle-quiet e =
+      by-test (isWatcher (o .ledger)) watching-quiet
+      (λ v.
+      let h = and-both (noInitial (ownCell (o .ledger) s)) (none (firstBlock (o .ledger) s .number)) ((λ i. sym v i || (noInitial (ownCell (o .ledger) s) && none (firstBlock (o .ledger) s .number))) ∙ e) in
+      bare-quiet v (h .0) (h .1))
+
+-- Where something is left for B to E the node is no watcher.
+pub busy-votes : (l : Ledger) (s : ℕ) → isIdle l s ≡ false → isWatcher l ≡ false
+unfolding isIdle
+busy-votes l s e = or-none (isWatcher l) (noInitial (ownCell l s) && none (firstBlock l s .number)) e .0

@@ -8,7 +8,7 @@ use Rattle.rulebook.specs.declared.Cell.{Cell}
 use Rattle.rulebook.specs.declared.Who.the-variants as who
 use Rattle.rulebook.specs.Tools.{someTo}
 use Rattle.rulebook.specs.Weights.{isFirst, stakeIn}
-use Rattle.rulebook.specs.Ledger.{Ledger, none, rowAt, firstBlock, cellAt, ownCell, noInitial, isArmed, certificatesAt, keptAt, isKept}
+use Rattle.rulebook.specs.Ledger.{Ledger, none, rowAt, firstBlock, cellAt, isWatcher, ownCell, noInitial, isArmed, certificatesAt, keptAt, isKept}
 use Rattle.rulebook.specs.Pool.{counts}
 use Rattle.record.specs.Layout.{ledgerOf}
 use Rattle.pool.specs.Weighing.{Carded}
@@ -40,9 +40,10 @@ isSupported l s = (namesKept l s || isKept (keptAt l s 2)) || someNode l s suppo
 unfoldable pub seeksParent : Ledger → ℕ → Bool
 seeksParent l s = (isFirst s && not (isArmed l s)) && (eqb s 1 || isSupported l (s - 1))
 
--- No own initial vote, which C, D and E ask for, and no kept block, which B asks for.
+-- Nothing for B to E: a watcher's slot, or one without an own initial vote, which C, D and E ask for, and without a kept block, which B
+-- asks for.
 unfoldable pub isIdle : Ledger → ℕ → Bool
-isIdle l s = noInitial (ownCell l s) && none (firstBlock l s .number)
+isIdle l s = isWatcher l || (noInitial (ownCell l s) && none (firstBlock l s .number))
 
 -- A notar vote or a kept certificate names a block.
 unfoldable pub isNamed : Ledger → ℕ → Bool

@@ -4,7 +4,7 @@ ghost use mathlib.Core.Path.{_≡_};
 ghost use Rattle.rulebook.specs.declared.Who.the-variants as who;
 ghost use Rattle.rulebook.specs.Pool.{counts};
 ghost use Rattle.rulebook.specs.Run.{firstRule, scan, run};
-ghost use Rattle.record.specs.Layout.{InSlot, OwnIn, ledgerOf};
+ghost use Rattle.record.specs.Layout.{InSlot, ledgerOf};
 ghost use Rattle.pool.specs.Weighing.{Carded};
 ghost use Rattle.voter.specs.Outbox.{stateIn};
 ghost use Rattle.voter.specs.Voting.{Onward};
@@ -19,6 +19,7 @@ use kept_certificates::is_kept;
 use record::MOST_CERTIFICATES;
 use record::count;
 use record::final_block;
+use record::is_watcher;
 use record::load_block;
 use record::load_card;
 use record::load_cell;
@@ -32,13 +33,15 @@ use rules::rule_b;
 use rules::rule_c;
 use voter::no_initial;
 
-// Whether a slot has neither a kept block nor an own initial vote: rules B to E each ask for one of them.
+// Whether rules B to E have nothing to do in a slot: a watcher runs none of them, and each asks for a kept block or an own
+// initial vote.
 fn is_idle(rec: &[u64], s: Slot) -> bool
-    requires { ⌜ OwnIn (now rec) (s .0) ⌝ }
+    requires { ⌜ InSlot (now rec) (s .0) ⌝ }
     ensures { λ r. ⌜ r ≡ isIdle (ledgerOf (now (rec .entry))) (s .0) ⌝ }
 {
     let b = load_block(rec, s, 0);
-    no_initial(own_cell(rec, s)) & (b.number == 0)
+    let bare = no_initial(own_cell(rec, s)) & (b.number == 0);
+    is_watcher(rec) | bare
 }
 
 // Whether a node has a notar vote in a slot: then one of the blocks leads.

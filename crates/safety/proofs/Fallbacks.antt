@@ -16,7 +16,7 @@ use Rattle.safety.proofs.Weighing.{weights-more, weight-mono}
 use Rattle.safety.proofs.Cells.{notar-is}
 use Rattle.safety.proofs.Along.{no-fourth-own}
 use Rattle.safety.proofs.Behind.{fallback-weights}
-use Rattle.safety.proofs.Lives.{life-ready, start-sized, own-placed, fresh-ready}
+use Rattle.safety.proofs.Lives.{life-ready, start-sized, fresh-ready}
 
 -- Rule D's weights over ballots are its weights over cells.
 weights-back : (l : Ledger) (s b : ℕ) → T (dWeights (l .total) (weightOf l s (notar b)) (weightOf l s skip)) → T (fallbackWeights l s b)
@@ -31,11 +31,11 @@ weights-back l s b t =
 pub no-fourth-fallback : NoFourthFallback
 no-fourth-fallback stakes me genesis start lived s b nb w new =
     let z = start-sized stakes me genesis start in
-    let inv = life-ready me (own-placed stakes me z) (fresh stakes me genesis) lived (fresh-ready stakes me genesis z) .inv in
+    let inv = life-ready me (fresh stakes me genesis) lived (fresh-ready stakes me genesis z) .inv in
     no-fourth-own me _ s b (inv .neat s) (inv .sum) (inv .some) (inv .grounds s) nb (fallback-weights _ s b nb w) new
 
 pub own-fallbacks-weigh : OwnFallbacksWeigh
 own-fallbacks-weigh stakes me genesis start lived s b nb t =
     let z = start-sized stakes me genesis start in
-    let inv = life-ready me (own-placed stakes me z) (fresh stakes me genesis) lived (fresh-ready stakes me genesis z) .inv in
+    let inv = life-ready me (fresh stakes me genesis) lived (fresh-ready stakes me genesis z) .inv in
     weights-back _ s b (inv .grounds s (notarFallback b) (T-and (not (none b)) _ nb t) .weights)

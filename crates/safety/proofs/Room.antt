@@ -37,7 +37,7 @@ use Rattle.safety.proofs.Tests.{T-true, true-T, and-T, T-and, or-T, T-l
 use Rattle.safety.proofs.Weighing.{reaches-le, reaches-less, weight-mono, weight-apart, weight-cover, weight-join}
 use Rattle.safety.proofs.OneSlot.{inside, quorums-agree}
 use Rattle.safety.proofs.Cells.{notar-is}
-use Rattle.safety.proofs.Safety.{Checked, checked, kept-checked, checked-signed, quorum, own, lawful, end, below, start-ready}
+use Rattle.safety.proofs.Safety.{Checked, checked, kept-checked, checked-signed, quorum, own, lawful, end, sized, start-ready}
 use Rattle.safety.proofs.Written.{stakes-are, count-is}
 use Rattle.safety.proofs.Honest.{kept-on}
 use Rattle.safety.proofs.Lives.{life-ready}
@@ -251,7 +251,7 @@ module _ (stakes : List ℕ) (genesis : ℕ → ℕ) (honest : Test) (fed : ℕ 
     long : length (certificatesAt now s) ≡ mostCertificates
     unfolding slotOk
     long =
-        life-ready n (below stakes genesis honest fed ring n h) (fresh stakes n (genesis n)) before (start-ready stakes genesis honest fed ring n h) .shaped .certificates s
+        life-ready n (fresh stakes n (genesis n)) before (start-ready stakes genesis honest fed ring n h) .shaped .certificates s
         (omega (arith, leb→le s 16 (and-T (leb 1 s) (leb s 16) (true-T (slotOk s) slot-ok) .1)))
 
     module _ (no-repeat : someKept (isRepeat kind (c .block)) 0 (certificatesAt now s) ≡ false) (full : hasRoom kind 0 (certificatesAt now s) ≡ false) where
@@ -359,13 +359,13 @@ pub never-eight : NeverEight
 unfolding takeCertificate keptVerdict
 never-eight stakes genesis honest fed ring n h before later moment room packet g e =
     let l : Ledger = afterAll (fresh stakes n (genesis n)) before in
-    let start = ring .started n h in
+    let size = sized stakes genesis honest fed ring n h in
     let both = past-both (wellFormed l) (leb outboxWords room) l packet e in
     let x = packet-eight l packet (both .1) in
     let c : Certificate = x .certificate in
-    let fine = subst (λ (ws : List ℕ). judge ws c ≡ Fine) (stakes-are stakes n (genesis n) start before) (x .fine) in
+    let fine = subst (λ (ws : List ℕ). judge ws c ≡ Fine) (stakes-are stakes n (genesis n) size before) (x .fine) in
     let says = eight-says (someKept (isRepeat (kindIn (l .count) (c .kind)) (c .block)) 0 (certificatesAt l (c .slot))) (hasRoom (kindIn (l .count) (c .kind)) 0 (certificatesAt l (c .slot))) (x .stands) in
-    let k : kindIn (l .count) (c .kind) ≡ kindIn (length stakes) (c .kind) = ap (λ (m : ℕ). kindIn m (c .kind)) (count-is stakes n (genesis n) start before) in
+    let k : kindIn (l .count) (c .kind) ≡ kindIn (length stakes) (c .kind) = ap (λ (m : ℕ). kindIn m (c .kind)) (count-is stakes n (genesis n) size before) in
     never stakes genesis honest fed ring n h before later moment c (g .first c (x .next) (x .read)) fine (both .0)
     (subst (λ (i : CertificateKind). someKept (isRepeat i (c .block)) 0 (certificatesAt l (c .slot)) ≡ false) k (says .0))
     (subst (λ (i : CertificateKind). hasRoom i 0 (certificatesAt l (c .slot)) ≡ false) k (says .1)) (kindIn (length stakes) (c .kind)) refl

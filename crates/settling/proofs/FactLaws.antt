@@ -116,8 +116,8 @@ head-facts l e =
     let size = and-both (leb 1 (l .count)) (leb (l .count) mostNodes) (sizes .0) in
     let stakes = and-both (allTo (l .count) (λ n. leb 1 (stakeIn (l .stakes) n))) (leb (totalTo (l .stakes) (l .count)) mostStake) (sizes .1) in
     let sum : totalTo (l .stakes) (l .count) ≡ l .total = eqb-true (totalTo (l .stakes) (l .count)) (l .total) (q .1) in
-    let r = and-both (ltb (l .own) (l .count) && not (none (l .genesis))) _ (p .1) in
-    let own = and-both (ltb (l .own) (l .count)) (not (none (l .genesis))) (r .0) in
+    let r = and-both (leb (l .own) (l .count) && not (none (l .genesis))) _ (p .1) in
+    let own = and-both (leb (l .own) (l .count)) (not (none (l .genesis))) (r .0) in
     let rest = and-both (allTo windows (λ w. flag (getD (l .armed) w 0))) (allTo (places l) (stakeOk l)) (r .1) in
     record {
       room = eqb-true (places l) (placesFor (l .count)) (z .0);
@@ -126,7 +126,7 @@ head-facts l e =
       staked = λ n h. leb-true 1 (stakeIn (l .stakes) n) (all-at (l .count) n (λ n. leb 1 (stakeIn (l .stakes) n)) (stakes .0) h);
       sum = sum;
       small = subst (λ (t : ℕ). t ≤ mostStake) sum (leb-true (totalTo (l .stakes) (l .count)) mostStake (stakes .1));
-      mine = omega (arith, ltb-true (l .own) (l .count) (own .0));
+      mine = leb-true (l .own) (l .count) (own .0);
       genesis = not-true (none (l .genesis)) (own .1);
       armed = λ w h. leb-true (getD (l .armed) w 0) 1 (all-at windows w (λ w. flag (getD (l .armed) w 0)) (rest .0) h);
       unused = λ n a b.
@@ -146,8 +146,8 @@ facts-head l f =
     (all-each (l .count) (λ n. leb 1 (stakeIn (l .stakes) n)) (λ n h. le-leb 1 (stakeIn (l .stakes) n) (f .staked n h)))
     (le-leb (totalTo (l .stakes) (l .count)) mostStake (subst (λ (t : ℕ). t ≤ mostStake) (sym (f .sum)) (f .small)))))
     (eq-eqb (totalTo (l .stakes) (l .count)) (l .total) (f .sum)))
-    (both-and (ltb (l .own) (l .count) && not (none (l .genesis))) _
-    (both-and (ltb (l .own) (l .count)) (not (none (l .genesis))) (lt-ltb (l .own) (l .count) (f .mine)) (ap not (f .genesis)))
+    (both-and (leb (l .own) (l .count) && not (none (l .genesis))) _
+    (both-and (leb (l .own) (l .count)) (not (none (l .genesis))) (le-leb (l .own) (l .count) (f .mine)) (ap not (f .genesis)))
     (both-and (allTo windows (λ w. flag (getD (l .armed) w 0))) (allTo (places l) (stakeOk l))
     (all-each windows (λ w. flag (getD (l .armed) w 0)) (λ w h. le-leb (getD (l .armed) w 0) 1 (f .armed w h)))
     (all-each (places l) (stakeOk l) (λ n a.

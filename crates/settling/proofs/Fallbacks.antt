@@ -21,7 +21,7 @@ use Rattle.rulebook.specs.declared.Verdict.the-variants.{Fine, Refused}
 use Rattle.rulebook.specs.Tools.{part}
 use Rattle.rulebook.specs.Weights.{lastSlot}
 use Rattle.rulebook.specs.PaperNumbers.{voteNumber}
-use Rattle.rulebook.specs.Ledger.{Ledger, Row, none, noCell, tableOf, noInitial, rowAt, cellAt, ownCell, fillBlock, certificatesAt, putRow, putTimedOut, fresh}
+use Rattle.rulebook.specs.Ledger.{places, isWatcher, Ledger, Row, none, noCell, tableOf, noInitial, rowAt, cellAt, ownCell, fillBlock, certificatesAt, putRow, putTimedOut, fresh}
 use Rattle.rulebook.specs.Certificates.{Certificate, Kept}
 use Rattle.rulebook.specs.Cards.{tallied, changeOf}
 use Rattle.rulebook.specs.Votes.{placeOf, withVote, storeVote}
@@ -32,16 +32,17 @@ use Rattle.rulebook.specs.Checker.{judge}
 use Rattle.rulebook.specs.Taking.{fillKept, keptVerdict, keptOf, keepCertificate, takenOn, taken, takePacket, Arrival, ofInput, ofPacket, served}
 use Rattle.rulebook.proofs.AcceptedLaws.{packet-cases}
 use Rattle.rulebook.proofs.ToolLaws.{given-keeps, by-test, part-le, part-on, part-off}
+use Rattle.rulebook.specs.WellFormed.{Shaped}
 use Rattle.settling.specs.Spare.{one, fallbacksLeft}
 use Rattle.settling.specs.Facts.{Sound}
-use Rattle.settling.specs.Steps.{Placed, Lawful, VoteFine, kindFor, CertificateFine, after, life}
+use Rattle.settling.specs.Steps.{Lawful, AndVotes, VoteFine, kindFor, CertificateFine, after, life}
 use Rattle.settling.specs.Fallbacks.{fallbacksTold, Taken}
 use Rattle.settling.proofs.Places.{row-there, row-else}
 use Rattle.settling.proofs.VoteLaws.{vote-left}
 use Rattle.settling.proofs.FactLaws.{formed, count-placed}
 use Rattle.settling.proofs.Weighing.{row-cells, stored-cases}
-use Rattle.settling.proofs.Sounding.{sound-placed, sound-certificate, sound-timedOut}
-use Rattle.settling.proofs.LawfulRules.{skips-keep, run-keeps}
+use Rattle.settling.proofs.Sounding.{own-in, own-placed, sound-certificate, sound-timedOut}
+use Rattle.settling.proofs.LawfulRules.{voter-casting, skips-keep, run-keeps}
 use Rattle.settling.proofs.Soundness.{sound-lawful, intake-sound, served-sound}
 use Rattle.settling.proofs.Verdicts.{vote-fine, block-fine, timeout-fine}
 use Rattle.settling.proofs.Life.{taken-fine}
@@ -65,7 +66,7 @@ told-append s (x ∷ xs) ys = omega (arith, told-append s xs ys)
 
 -- ---- an own vote
 
-module _ (l : Ledger) (h : Placed l) (t : ℕ) (high : t ≤ lastSlot) (k : VoteKind) (b : ℕ) where
+module _ (l : Ledger) (h : Shaped (places l) l) (mine : l .own < places l) (t : ℕ) (high : t ≤ lastSlot) (k : VoteKind) (b : ℕ) where
   abbrev voted : Row
   voted =
       let r = rowAt l t in
@@ -75,24 +76,24 @@ module _ (l : Ledger) (h : Placed l) (t : ℕ) (high : t ≤ lastSlot) (k : Vote
   own-here : ownCell (storeVote l t (l .own) k b) t ≡ withVote (ownCell l t) k b
   unfolding storeVote
   own-here =
-      ap (λ (r : Row). getD (r .cells) (l .own) noCell) (row-there l t voted (omega (arith, h .shaped .rows)))
-      ∙ getD-set-same (rowAt l t .cells) (l .own) (withVote (ownCell l t) k b) noCell (omega (arith, h .shaped .cells t (omega arith), h .mine))
+      ap (λ (r : Row). getD (r .cells) (l .own) noCell) (row-there l t voted (omega (arith, h .rows)))
+      ∙ getD-set-same (rowAt l t .cells) (l .own) (withVote (ownCell l t) k b) noCell (omega (arith, h .cells t (omega arith), mine))
 
   own-else : (s : ℕ) → (s ≡ t → ⊥) → ownCell (storeVote l t (l .own) k b) s ≡ ownCell l s
   unfolding storeVote
   own-else s ne = ap (λ (r : Row). getD (r .cells) (l .own) noCell) (row-else l t voted s ne)
 
-vote-taken : (s : ℕ) (o : State) → Placed (o .ledger) → (t : ℕ) → t ≤ lastSlot → (k : VoteKind) (b : ℕ) → placeOf (ownCell (o .ledger) t) k b ≡ Free → misfits k b ≡ false
+vote-taken : (s : ℕ) (o : State) → Shaped (places (o .ledger)) (o .ledger) → o .ledger .own < places (o .ledger) → (t : ℕ) → t ≤ lastSlot → (k : VoteKind) (b : ℕ) → placeOf (ownCell (o .ledger) t) k b ≡ Free → misfits k b ≡ false
     → fallbacksTold s (cast o t k b .records) + fallbacksLeft (ownCell (cast o t k b .ledger) s) ≡ fallbacksTold s (o .records) + fallbacksLeft (ownCell (o .ledger) s)
 unfolding cast fallbacksTold
-vote-taken s o h t high k b e m =
+vote-taken s o h mine t high k b e m =
     let l : Ledger = o .ledger in
     let kind : ℕ = one (eqb (voteNumber k) 2) in
     by-test (eqb t s)
     (λ q.
     let z : t ≡ s = eqb-true t s q in
     let here : ownCell (storeVote l t (l .own) k b) s ≡ withVote (ownCell l t) k b =
-    ap (λ (i : ℕ). ownCell (storeVote l t (l .own) k b) i) (sym z) ∙ own-here l h t high k b in
+    ap (λ (i : ℕ). ownCell (storeVote l t (l .own) k b) i) (sym z) ∙ own-here l h mine t high k b in
     omega (
       arith,
       part-on (eqb t s) kind q,
@@ -103,7 +104,7 @@ vote-taken s o h t high k b e m =
     (λ q. omega (
       arith,
       part-off (eqb t s) kind q,
-      ap (λ (c : Cell). fallbacksLeft c) (own-else l h t high k b s (λ x. eqb-false t s q (sym x))),
+      ap (λ (c : Cell). fallbacksLeft c) (own-else l h mine t high k b s (λ x. eqb-false t s q (sym x))),
     ))
 
 -- ---- every rule
@@ -119,10 +120,10 @@ unfolding fallbacksTold part
 taken-lawful s left =
     record {
       sound = λ o h. h .sound;
-      vote = λ o t k b low high e m w h.
+      vote = λ o t k b low high v e m w h.
           record {
-            sound = sound-lawful .vote o t k b low high e m w (h .sound);
-            balance = vote-taken s o (sound-placed (o .ledger) (h .sound)) t high k b e m ∙ h .balance;
+            sound = sound-lawful .vote o t k b low high v e m w (h .sound);
+            balance = vote-taken s o (h .sound .shaped) (own-placed (o .ledger) (h .sound) (own-in (o .ledger) (h .sound) v)) t high k b e m ∙ h .balance;
           };
       arm = λ o t low high e h.
           record { sound = sound-lawful .arm o t low high e (h .sound); balance = omega (arith, part-le (eqb t s) 0, h .balance) };
@@ -166,7 +167,7 @@ module _ (l : Ledger) (h : Sound l) (s : ℕ) where
       (λ j i c. i ≡ l .own → c ≡ cellAt l j i) (λ q. absurd (f .outside q)) (λ j i q. refl) s (l .own) refl)
 
   intake-taken : (i : Input) → verdict l i ≡ Fine → Taken s left (intake l i)
-  unfolding intake verdict fallbacksTold keepBlock timeOut
+  unfolding intake verdict fallbacksTold keepBlock timeOut isWatcher
   intake-taken (input.Vote v) e =
       record { sound = intake-sound l h (input.Vote v) e; balance = omega (arith, outside-left v (vote-fine l v e)) }
   intake-taken (input.Block t b) e =
@@ -181,7 +182,7 @@ module _ (l : Ledger) (h : Sound l) (s : ℕ) where
       let o : State = stateOf (putTimedOut l (t .0)) [] in
       let k = timedOut-taken (t .0) (f .low) (f .high) in
       given-keeps (Taken s left) (noInitial (ownCell l (t .0))) o (λ _. castSkips o (t .0)) k
-      (λ _. skips-keep (Taken s left) (taken-lawful s left) (t .0) (f .low) (f .high) o k)
+      (λ _. skips-keep (AndVotes (Taken s left)) (voter-casting (Taken s left) (taken-lawful s left)) (t .0) (f .low) (f .high) o (k, f .votes) .0)
   intake-taken input.Look e = record { sound = h; balance = omega arith }
 
   fedOn-taken : (v : Verdict) (i : Input) → verdict l i ≡ v → fallbacksTold s (fedOn v l i .records) + fallbacksLeft (ownCell (fedOn v l i .ledger) s) ≡ left

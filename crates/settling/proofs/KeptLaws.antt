@@ -39,9 +39,9 @@ table-some : (l : Ledger) → HeadFacts l → 1 ≤ totalTo (tableOf l) (length 
 unfolding totalTo
 table-some l d =
     let ws : List ℕ = tableOf l in
-    let own : l .own < length ws = subst (λ (n : ℕ). l .own < n) (sym (table-long l d)) (d .mine) in
-    let is : stakeIn ws (l .own) ≡ stakeIn (l .stakes) (l .own) = getD-take (l .count) (l .stakes) (l .own) 0 (d .mine) in
-    omega (arith, is, d .staked (l .own) (d .mine), sum-term (length ws) (l .own) (stakeIn ws) own)
+    let first : 0 < length ws = subst (λ (n : ℕ). 0 < n) (sym (table-long l d)) (d .some) in
+    let is : stakeIn ws 0 ≡ stakeIn (l .stakes) 0 = getD-take (l .count) (l .stakes) 0 0 (d .some) in
+    omega (arith, is, d .staked 0 (d .some), sum-term (length ws) 0 (stakeIn ws) first)
 
 -- ---- an accepted certificate
 

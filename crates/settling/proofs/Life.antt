@@ -1,5 +1,6 @@
 -- A node whose ledger is sound makes at most 132 records in its life, whatever it is fed and handed.
 use mathlib.Core.Path.{_≡_, refl, _∙_}
+use mathlib.Core.Bool.{false}
 use mathlib.Core.List.{List, [], _∷_}
 use Prim.Native.Nat.{ℕ, _≤_}
 use native.Mathlib.Omega.{arith}
@@ -13,7 +14,7 @@ use Rattle.rulebook.specs.declared.Refusal.the-variants as refusal
 use Rattle.rulebook.specs.declared.Verdict.{Verdict}
 use Rattle.rulebook.specs.declared.Verdict.the-variants.{Fine, Refused}
 use Rattle.rulebook.specs.Weights.{lastSlot}
-use Rattle.rulebook.specs.Ledger.{Ledger, tableOf, noInitial, ownCell, blocksAt, fillBlock, certificatesAt, putTimedOut}
+use Rattle.rulebook.specs.Ledger.{isWatcher, Ledger, tableOf, noInitial, ownCell, blocksAt, fillBlock, certificatesAt, putTimedOut}
 use Rattle.rulebook.specs.Certificates.{Certificate}
 use Rattle.rulebook.specs.Votes.{storeVote}
 use Rattle.rulebook.specs.Rules.{State, stateOf, castSkips}
@@ -28,7 +29,7 @@ use Rattle.settling.specs.Steps.{SameNode, Came, Paid, VoteFine, BlockFi
 use Rattle.settling.specs.Facts.{Sound}
 use Rattle.settling.proofs.FactLaws.{formed}
 use Rattle.settling.proofs.KeptLaws.{table-long}
-use Rattle.settling.proofs.Sounding.{sound-placed, sound-vote, sound-kept, sound-certificate, sound-timedOut}
+use Rattle.settling.proofs.Sounding.{sound-vote, sound-kept, sound-certificate, sound-timedOut}
 use Rattle.settling.proofs.SpareLaws.{spare-most, spare-other, spare-blocks, spare-certificates, spare-timedOut}
 use Rattle.settling.proofs.Spending.{same-node, stored-same, skips-come, run-comes}
 use Rattle.settling.proofs.Settling.{run-settles}
@@ -67,7 +68,7 @@ module _ (l : Ledger) (h : Sound l) where
       let m : Ledger = storeVote l (v .slot .0) (v .node .0) (v .kind) (v .block) in
       let same : SameNode l m = stored-same l (v .slot .0) (v .node .0) (v .kind) (v .block) in
       record {
-        spent = omega (arith, spare-other l (v .slot .0) (sound-placed l h) (f .low) (f .high) (v .node .0) (v .kind) (v .block) (f .outside));
+        spent = omega (arith, spare-other l (v .slot .0) (h .shaped) (f .low) (f .high) (v .node .0) (v .kind) (v .block) (f .outside));
         sound = sound-vote l h (v .slot .0) (f .low) (f .high) (v .node .0) (v .kind) (v .block) (f .node) (f .free) (f .fits) (λ q. absurd (f .outside q));
         same = same;
       }
@@ -76,7 +77,7 @@ module _ (l : Ledger) (h : Sound l) where
   unfolding keepBlock
   block-paid s b f =
       record {
-        spent = omega (arith, spare-blocks l s (sound-placed l h) (f .low) (f .high) (fillBlock b (blocksAt l s)));
+        spent = omega (arith, spare-blocks l s (h .shaped) (f .low) (f .high) (fillBlock b (blocksAt l s)));
         sound = sound-kept l h s (f .low) (f .high) b f;
         same = record { own = refl; count = refl; total = refl; genesis = refl; stakes = refl };
       }
@@ -85,7 +86,7 @@ module _ (l : Ledger) (h : Sound l) where
   unfolding keepCertificate
   certificate-paid c f =
       record {
-        spent = omega (arith, spare-certificates l (c .slot) (sound-placed l h) (f .low) (f .high) (fillKept (kindFor l c) 0 (keptOf c) (certificatesAt l (c .slot))));
+        spent = omega (arith, spare-certificates l (c .slot) (h .shaped) (f .low) (f .high) (fillKept (kindFor l c) 0 (keptOf c) (certificatesAt l (c .slot))));
         sound = sound-certificate l h c f;
         same = record { own = refl; count = refl; total = refl; genesis = refl; stakes = refl };
       }
@@ -93,19 +94,19 @@ module _ (l : Ledger) (h : Sound l) where
   pub timedOut-paid : (s : ℕ) → 1 ≤ s → s ≤ lastSlot → Paid l (putTimedOut l s) 0
   timedOut-paid s low high =
       record {
-        spent = omega (arith, spare-timedOut l s (sound-placed l h) low high);
+        spent = omega (arith, spare-timedOut l s (h .shaped) low high);
         sound = sound-timedOut l h s low high;
         same = record { own = refl; count = refl; total = refl; genesis = refl; stakes = refl };
       }
 
   -- The skips of a timeout are paid.
-  pub timeOut-paid : (s : ℕ) → 1 ≤ s → s ≤ lastSlot → Paid l (timeOut l s .ledger) (made (timeOut l s))
-  unfolding timeOut
-  timeOut-paid s low high =
+  pub timeOut-paid : (s : ℕ) → 1 ≤ s → s ≤ lastSlot → isWatcher l ≡ false → Paid l (timeOut l s .ledger) (made (timeOut l s))
+  unfolding timeOut isWatcher
+  timeOut-paid s low high v =
       let o : State = stateOf (putTimedOut l s) [] in
       let p = timedOut-paid s low high in
       given-keeps (λ (q : State). Paid l (q .ledger) (made q)) (noInitial (ownCell l s)) o (λ _. castSkips o s) p
-      (λ _. paid-came l o (castSkips o s) p (skips-come o (p .sound) s low high))
+      (λ _. paid-came l o (castSkips o s) p (skips-come o (p .sound) s low high v))
 
   -- ---- an accepted input, before the rules and after them
 
@@ -113,7 +114,7 @@ module _ (l : Ledger) (h : Sound l) where
   unfolding intake verdict
   intake-paid (input.Vote v) e = vote-paid v (vote-fine l v e)
   intake-paid (input.Block s b) e = let f = block-fine l (s .0) b e in block-paid (s .0) b f
-  intake-paid (input.Timeout s) e = let f = timeout-fine l (s .0) e in timeOut-paid (s .0) (f .low) (f .high)
+  intake-paid (input.Timeout s) e = let f = timeout-fine l (s .0) e in timeOut-paid (s .0) (f .low) (f .high) (f .votes)
   intake-paid input.Look e = paid-nothing l h
 
   pub called-paid : (i : Input) → verdict l i ≡ Fine → Paid l (run (intake l i) .ledger) (made (run (intake l i)))

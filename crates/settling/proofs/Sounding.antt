@@ -14,7 +14,7 @@ use Rattle.rulebook.specs.declared.Block.{Block}
 use Rattle.rulebook.specs.declared.VoteKind.{VoteKind}
 use Rattle.rulebook.specs.declared.Place.the-variants.{Free}
 use Rattle.rulebook.specs.Weights.{lastSlot, stakeIn, totalTo}
-use Rattle.rulebook.specs.Ledger.{places, Ledger, Row, none, rowAt, cellAt, ownCell, blocksAt, allBlocks, isFree, fillBlock, putCertificates, putTimedOut, putFinal, putClash, putArmed}
+use Rattle.rulebook.specs.Ledger.{places, Ledger, Row, none, rowAt, cellAt, isWatcher, ownCell, blocksAt, allBlocks, isFree, fillBlock, putCertificates, putTimedOut, putFinal, putClash, putArmed}
 use Rattle.rulebook.specs.Pool.{hasFallback}
 use Rattle.rulebook.specs.Cards.{tallied, changeOf}
 use Rattle.rulebook.specs.Votes.{placeOf, withVote, storeVote}
@@ -28,7 +28,7 @@ use Rattle.rulebook.proofs.BlockLaws.{fill-length, find-all}
 use Rattle.rulebook.proofs.CertificateLaws.{fill-long}
 use Rattle.rulebook.proofs.FourthLaws.{Counted}
 use Rattle.settling.specs.Facts.{CellFacts, HeadFacts, Sound}
-use Rattle.settling.specs.Steps.{Placed, weighed, BlockFine, kindFor, CertificateFine, WalkParent}
+use Rattle.settling.specs.Steps.{weighed, BlockFine, kindFor, CertificateFine, WalkParent}
 use Rattle.settling.proofs.Places.{shaped-row, shaped-armed}
 use Rattle.settling.proofs.FactLaws.{formed, well-formed, count-placed, cell-facts}
 use Rattle.settling.proofs.FormedLaws.{formed-vote, formed-blocks, formed-certificates, formed-timedOut, formed-final, formed-clash, formed-armed, fine-blocks}
@@ -45,22 +45,26 @@ stored-shaped l s n k b h a =
     shaped-row l s (record { blocks = r .blocks; timedOut = r .timedOut; final = r .final; clash = r .clash; card = tallied (r .card) (changeOf l s n k b); certificates = r .certificates; cells = set (r .cells) n c }) h a (h .blocks s (omega arith)) (h .certificates s (omega arith))
     (length-set (r .cells) n c ∙ h .cells s (omega arith))
 
-module _ (l : Ledger) (h : Placed l) where
+module _ (l : Ledger) (h : Shaped (places l) l) where
   pub kept-shaped : (s : ℕ) (b : Block) → s ≤ lastSlot → Shaped (places (keepBlock l s b)) (keepBlock l s b)
   unfolding keepBlock
   kept-shaped s b a =
       let r : Row = rowAt l s in
-      shaped-row l s (record { blocks = fillBlock b (r .blocks); timedOut = r .timedOut; final = r .final; clash = r .clash; card = r .card; certificates = r .certificates; cells = r .cells }) (h .shaped) a
-      (fill-length b (r .blocks) ∙ h .shaped .blocks s (omega arith)) (h .shaped .certificates s (omega arith)) (h .shaped .cells s (omega arith))
+      shaped-row l s (record { blocks = fillBlock b (r .blocks); timedOut = r .timedOut; final = r .final; clash = r .clash; card = r .card; certificates = r .certificates; cells = r .cells }) (h) a
+      (fill-length b (r .blocks) ∙ h .blocks s (omega arith)) (h .certificates s (omega arith)) (h .cells s (omega arith))
 
   pub timedOut-shaped : (s : ℕ) → s ≤ lastSlot → Shaped (places (putTimedOut l s)) (putTimedOut l s)
   timedOut-shaped s a =
       let r : Row = rowAt l s in
-      shaped-row l s (record { blocks = r .blocks; timedOut = 1; final = r .final; clash = r .clash; card = r .card; certificates = r .certificates; cells = r .cells }) (h .shaped) a (h .shaped .blocks s (omega arith)) (h .shaped .certificates s (omega arith)) (h .shaped .cells s (omega arith))
+      shaped-row l s (record { blocks = r .blocks; timedOut = 1; final = r .final; clash = r .clash; card = r .card; certificates = r .certificates; cells = r .cells }) (h) a (h .blocks s (omega arith)) (h .certificates s (omega arith)) (h .cells s (omega arith))
 
--- A sound ledger has a place for the own cells.
-pub sound-placed : (l : Ledger) → Sound l → Placed l
-sound-placed l h = let d = formed l (h .formed) .head in record { shaped = h .shaped; mine = omega (arith, d .mine, count-placed l d) }
+-- The own number of a node that is no watcher is in the table, so a sound ledger has a place for its cells.
+pub own-in : (l : Ledger) → Sound l → isWatcher l ≡ false → l .own < l .count
+unfolding isWatcher
+own-in l h v = lt-of-le-ne (formed l (h .formed) .head .mine) (eqb-false (l .own) (l .count) v)
+
+pub own-placed : (l : Ledger) → Sound l → l .own < l .count → l .own < places l
+own-placed l h mine = omega (arith, count-placed l (formed l (h .formed) .head))
 
 -- ---- each writing
 
@@ -76,14 +80,14 @@ module _ (l : Ledger) (h : Sound l) (s : ℕ) (a : 1 ≤ s) (b : s ≤ lastSlot)
   unfolding keepBlock
   sound-kept x e =
       record {
-        shaped = kept-shaped l (sound-placed l h) s x b;
+        shaped = kept-shaped l (h .shaped) s x b;
         formed = well-formed (keepBlock l s x) (formed-blocks l (h .shaped) (formed l (h .formed)) s a b (fillBlock x (blocksAt l s)) (fine-blocks l s x e (formed l (h .formed) .rows s a b .blocks)));
       }
 
   pub sound-timedOut : Sound (putTimedOut l s)
   sound-timedOut =
       record {
-        shaped = timedOut-shaped l (sound-placed l h) s b;
+        shaped = timedOut-shaped l (h .shaped) s b;
         formed = well-formed (putTimedOut l s) (formed-timedOut l (h .shaped) (formed l (h .formed)) s a b);
       }
 
@@ -129,18 +133,18 @@ sound-certificate l h c e =
 
 some-stake : (l : Ledger) → HeadFacts l → 1 ≤ l .total
 unfolding totalTo
-some-stake l d = omega (arith, d .sum, d .staked (l .own) (d .mine), sum-term (l .count) (l .own) (stakeIn (l .stakes)) (d .mine))
+some-stake l d = omega (arith, d .sum, d .staked 0 (d .some), sum-term (l .count) 0 (stakeIn (l .stakes)) (d .some))
 
 -- A block with rule D's weights that is not among the own fallbacks finds a free place.
-pub fourth-free : (l : Ledger) → Sound l → (s : ℕ) → 1 ≤ s → s ≤ lastSlot → (b : ℕ) → none b ≡ false → fallbackWeights l s b ≡ true
+pub fourth-free : (l : Ledger) → Sound l → l .own < l .count → (s : ℕ) → 1 ≤ s → s ≤ lastSlot → (b : ℕ) → none b ≡ false → fallbackWeights l s b ≡ true
     → hasFallback b (ownCell l s) ≡ false → none (ownCell l s .fallback3) ≡ true
-fourth-free l h s low high b nb w new =
+fourth-free l h mine s low high b nb w new =
     let f = formed l (h .formed) in
     let d = f .head in
     let few = count-placed l d in
     let facts : (n : ℕ) → n < l .count → CellFacts (cellAt l s n) = λ n k. cell-facts (cellAt l s n) (f .rows s low high .cells n (omega arith) k) in
     let counted : Counted l s = record { sum = d .sum; some = some-stake l d; initial = λ n k. facts n k .initial } in
-    third-free l s b counted (facts (l .own) (d .mine)) (f .own s low high) (record { block = nb; weights = w }) new
+    third-free l s b counted (facts (l .own) mine) (f .own s low high) (record { block = nb; weights = w }) new
 
 -- ---- the walk's next slot
 

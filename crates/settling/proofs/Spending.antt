@@ -9,17 +9,17 @@ use lib.ListN.{length, length-append}
 use Rattle.rulebook.specs.declared.VoteKind.{VoteKind}
 use Rattle.rulebook.specs.Weights.{lastSlot}
 use Rattle.rulebook.specs.PaperNumbers.{voteNumber}
-use Rattle.rulebook.specs.Ledger.{Ledger, none, putArmed, putFinal, putClash}
+use Rattle.rulebook.specs.Ledger.{isWatcher, Ledger, none, putArmed, putFinal, putClash}
 use Rattle.rulebook.specs.Votes.{storeVote}
 use Rattle.rulebook.specs.Rules.{Record, State, recordOf, report, cast, castSkips, ruleA, ruleB, ruleC, ruleD, ruleE, tellClash, tellFinal, ruleF, ruleG}
 use Rattle.rulebook.specs.Run.{made, ruleAt, firstRule, firstSlot, scan, runFor, run}
 use Rattle.settling.specs.Spare.{spare}
-use Rattle.settling.specs.Steps.{SameNode, Lawful, Came}
+use Rattle.settling.specs.Steps.{SameNode, Lawful, Casting, AndVotes, Came}
 use Rattle.settling.specs.Facts.{Sound}
 use Rattle.settling.proofs.FactLaws.{formed}
-use Rattle.settling.proofs.Sounding.{sound-placed, sound-vote, sound-armed, sound-final, sound-clash}
+use Rattle.settling.proofs.Sounding.{own-in, own-placed, sound-vote, sound-armed, sound-final, sound-clash}
 use Rattle.settling.proofs.SpareLaws.{spare-own, spare-armed, spare-final, spare-clash}
-use Rattle.settling.proofs.LawfulRules.{skips-keep, A-keeps, B-keeps, C-keeps, D-keeps, E-keeps, clash-keeps, tell-keeps, F-keeps, G-keeps, rule-keeps, rules-keep, slots-keep, scan-keeps, runFor-keeps, run-keeps}
+use Rattle.settling.proofs.LawfulRules.{voter-casting, skips-keep, A-keeps, B-keeps, C-keeps, D-keeps, E-keeps, clash-keeps, tell-keeps, F-keeps, G-keeps, rule-keeps, rules-keep, slots-keep, scan-keeps, runFor-keeps, run-keeps}
 
 -- ---- the node stays
 
@@ -63,25 +63,26 @@ unfolding cast
 came-lawful o =
     record {
       sound = λ p c. c .sound;
-      vote = λ p s k b low high e m w c.
+      vote = λ p s k b low high v e m w c.
+          let mine = own-in (p .ledger) (c .sound) v in
           came-one o p (storeVote (p .ledger) s (p .ledger .own) k b) (voteNumber k) s b c
-          (sound-vote (p .ledger) (c .sound) s low high (p .ledger .own) k b (formed (p .ledger) (c .sound .formed) .head .mine) e m (λ _. w))
+          (sound-vote (p .ledger) (c .sound) s low high (p .ledger .own) k b mine e m (λ _. w))
           (stored-same (p .ledger) s (p .ledger .own) k b)
-          (spare-own (p .ledger) s (sound-placed (p .ledger) (c .sound)) low high k b e m);
+          (spare-own (p .ledger) s (c .sound .shaped) low high (own-placed (p .ledger) (c .sound) mine) k b e m);
       arm = λ p s low high e c.
           came-one o p (putArmed (p .ledger) s) 7 s 0 c (sound-armed (p .ledger) (c .sound) s low high)
           (record { own = refl; count = refl; total = refl; genesis = refl; stakes = refl })
-          (spare-armed (p .ledger) s (sound-placed (p .ledger) (c .sound)) low high e);
+          (spare-armed (p .ledger) s (c .sound .shaped) low high e);
       tell = λ p s b low high e m c.
           came-one o p (putFinal (p .ledger) s b) 6 s b c
           (sound-final (p .ledger) (c .sound) s low high b)
           (record { own = refl; count = refl; total = refl; genesis = refl; stakes = refl })
-          (spare-final (p .ledger) s (sound-placed (p .ledger) (c .sound)) low high b e m);
+          (spare-final (p .ledger) s (c .sound .shaped) low high b e m);
       clash = λ p s b low high e c.
           came-one o p (putClash (p .ledger) s) 8 s b c
           (sound-clash (p .ledger) (c .sound) s low high)
           (record { own = refl; count = refl; total = refl; genesis = refl; stakes = refl })
-          (spare-clash (p .ledger) s (sound-placed (p .ledger) (c .sound)) low high e);
+          (spare-clash (p .ledger) s (c .sound .shaped) low high e);
     }
 
 pub came-trans : (o p q : State) → Came o p → Came p q → Came o q
@@ -109,23 +110,28 @@ came-trans o p q c d =
 
 module _ (o : State) (h : Sound (o .ledger)) where
   module _ (s : ℕ) (a : 1 ≤ s) (b : s ≤ lastSlot) where
-    pub skips-come : Came o (castSkips o s)
-    skips-come = skips-keep (Came o) (came-lawful o) s a b o (came-self o h)
+    -- What a node that is no watcher casts.
+    module _ (v : isWatcher (o .ledger) ≡ false) where
+      abbrev voting-came : Casting (AndVotes (Came o))
+      voting-came = voter-casting (Came o) (came-lawful o)
+
+      pub skips-come : Came o (castSkips o s)
+      skips-come = skips-keep (AndVotes (Came o)) voting-came s a b o (came-self o h, v) .0
+
+      pub B-comes : Came o (ruleB o s)
+      B-comes = B-keeps (AndVotes (Came o)) voting-came s a b o (came-self o h, v) .0
+
+      pub C-comes : Came o (ruleC o s)
+      C-comes = C-keeps (AndVotes (Came o)) voting-came s a b o (came-self o h, v) .0
+
+      pub D-comes : Came o (ruleD o s)
+      D-comes = D-keeps (AndVotes (Came o)) voting-came s a b o (came-self o h, v) .0
+
+      pub E-comes : Came o (ruleE o s)
+      E-comes = E-keeps (AndVotes (Came o)) voting-came s a b o (came-self o h, v) .0
 
     pub A-comes : Came o (ruleA o s)
     A-comes = A-keeps (Came o) (came-lawful o) s a b o (came-self o h)
-
-    pub B-comes : Came o (ruleB o s)
-    B-comes = B-keeps (Came o) (came-lawful o) s a b o (came-self o h)
-
-    pub C-comes : Came o (ruleC o s)
-    C-comes = C-keeps (Came o) (came-lawful o) s a b o (came-self o h)
-
-    pub D-comes : Came o (ruleD o s)
-    D-comes = D-keeps (Came o) (came-lawful o) s a b o (came-self o h)
-
-    pub E-comes : Came o (ruleE o s)
-    E-comes = E-keeps (Came o) (came-lawful o) s a b o (came-self o h)
 
     pub clash-comes : (x : ℕ) → Came o (tellClash o s x)
     clash-comes x = clash-keeps (Came o) (came-lawful o) o s x a b (came-self o h)

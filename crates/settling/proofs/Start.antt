@@ -14,7 +14,7 @@ use Rattle.rulebook.specs.Weights.{mostNodes, placesFor, mostStake, lastSlot, w
 use Rattle.rulebook.specs.Ledger.{Ledger, Row, none, noCell, noKept, noCard, mostBlocks, mostCertificates, blankRow, noRow, places, tableOf, rowAt, ownCell, allBlocks, fresh}
 use Rattle.rulebook.specs.Run.{mostRecords}
 use Rattle.rulebook.specs.Cards.{sameCard}
-use Rattle.rulebook.specs.Inputs.{startVerdict}
+use Rattle.rulebook.specs.Inputs.{startVerdict, watchVerdict}
 use Rattle.rulebook.specs.Taking.{Arrival}
 use Rattle.rulebook.specs.WellFormed.{Shaped, inOrder, cellFits, cellBlank, cellsFit, keptFits, blocksApart, blocksFit, blockBlank, eachKept, certificateFits, certificatesApart, certificatesFit, keptBlank, backs, ownFits, rowBlank}
 use Rattle.rulebook.proofs.PlaceLaws.{nodes-placed}
@@ -108,6 +108,67 @@ pub total-there : (ws : List ℕ) (k : ℕ) → totalTo (ws ++ replicate k 0) (l
 unfolding totalTo
 total-there ws k = sum-same (length ws) (λ n. stakeIn (ws ++ replicate k 0) n) (λ n. stakeIn ws n) (λ n h. stake-there ws k n h)
 
+-- ---- a fresh node, with an own number or without
+
+record Begun (stakes : List ℕ) (own genesis : ℕ) : Type 0 where
+  pub fits : stakesFit stakes (length stakes) ≡ true
+  pub mine : own ≤ length stakes
+  pub first : none genesis ≡ false
+
+module _ (stakes : List ℕ) (own genesis : ℕ) (b : Begun stakes own genesis) where
+  begun-formed : Formed (fresh stakes own genesis)
+  unfolding fresh stakesFit
+  begun-formed =
+      let l : Ledger = fresh stakes own genesis in
+      let p : ℕ = placesFor (length stakes) in
+      let k : ℕ = placesFor (length stakes) - length stakes in
+      let sizes = and-both (leb 1 (length stakes) && leb (length stakes) mostNodes) _ ((b .fits)) in
+      let size = and-both (leb 1 (length stakes)) (leb (length stakes) mostNodes) (sizes .0) in
+      let each = and-both (allTo (length stakes) (λ n. leb 1 (stakeIn stakes n))) (leb (totalTo stakes (length stakes)) mostStake) (sizes .1) in
+      record {
+        head =
+            record {
+              room = length-append stakes (replicate k 0) ∙ omega (arith, length-replicate {A = ℕ} k 0, nodes-placed (length stakes) (leb-true (length stakes) mostNodes (size .1)));
+              some = leb-true 1 (length stakes) (size .0);
+              few = leb-true (length stakes) mostNodes (size .1);
+              staked = λ n h. subst (λ (w : ℕ). 1 ≤ w) (sym (stake-there stakes k n h)) (leb-true 1 (stakeIn stakes n) (all-at (length stakes) n (λ n. leb 1 (stakeIn stakes n)) (each .0) h));
+              sum = total-there stakes k;
+              small = leb-true (totalTo stakes (length stakes)) mostStake (each .1);
+              mine = (b .mine);
+              genesis = (b .first);
+              armed = λ w h. omega (arith, replicate-all {A = ℕ} windows w 0);
+              unused = λ n a b. stake-past stakes k n b;
+            };
+        blank = row-zero l p (getD-replicate (suc lastSlot) 0 (blankRow p) noRow (omega arith));
+        own = λ s a b. own-blank l s (ap (λ (r : Row). getD (r .cells) own noCell) (getD-replicate (suc lastSlot) s (blankRow p) noRow (omega arith)) ∙ blank-cell p own);
+        cards = λ s a b.
+            let r : rowAt l s ≡ blankRow p = getD-replicate (suc lastSlot) s (blankRow p) noRow (omega arith) in
+            ap (λ (x : Row). x .card) r ∙ blank-card p ∙ sym (recount-none l s (λ n. ap (λ (x : Row). getD (x .cells) n noCell) r ∙ blank-cell p n));
+        rows = λ s a b. subst (RowFacts l s) (sym (getD-replicate (suc lastSlot) s (blankRow p) noRow (omega arith))) (blank-facts l s p);
+      }
+
+  begun-shaped : Shaped (places (fresh stakes own genesis)) (fresh stakes own genesis)
+  unfolding fresh stakesFit
+  begun-shaped =
+      let p : ℕ = placesFor (length stakes) in
+      let k : ℕ = placesFor (length stakes) - length stakes in
+      let few = begun-formed .head .few in
+      record {
+        armed = length-replicate {A = ℕ} windows 0;
+        stakes = refl;
+        rows = length-replicate (suc lastSlot) (blankRow p);
+        blocks = λ s h. ap (λ (r : Row). length (r .blocks)) (getD-replicate (suc lastSlot) s (blankRow p) noRow h) ∙ blank-four p;
+        certificates = λ s h. ap (λ (r : Row). length (r .certificates)) (getD-replicate (suc lastSlot) s (blankRow p) noRow h) ∙ blank-thirteen p;
+        cells = λ s h. ap (λ (r : Row). length (r .cells)) (getD-replicate (suc lastSlot) s (blankRow p) noRow h) ∙ blank-long p ∙ sym (begun-formed .head .room);
+      }
+
+  begun-sound : Sound (fresh stakes own genesis)
+  begun-sound = record { shaped = begun-shaped; formed = well-formed (fresh stakes own genesis) begun-formed }
+
+  begun-within : (cs : List Arrival) → length (life (fresh stakes own genesis) cs) ≤ mostRecords
+  begun-within cs =
+      omega (arith, life-paid (fresh stakes own genesis) cs begun-sound .spent, spare-most (fresh stakes own genesis))
+
 -- ---- start
 
 module _ (stakes : List ℕ) (own genesis : ℕ) (e : startVerdict stakes own genesis ≡ Fine) where
@@ -120,60 +181,44 @@ module _ (stakes : List ℕ) (own genesis : ℕ) (e : startVerdict stakes own ge
       let r = or-none (leb (length stakes) own) (none genesis) (q .1) in
       (not-false (stakesFit stakes (length stakes)) (q .0), leb-false (length stakes) own (r .0), r .1)
 
-  pub fresh-formed : Formed (fresh stakes own genesis)
-  unfolding fresh stakesFit
-  fresh-formed =
-      let l : Ledger = fresh stakes own genesis in
-      let p : ℕ = placesFor (length stakes) in
-      let k : ℕ = placesFor (length stakes) - length stakes in
-      let sizes = and-both (leb 1 (length stakes) && leb (length stakes) mostNodes) _ (start-fine .0) in
-      let size = and-both (leb 1 (length stakes)) (leb (length stakes) mostNodes) (sizes .0) in
-      let each = and-both (allTo (length stakes) (λ n. leb 1 (stakeIn stakes n))) (leb (totalTo stakes (length stakes)) mostStake) (sizes .1) in
-      record {
-        head =
-            record {
-              room = length-append stakes (replicate k 0) ∙ omega (arith, length-replicate {A = ℕ} k 0, nodes-placed (length stakes) (leb-true (length stakes) mostNodes (size .1)));
-              some = leb-true 1 (length stakes) (size .0);
-              few = leb-true (length stakes) mostNodes (size .1);
-              staked = λ n h. subst (λ (w : ℕ). 1 ≤ w) (sym (stake-there stakes k n h)) (leb-true 1 (stakeIn stakes n) (all-at (length stakes) n (λ n. leb 1 (stakeIn stakes n)) (each .0) h));
-              sum = total-there stakes k;
-              small = leb-true (totalTo stakes (length stakes)) mostStake (each .1);
-              mine = start-fine .1;
-              genesis = start-fine .2;
-              armed = λ w h. omega (arith, replicate-all {A = ℕ} windows w 0);
-              unused = λ n a b. stake-past stakes k n b;
-            };
-        blank = row-zero l p (getD-replicate (suc lastSlot) 0 (blankRow p) noRow (omega arith));
-        own = λ s a b. own-blank l s (ap (λ (r : Row). getD (r .cells) own noCell) (getD-replicate (suc lastSlot) s (blankRow p) noRow (omega arith)) ∙ blank-cell p own);
-        cards = λ s a b.
-            let r : rowAt l s ≡ blankRow p = getD-replicate (suc lastSlot) s (blankRow p) noRow (omega arith) in
-            ap (λ (x : Row). x .card) r ∙ blank-card p ∙ sym (recount-none l s (λ n. ap (λ (x : Row). getD (x .cells) n noCell) r ∙ blank-cell p n));
-        rows = λ s a b. subst (RowFacts l s) (sym (getD-replicate (suc lastSlot) s (blankRow p) noRow (omega arith))) (blank-facts l s p);
-      }
-
-  pub fresh-shaped : Shaped (places (fresh stakes own genesis)) (fresh stakes own genesis)
-  unfolding fresh stakesFit
-  fresh-shaped =
-      let p : ℕ = placesFor (length stakes) in
-      let k : ℕ = placesFor (length stakes) - length stakes in
-      let few = fresh-formed .head .few in
-      record {
-        armed = length-replicate {A = ℕ} windows 0;
-        stakes = refl;
-        rows = length-replicate (suc lastSlot) (blankRow p);
-        blocks = λ s h. ap (λ (r : Row). length (r .blocks)) (getD-replicate (suc lastSlot) s (blankRow p) noRow h) ∙ blank-four p;
-        certificates = λ s h. ap (λ (r : Row). length (r .certificates)) (getD-replicate (suc lastSlot) s (blankRow p) noRow h) ∙ blank-thirteen p;
-        cells = λ s h. ap (λ (r : Row). length (r .cells)) (getD-replicate (suc lastSlot) s (blankRow p) noRow h) ∙ blank-long p ∙ sym (fresh-formed .head .room);
-      }
+  start-begun : Begun stakes own genesis
+  start-begun = record { fits = start-fine .0; mine = omega (arith, start-fine .1); first = start-fine .2 }
 
   -- A node that starts is sound.
   pub fresh-sound : Sound (fresh stakes own genesis)
-  fresh-sound = record { shaped = fresh-shaped; formed = well-formed (fresh stakes own genesis) fresh-formed }
+  fresh-sound = begun-sound stakes own genesis start-begun
+
+  pub fresh-formed : Formed (fresh stakes own genesis)
+  fresh-formed = begun-formed stakes own genesis start-begun
+
+  pub fresh-shaped : Shaped (places (fresh stakes own genesis)) (fresh stakes own genesis)
+  fresh-shaped = begun-shaped stakes own genesis start-begun
 
   -- It stays so, whatever it is fed and handed, and makes at most 132 records.
   pub start-sound : (cs : List Arrival) → Sound (after (fresh stakes own genesis) cs)
   start-sound cs = life-sound (fresh stakes own genesis) cs fresh-sound
 
   pub start-within : (cs : List Arrival) → length (life (fresh stakes own genesis) cs) ≤ mostRecords
-  start-within cs =
-      omega (arith, life-paid (fresh stakes own genesis) cs fresh-sound .spent, spare-most (fresh stakes own genesis))
+  start-within cs = begun-within stakes own genesis start-begun cs
+
+-- ---- a watcher's start
+
+module _ (stakes : List ℕ) (genesis : ℕ) (e : watchVerdict stakes genesis ≡ Fine) where
+  pub watch-fine : (stakesFit stakes (length stakes) ≡ true) × (none genesis ≡ false)
+  unfolding watchVerdict
+  watch-fine =
+      let p = refuse-fine (not (stakesFit stakes (length stakes)) || none genesis) refusal.BadSizes Fine e in
+      let q = or-none (not (stakesFit stakes (length stakes))) (none genesis) (p .0) in
+      (not-false (stakesFit stakes (length stakes)) (q .0), q .1)
+
+  watch-begun : Begun stakes (length stakes) genesis
+  watch-begun = record { fits = watch-fine .0; mine = omega arith; first = watch-fine .1 }
+
+  pub watching-sound : Sound (fresh stakes (length stakes) genesis)
+  watching-sound = begun-sound stakes (length stakes) genesis watch-begun
+
+  pub watch-sound : (cs : List Arrival) → Sound (after (fresh stakes (length stakes) genesis) cs)
+  watch-sound cs = life-sound (fresh stakes (length stakes) genesis) cs watching-sound
+
+  pub watch-within : (cs : List Arrival) → length (life (fresh stakes (length stakes) genesis) cs) ≤ mostRecords
+  watch-within cs = begun-within stakes (length stakes) genesis watch-begun cs

@@ -49,7 +49,7 @@ pub record HeadFacts (l : Ledger) : Type 0 where
   pub staked : (n : ℕ) → n < l .count → 1 ≤ stakeIn (l .stakes) n
   pub sum : totalTo (l .stakes) (l .count) ≡ l .total
   pub small : l .total ≤ mostStake
-  pub mine : l .own < l .count
+  pub mine : l .own ≤ l .count
   pub genesis : none (l .genesis) ≡ false
   pub armed : (w : ℕ) → w < windows → getD (l .armed) w 0 ≤ 1
   pub unused : (n : ℕ) → n < places l → l .count ≤ n → stakeIn (l .stakes) n ≡ 0

@@ -13,7 +13,7 @@ use Rattle.rulebook.specs.declared.Verdict.the-variants.{Fine}
 use Rattle.rulebook.specs.Certificates.{Certificate}
 use Rattle.rulebook.specs.PaperNumbers.{kindIn}
 use Rattle.rulebook.specs.Weights.{lastSlot}
-use Rattle.rulebook.specs.Ledger.{Ledger, none, places, tableOf, rowAt, cellAt, ownCell, isArmed, blocksAt, someBlock, isFree, hasNumber, certificatesAt, putArmed, putFinal, putClash}
+use Rattle.rulebook.specs.Ledger.{Ledger, none, places, tableOf, rowAt, cellAt, isWatcher, ownCell, isArmed, blocksAt, someBlock, isFree, hasNumber, certificatesAt, putArmed, putFinal, putClash}
 use Rattle.rulebook.specs.Pool.{someKept}
 use Rattle.rulebook.specs.Votes.{placeOf}
 use Rattle.rulebook.specs.Rules.{Record, State, report, cast, fallbackWeights}
@@ -21,14 +21,8 @@ use Rattle.rulebook.specs.Run.{made, ruleAt, runFor, run}
 use Rattle.rulebook.specs.Inputs.{isOther, misfits, badParent}
 use Rattle.rulebook.specs.Checker.{judgeKind}
 use Rattle.rulebook.specs.Taking.{hasRoom, isRepeat, Arrival, served}
-use Rattle.rulebook.specs.WellFormed.{Shaped}
 use Rattle.settling.specs.Spare.{spare}
 use Rattle.settling.specs.Facts.{Sound}
-
--- A ledger with a place for everything, the own cells among them: all that the potential asks.
-pub record Placed (l : Ledger) : Type 0 where
-  pub shaped : Shaped (places l) l
-  pub mine : l .own < places l
 
 -- The two ledgers are of one node: nothing of its head but the armed windows has moved.
 pub record SameNode (l m : Ledger) : Type 0 where
@@ -47,11 +41,11 @@ weighed l s vote.SkipFallback b = true
 weighed l s vote.Final b = true
 weighed l s vote.Other b = true
 
--- A property of states with sound ledgers that every way of making a record keeps: an own vote into a free place, an arming, a final block
--- told, another told.
+-- A property of states with sound ledgers that every way of making a record keeps: an own vote into a free place of a node that is no watcher,
+-- an arming, a final block told, another told.
 pub record Lawful (P : State → Type 0) : Type 1 where
   pub sound : (o : State) → P o → Sound (o .ledger)
-  pub vote : (o : State) (s : ℕ) (k : VoteKind) (b : ℕ) → 1 ≤ s → s ≤ lastSlot
+  pub vote : (o : State) (s : ℕ) (k : VoteKind) (b : ℕ) → 1 ≤ s → s ≤ lastSlot → isWatcher (o .ledger) ≡ false
       → placeOf (ownCell (o .ledger) s) k b ≡ Free → misfits k b ≡ false → weighed (o .ledger) s k b ≡ true → P o → P (cast o s k b)
   pub arm : (o : State) (s : ℕ) → 1 ≤ s → s ≤ lastSlot
       → isArmed (o .ledger) s ≡ false → P o → P (report o (putArmed (o .ledger) s) 7 s 0)
@@ -59,6 +53,17 @@ pub record Lawful (P : State → Type 0) : Type 1 where
       → none (rowAt (o .ledger) s .final) ≡ true → none b ≡ false → P o → P (report o (putFinal (o .ledger) s b) 6 s b)
   pub clash : (o : State) (s b : ℕ) → 1 ≤ s → s ≤ lastSlot
       → none (rowAt (o .ledger) s .clash) ≡ true → P o → P (report o (putClash (o .ledger) s) 8 s b)
+
+-- A property of states with sound ledgers and an own number that every own vote into a free place keeps.
+pub record Casting (P : State → Type 0) : Type 1 where
+  pub sound : (o : State) → P o → Sound (o .ledger)
+  pub mine : (o : State) → P o → o .ledger .own < o .ledger .count
+  pub vote : (o : State) (s : ℕ) (k : VoteKind) (b : ℕ) → 1 ≤ s → s ≤ lastSlot
+      → placeOf (ownCell (o .ledger) s) k b ≡ Free → misfits k b ≡ false → weighed (o .ledger) s k b ≡ true → P o → P (cast o s k b)
+
+-- P holds, and the node is no watcher.
+abbrev pub AndVotes : (State → Type 0) → State → Type 0
+AndVotes P o = P o × (isWatcher (o .ledger) ≡ false)
 
 -- A parent to walk to: its slot, which is lower, and its number.
 pub record WalkParent (s p x : ℕ) : Type 0 where
@@ -128,6 +133,7 @@ pub record CertificateFine (l : Ledger) (c : Certificate) : Type 0 where
 pub record TimeoutFine (l : Ledger) (s : ℕ) : Type 0 where
   pub low : 1 ≤ s
   pub high : s ≤ lastSlot
+  pub votes : isWatcher l ≡ false
   pub armed : isArmed l s ≡ true
   pub free : none (rowAt l s .timedOut) ≡ true
 

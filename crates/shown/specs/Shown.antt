@@ -4,7 +4,7 @@ use mathlib.Core.List.{List}
 use Prim.Native.Nat.{ℕ, _≤_}
 use Rattle.rulebook.specs.Tools.{given, someTo}
 use Rattle.rulebook.specs.Weights.{mostNodes, slotOk}
-use Rattle.rulebook.specs.Ledger.{Ledger, none, rowAt, cellAt, isArmed, firstBlock, certificatesAt}
+use Rattle.rulebook.specs.Ledger.{Ledger, none, rowAt, cellAt, isWatcher, isArmed, firstBlock, certificatesAt}
 use Rattle.rulebook.specs.WellFormed.{cellBlank, eachKept, keptBlank}
 use Rattle.record.specs.Layout.{ledgerOf}
 use Rattle.record.specs.Spelling.{isSpelled}
@@ -14,6 +14,10 @@ use Rattle.pool.specs.Weighing.{Weighing}
 -- The ledger that the words hold; one with nothing in it where no record has so many words.
 unfoldable pub ledgerIn : List ℕ → Ledger
 ledgerIn ws = given (isSpelled ws) (noLedger 0) (λ _. ledgerOf ws)
+
+-- The node is a watcher; none is where no record has so many words.
+unfoldable pub watcherShown : List ℕ → Bool
+watcherShown ws = given (isSpelled ws) false (λ _. isWatcher (ledgerOf ws))
 
 -- The slot's window is armed; none is where no record has so many words, or the slot is not one of 1 to 16.
 unfoldable pub armedShown : List ℕ → ℕ → Bool

@@ -7,7 +7,7 @@ ghost use Rattle.rulebook.specs.Tools.{part};
 ghost use Rattle.rulebook.specs.Weights.{isLarge};
 ghost use Rattle.rulebook.specs.Ledger.{none, noBlock, rowAt, cellAt, blocksAt};
 ghost use Rattle.rulebook.specs.WellFormed.{cellBlank};
-ghost use Rattle.shown.specs.Shown.{ledgerIn, armedShown, hasVotes, hasCertificates, touched};
+ghost use Rattle.shown.specs.Shown.{ledgerIn, watcherShown, armedShown, hasVotes, hasCertificates, touched};
 use kept_certificates::nothing_kept;
 use kinds::slot_ok;
 use record::LAST_SLOT;
@@ -18,6 +18,7 @@ use record::final_block;
 use record::genesis;
 use record::is_armed;
 use record::is_long;
+use record::is_watcher;
 use record::load_block;
 use record::load_cell;
 use record::own;
@@ -70,6 +71,16 @@ pub fn own_of(rec: &[u64]) -> Node
         return Node(0);
     }
     own(rec)
+}
+
+// Whether the node has no own number.
+pub fn watches(rec: &[u64]) -> bool
+    ensures { λ r. ⌜ r ≡ watcherShown (now (rec .entry)) ⌝ }
+{
+    if !is_long(rec) {
+        return false;
+    }
+    is_watcher(rec)
 }
 
 // The total stake.

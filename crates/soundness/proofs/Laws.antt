@@ -6,16 +6,16 @@ use Prim.Native.Nat.{ℕ, suc, _+_, _-_, _<_, _≤_}
 use native.Mathlib.Omega.{arith}
 use lib.ListN.{length, getD, take, List·getD-eq-default}
 use lib.Dec.{eqb, leb, ltb}
-use borrow.Author.Tests.{leb-true, eq-eqb, ne-eqb, lt-ltb}
+use borrow.Author.Tests.{leb-true, eq-eqb, ne-eqb, lt-ltb, ltb-true, ltb-false}
 use Rattle.rulebook.specs.Tools.{given, allTo}
 use Rattle.rulebook.specs.Weights.{mostNodes, mostStake, lastSlot, stakeIn, totalTo, stakesFit}
 use Rattle.rulebook.specs.declared.Block.{Block}
 use Rattle.rulebook.specs.declared.Cell.{Cell}
-use Rattle.rulebook.specs.Ledger.{Ledger, noBlock, mostBlocks, places, cellAt, ownCell, blocksAt, allBlocks, rowAt, certificatesAt}
+use Rattle.rulebook.specs.Ledger.{Ledger, noBlock, noCell, mostBlocks, places, cellAt, ownCell, blocksAt, allBlocks, rowAt, certificatesAt}
 use Rattle.rulebook.specs.Ledger as ledgers
 use Rattle.rulebook.specs.Rules.{fallbackWeights}
 use Rattle.rulebook.specs.Cards.{CardsAgree, recount}
-use Rattle.rulebook.specs.WellFormed.{flag, cellFits, cellBlank, cellsFit, keptFits, blocksFit, certificatesFit, backs, ownFits, rowFits, cardFits, rowBlank, headFits, wellFormed}
+use Rattle.rulebook.specs.WellFormed.{flag, inOrder, cellFits, cellBlank, cellsFit, keptFits, blocksFit, certificatesFit, backs, ownFits, rowFits, cardFits, rowBlank, headFits, wellFormed}
 use Rattle.rulebook.proofs.ToolLaws.{given-on, given-off, given-both, and-both, both-and, by-test, true-not-false, same-test, all-at, all-each, all-more, all-same}
 use Rattle.rulebook.proofs.PlaceLaws.{placed-each}
 use Rattle.recounting.proofs.Using.{same-card}
@@ -29,7 +29,7 @@ use Rattle.record.specs.Layout.{Long, ledgerOf, Counted}
 use Rattle.record.specs.Spelling.{isSpelled}
 use Rattle.record.specs.Tabled.{Tabled}
 use Rattle.record.specs.BlockPlaces.{behind}
-use Rattle.record.proofs.Reading.{ledger-shaped}
+use Rattle.record.proofs.Reading.{ledger-shaped, cell-past}
 use Rattle.record.proofs.BlockPlaces.{all-places, both-places}
 use Rattle.record.proofs.Spelled.{spelled-long}
 use Rattle.storing.proofs.Laws.{head-tabled}
@@ -211,6 +211,10 @@ row-votes l s e =
     let q = and-both (flag (rowAt l s .timedOut) && flag (rowAt l s .clash)) _ (p .1) in
     and-both (cellsFit l s (l .count)) (cardFits l s) (and-both (certificatesFit (ledgers.tableOf l) s (certificatesAt l s)) _ (q .1) .1)
 
+no-cell-fits : cellFits noCell ≡ true
+unfolding cellFits inOrder
+no-cell-fits = refl
+
 module _ (ws : List ℕ) (h : Standing ws) where
   abbrev ledger : Ledger
   ledger = ledgerOf ws
@@ -224,13 +228,17 @@ module _ (ws : List ℕ) (h : Standing ws) where
   unfolding cardFits
   agree s a b = same-card (rowAt ledger s .card) (recount ledger s) (stands s a b .1)
 
+  -- A number without a place has no votes.
   own-cell-fits : (s : ℕ) → 1 ≤ s → s ≤ lastSlot → cellFits (ownCell ledger s) ≡ true
   unfolding cellsFit
   own-cell-fits s a b =
       let n = ledger .own in
-      let t = h .headed .table in
-      sym (given-on (ltb n (ledger .count)) (cellBlank (cellAt ledger s n)) (λ _. cellFits (cellAt ledger s n)) (lt-ltb n (ledger .count) (omega (arith, t .own, h .headed .full))))
-      ∙ all-at (places ledger) n (λ i. given (ltb i (ledger .count)) (cellBlank (cellAt ledger s i)) (λ _. cellFits (cellAt ledger s i))) (stands s a b .0) (t .own)
+      by-test (ltb n (places ledger))
+      (λ q.
+      let m = ltb-true n (places ledger) q in
+      sym (given-on (ltb n (ledger .count)) (cellBlank (cellAt ledger s n)) (λ _. cellFits (cellAt ledger s n)) (lt-ltb n (ledger .count) (omega (arith, m, h .headed .full))))
+      ∙ all-at (places ledger) n (λ i. given (ltb i (ledger .count)) (cellBlank (cellAt ledger s i)) (λ _. cellFits (cellAt ledger s i))) (stands s a b .0) m)
+      (λ q. ap cellFits (sym (cell-past ws s n (record { long = h .headed .long; slot = omega arith }) (ltb-false n (places ledger) q))) ∙ no-cell-fits)
 
   -- So the own fallbacks can be asked of the cards.
   pub standing-backs : (s : ℕ) → 1 ≤ s → s ≤ lastSlot → Backing ws s

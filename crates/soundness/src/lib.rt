@@ -1,4 +1,4 @@
-// The 17 test, and start.
+// The 17 test, and the starts of a node and of a watcher.
 ghost use mathlib.Core.Path.{_≡_};
 ghost use mathlib.Core.Bool.{_&&_, _||_};
 ghost use Prim.Native.Nat.{suc};
@@ -14,7 +14,7 @@ ghost use Rattle.record.specs.BlockPlaces.{behind};
 ghost use Rattle.kept_audit.specs.Judging.{Judging};
 ghost use Rattle.pool.specs.Weighing.{Carded};
 ghost use Rattle.soundness.specs.Sound.{rowStands, soundWords, Headed, Standing, Backing};
-ghost use Rattle.soundness.specs.Starting.{SetUp, StartOf};
+ghost use Rattle.soundness.specs.Starting.{BegunOf, SetUp, StartOf, WatchOf};
 use audit::card_blank;
 use audit::cells_blank;
 use audit::in_order;
@@ -264,7 +264,7 @@ fn head_fits(rec: &[u64]) -> bool
     let sized = places_in(rec) == places_for(count(rec));
     let table = stakes_fit(rec);
     let me = own(rec);
-    let node = (me.0 < count(rec)) & (genesis(rec) != 0);
+    let node = (me.0 <= count(rec)) & (genesis(rec) != 0);
     let windows = armed_fits(rec);
     let rest = rest_fits(rec);
     sized & (table & (node & (windows & rest)))
@@ -301,19 +301,34 @@ fn set_up(rec: &mut [u64], stakes: &[u64], total: Weight, own: Node, genesis: u6
     }
 }
 
-// Makes lent words the record of a fresh node: 17 for the length, then 1; a refusal leaves the words.
-pub fn start(rec: &mut [u64], stakes: &[u64], own: Node, genesis: u64) -> StartAnswer
-    ensures { λ r. ⌜ StartOf (now (rec .entry)) (now (stakes .entry)) (own .0) genesis r (now (rec .exit)) ⌝ }
+// Makes lent words the record of a fresh node, whose own number may be odd: 17 for the length, then 1; a refusal leaves the
+// words.
+fn begin(rec: &mut [u64], stakes: &[u64], own: Node, odd: bool, genesis: u64) -> StartAnswer
+    ensures { λ r. ⌜ BegunOf (now (rec .entry)) (now (stakes .entry)) (own .0) odd genesis r (now (rec .exit)) ⌝ }
 {
     if rec.len() != record_words(stakes.len()) {
         return StartAnswer::Refused(Refusal::BadRecord);
     }
     let made = make_table(stakes);
-    if !made.fits | ((stakes.len() <= own.0) | (genesis == 0)) {
+    if !made.fits | (odd | (genesis == 0)) {
         return StartAnswer::Refused(Refusal::BadSizes);
     }
     let table = made.table;
     let total = table.total;
     set_up(rec, stakes, total, own, genesis);
     StartAnswer::Started
+}
+
+// Makes lent words the record of a fresh node.
+pub fn start(rec: &mut [u64], stakes: &[u64], own: Node, genesis: u64) -> StartAnswer
+    ensures { λ r. ⌜ StartOf (now (rec .entry)) (now (stakes .entry)) (own .0) genesis r (now (rec .exit)) ⌝ }
+{
+    begin(rec, stakes, own, stakes.len() <= own.0, genesis)
+}
+
+// Makes lent words the record of a fresh watcher: the number after the last node's stands for no own number.
+pub fn watch(rec: &mut [u64], stakes: &[u64], genesis: u64) -> StartAnswer
+    ensures { λ r. ⌜ WatchOf (now (rec .entry)) (now (stakes .entry)) genesis r (now (rec .exit)) ⌝ }
+{
+    begin(rec, stakes, Node(stakes.len()), false, genesis)
 }

@@ -35,7 +35,6 @@ unfolding totalTo
 head-tabled l d =
     record {
       few = count-placed l d;
-      own = omega (arith, d .mine, count-placed l d);
       sum = d .sum;
       some = omega (arith, d .staked 0 (d .some), sum-term (l .count) 0 (stakeIn (l .stakes)) (d .some), d .sum);
       light = d .small;

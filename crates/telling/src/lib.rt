@@ -10,6 +10,7 @@ use quointrowel::qr_take;
 use quointrowel::qr_timeout;
 use quointrowel::qr_tray;
 use quointrowel::qr_vote;
+use quointrowel::qr_watch;
 use replies::number;
 use replies::records;
 use replies::served;
@@ -60,6 +61,37 @@ pub fn start(page: &mut [u8], line: &[u8], at: usize, rec: &mut [u64]) -> bool {
     let mut args = [0u64; 2051];
     let n = read_numbers(line, at, &mut args);
     number(page, start_with(rec, &args, n.count))
+}
+
+// Starts a watcher on as many of the words as its stakes ask for.
+fn watch_node(rec: &mut [u64], stakes: &[u64], genesis: u64) -> u64 {
+    let words = qr_record_words(stakes.len());
+    if words < rec.len() {
+        return qr_watch(&mut rec[0..words], stakes, genesis);
+    }
+    qr_watch(rec, stakes, genesis)
+}
+
+// Starts a watcher from genesis and stakes, as many of them as there is room for.
+fn watch_with(rec: &mut [u64], args: &[u64], many: usize) -> u64 {
+    if args.len() < 1 {
+        return 1;
+    }
+    if many < 1 {
+        return 1;
+    }
+    let genesis = args[0];
+    if many < args.len() {
+        return watch_node(rec, &args[1..many], genesis);
+    }
+    watch_node(rec, &args[1..], genesis)
+}
+
+// watch GENESIS STAKE..; 2,049 stakes are kept, which are too many already.
+pub fn watch(page: &mut [u8], line: &[u8], at: usize, rec: &mut [u64]) -> bool {
+    let mut args = [0u64; 2050];
+    let n = read_numbers(line, at, &mut args);
+    number(page, watch_with(rec, &args, n.count))
 }
 
 // vote KIND NODE SLOT BLOCK

@@ -13,10 +13,10 @@ use Rattle.rulebook.specs.declared.VoteKind.the-variants as vote
 use Rattle.rulebook.specs.declared.CertificateKind.the-variants as certificate
 use Rattle.rulebook.specs.Tools.{given, lowest}
 use Rattle.rulebook.specs.Weights.{isFirst, firstOf, lastSlot}
-use Rattle.rulebook.specs.Ledger.{none, noInitial, rowAt, ownCell, blocksAt, firstBlock, isArmed}
+use Rattle.rulebook.specs.Ledger.{none, noInitial, rowAt, ownCell, blocksAt, firstBlock, isWatcher, isArmed}
 use Rattle.rulebook.specs.Pool.{held, certifiable, someReady}
 use Rattle.rulebook.specs.Rules.{Record, State, stateOf, cast, castSkip, castSkips, ruleA, ruleB, ruleC, ruleD, ruleE, isNewcomer, tellClash, tellFinal, ruleF, findBlock, walkTo, walkStep, walkFor, ruleG, parentFits, mayFinal, mayFallback, fallbackBlock, castFallback, windowOpen, maySkipFallback, skipWeights, castSkipFallback}
-use Rattle.rulebook.specs.Run.{ruleAt, made, quiet, firstRule, firstSlot, scan, runFor, run}
+use Rattle.rulebook.specs.Run.{voting, ruleAt, made, quiet, firstRule, firstSlot, scan, runFor, run}
 use Rattle.rulebook.proofs.ToolLaws.{same-test}
 
 module _ (rs : List Record) where
@@ -129,13 +129,17 @@ module _ (rs : List Record) where
     unfolding ruleG
     G-behind o = walk-behind s s o
 
+    voting-behind : (rule : State → ℕ → State) (o : State) → rule (behind o) s ≡ behind (rule o s) → voting rule (behind o) s ≡ behind (voting rule o s)
+    unfolding voting
+    voting-behind rule o e = given-behind (not (isWatcher (o .ledger))) o (behind o) _ _ refl e
+
     rule-behind : (r : ℕ) (o : State) → ruleAt r (behind o) s ≡ behind (ruleAt r o s)
     unfolding ruleAt
     rule-behind zero o = A-behind s o
-    rule-behind (suc zero) o = B-behind s o
-    rule-behind (suc (suc zero)) o = C-behind s o
-    rule-behind (suc (suc (suc zero))) o = D-behind s o
-    rule-behind (suc (suc (suc (suc zero)))) o = E-behind s o
+    rule-behind (suc zero) o = voting-behind ruleB o (B-behind s o)
+    rule-behind (suc (suc zero)) o = voting-behind ruleC o (C-behind s o)
+    rule-behind (suc (suc (suc zero))) o = voting-behind ruleD o (D-behind s o)
+    rule-behind (suc (suc (suc (suc zero)))) o = voting-behind ruleE o (E-behind s o)
     rule-behind (suc (suc (suc (suc (suc zero))))) o = F-behind s o
     rule-behind (suc (suc (suc (suc (suc (suc zero)))))) o = G-behind o
     rule-behind (suc (suc (suc (suc (suc (suc (suc r))))))) o = refl

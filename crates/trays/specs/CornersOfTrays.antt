@@ -45,7 +45,7 @@ empty =
 abbrev order : Bool
 order =
     let part : List ℕ = 1 ∷ 1 ∷ 1 ∷ 7 ∷ 1 ∷ [] in
-    all (equals (shown (tray (fresh (4 ∷ 3 ∷ 3 ∷ []) 3 1) 479 0 part)) (refusedWith 17)
+    all (equals (shown (tray (fresh (4 ∷ 3 ∷ 3 ∷ []) 4 1) 479 0 part)) (refusedWith 17)
     ∷ equals (shown (tray three 479 1 part)) (refusedWith 9)
     ∷ equals (shown (tray three 480 0 part)) (refusedWith 9)
     ∷ equals (shown (tray three 480 1 part)) (refusedWith 12)

@@ -1,22 +1,24 @@
 -- A call goes on: what is paid from the potential keeps the outbox's room, and parts of a call follow each other. Assumes nothing.
 use mathlib.Core.Path.{_≡_, sym, ap, _∙_, subst}
+use mathlib.Core.Bool.{false}
 use mathlib.Core.List.{List}
-use Prim.Native.Nat.{ℕ, _<_}
+use Prim.Native.Nat.{ℕ, _≤_, _<_}
 use native.Mathlib.Omega.{arith}
 use lib.ListN.{length}
-use Rattle.rulebook.specs.Ledger.{Ledger, places}
+use lib.Dec.{eqb}
+use Rattle.rulebook.specs.Weights.{lastSlot}
+use Rattle.rulebook.specs.Ledger.{Ledger, isWatcher}
 use Rattle.rulebook.specs.Rules.{State}
-use Rattle.record.specs.Layout.{OwnIn, ledgerOf}
+use Rattle.record.specs.Layout.{InSlot, ledgerOf}
 use Rattle.record.proofs.Places.{long-same}
 use Rattle.settling.specs.Facts.{Sound}
 use Rattle.settling.specs.Spare.{spare}
 use Rattle.settling.specs.Steps.{SameNode, Came}
-use Rattle.settling.proofs.FactLaws.{formed}
-use Rattle.settling.proofs.Sounding.{sound-placed}
+use Rattle.settling.proofs.Sounding.{own-in}
 use Rattle.settling.proofs.Spending.{same-node}
 use Rattle.storing.specs.Storing.{Storing}
 use Rattle.voter.specs.Outbox.{stateIn, Moved}
-use Rattle.voter.specs.Voting.{Castable, Live, LiveAt, Onward}
+use Rattle.voter.specs.Voting.{Castable, Live, LiveAt, CastingAt, Onward}
 use Rattle.voter.proofs.OutboxLaws.{made-in, moved-none, moved-is, moved-then}
 
 -- One node's ledgers, one after the other.
@@ -30,22 +32,26 @@ node-then a b =
       stakes = b .stakes ∙ a .stakes;
     }
 
--- The own node has a cell in every slot.
-pub live-own : {ws out : List ℕ} {at : ℕ} → Live ws out at → ledgerOf ws .own < places (ledgerOf ws)
-live-own {ws = ws} v = sound-placed (ledgerOf ws) (v .sound) .mine
+-- A node that votes stays one.
+pub votes-on : {l m : Ledger} → SameNode l m → isWatcher l ≡ false → isWatcher m ≡ false
+unfolding isWatcher
+votes-on e v = (λ i. eqb (e .own i) (e .count i)) ∙ v
 
-pub live-owned : {ws out : List ℕ} {at s : ℕ} → LiveAt ws out at s → OwnIn ws s
-live-owned v = record { long = v .live .long; slot = omega (arith, v .high); own = live-own (v .live) }
+pub live-slot : {ws out : List ℕ} {at s : ℕ} → LiveAt ws out at s → InSlot ws s
+live-slot v = record { long = v .live .long; slot = omega (arith, v .high) }
 
 -- A vote of any node of the table can be stored.
 pub live-storing : {ws out : List ℕ} {at s n : ℕ} → LiveAt ws out at s → n < ledgerOf ws .count → Storing ws s n
 live-storing v h = record { long = v .live .long; sound = v .live .sound; low = v .low; high = v .high; node = h }
 
-pub live-castable : {ws out : List ℕ} {at s : ℕ} → LiveAt ws out at s → Castable ws out at s
-live-castable v =
+pub casting-at : {ws out : List ℕ} {at s : ℕ} → Live ws out at → isWatcher (ledgerOf ws) ≡ false → 1 ≤ s → s ≤ lastSlot → CastingAt ws out at s
+casting-at h v low high = record { live = record { live = h; low = low; high = high }; votes = v }
+
+pub casting-castable : {ws out : List ℕ} {at s : ℕ} → CastingAt ws out at s → Castable ws out at s
+casting-castable {ws = ws} v =
     record {
-      storing = live-storing v (formed _ (v .live .sound .formed) .head .mine);
-      room = omega (arith, v .live .budget, v .live .room);
+      storing = live-storing (v .live) (own-in (ledgerOf ws) (v .live .live .sound) (v .votes));
+      room = omega (arith, v .live .live .budget, v .live .live .room);
     }
 
 module _ {ws out : List ℕ} {at : ℕ} (v : Live ws out at) where

@@ -1,8 +1,11 @@
 -- What casting asks of the lent memory, and what it leaves.
+use mathlib.Core.Path.{_≡_}
+use mathlib.Core.Bool.{false}
 use mathlib.Core.List.{List}
 use Prim.Native.Nat.{ℕ, _+_, _*_, _≤_, _<_}
 use lib.ListN.{length}
 use Rattle.rulebook.specs.Weights.{lastSlot}
+use Rattle.rulebook.specs.Ledger.{isWatcher}
 use Rattle.rulebook.specs.Rules.{State}
 use Rattle.rulebook.specs.Run.{mostRecords}
 use Rattle.rulebook.specs.WellFormed.{outboxWords}
@@ -30,6 +33,11 @@ pub record LiveAt (ws out : List ℕ) (at s : ℕ) : Type 0 where
   pub live : Live ws out at
   pub low : 1 ≤ s
   pub high : s ≤ lastSlot
+
+-- Likewise, of a node that is no watcher.
+pub record CastingAt (ws out : List ℕ) (at s : ℕ) : Type 0 where
+  pub live : LiveAt ws out at s
+  pub votes : isWatcher (ledgerOf ws) ≡ false
 
 -- What a part of a call leaves: the state q, and a call of the same node that can go on.
 pub record Onward (ws out : List ℕ) (at : ℕ) (ws' left : List ℕ) (made : ℕ) (q : State) : Type 0 where

@@ -5,7 +5,7 @@ ghost use lib.ListN.{length};
 ghost use Rattle.rulebook.specs.Ledger.{noInitial};
 ghost use Rattle.rulebook.specs.Rules.{cast, castSkip, castSkips};
 ghost use Rattle.voter.specs.Outbox.{stateIn, Told, Moved};
-ghost use Rattle.voter.specs.Voting.{Castable, LiveAt, Onward};
+ghost use Rattle.voter.specs.Voting.{Castable, CastingAt, Onward};
 use kinds::vote_number;
 use record::own;
 use record::own_cell;
@@ -52,7 +52,7 @@ pub fn no_initial(c: Cell) -> bool
 
 // Casts skip in a slot without an own initial vote.
 fn cast_skip(rec: &mut [u64], outbox: &mut [u64], at: usize, s: Slot) -> usize
-    requires { ⌜ LiveAt (now rec) (now outbox) at (s .0) ⌝ }
+    requires { ⌜ CastingAt (now rec) (now outbox) at (s .0) ⌝ }
     ensures { λ r. ⌜ Onward (now (rec .entry)) (now (outbox .entry)) at (now (rec .exit)) (now (outbox .exit)) r (castSkip (stateIn (now (rec .entry)) (now (outbox .entry)) at) (s .0)) ⌝ }
 {
     if no_initial(own_cell(rec, s)) {
@@ -63,7 +63,7 @@ fn cast_skip(rec: &mut [u64], outbox: &mut [u64], at: usize, s: Slot) -> usize
 
 // Casts skip in every slot of the window without an own initial vote, ascending.
 pub fn cast_skips(rec: &mut [u64], outbox: &mut [u64], at: usize, s: Slot) -> usize
-    requires { ⌜ LiveAt (now rec) (now outbox) at (s .0) ⌝ }
+    requires { ⌜ CastingAt (now rec) (now outbox) at (s .0) ⌝ }
     ensures { λ r. ⌜ Onward (now (rec .entry)) (now (outbox .entry)) at (now (rec .exit)) (now (outbox .exit)) r (castSkips (stateIn (now (rec .entry)) (now (outbox .entry)) at) (s .0)) ⌝ }
 {
     let first = (s.0 - 1) / 4 * 4 + 1;

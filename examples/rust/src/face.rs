@@ -13,6 +13,7 @@ mod c {
         pub fn qr_pieces_words() -> usize;
         pub fn qr_pieces_bytes() -> usize;
         pub fn qr_start(record: *mut u64, record_words: usize, stakes: *const u64, stake_count: usize, own: usize, genesis: u64) -> u64;
+        pub fn qr_watch(record: *mut u64, record_words: usize, stakes: *const u64, stake_count: usize, genesis: u64) -> u64;
         pub fn qr_vote(record: *mut u64, record_words: usize, outbox: *mut u64, outbox_words: usize, made: *mut usize,
                        kind: u64, node: usize, slot: usize, block: u64) -> u64;
         pub fn qr_block(record: *mut u64, record_words: usize, outbox: *mut u64, outbox_words: usize, made: *mut usize,
@@ -79,6 +80,10 @@ pub fn pieces_bytes() -> usize {
 
 pub fn start(record: &mut [u64], stakes: &[u64], own: usize, genesis: u64) -> u64 {
     unsafe { c::qr_start(record.as_mut_ptr(), record.len(), stakes.as_ptr(), stakes.len(), own, genesis) }
+}
+
+pub fn watch(record: &mut [u64], stakes: &[u64], genesis: u64) -> u64 {
+    unsafe { c::qr_watch(record.as_mut_ptr(), record.len(), stakes.as_ptr(), stakes.len(), genesis) }
 }
 
 pub fn vote(

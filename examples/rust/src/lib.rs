@@ -1,8 +1,9 @@
 //! Safe Rust over the Quointrowel library: a ledger node's pool and voter, its certificate writer and its checker.
 //!
 //! A node is its [`Record`]. The host feeds it votes, blocks, timeouts and other nodes' certificates; what the node does in
-//! answer stands in an [`Outbox`], the votes to be sent among it. Certificates and finality proofs are bytes, written by a record
-//! and checked by [`check_certificate`] and [`check_proof`] against the stakes alone. Every refusal is a [`Refusal`].
+//! answer stands in an [`Outbox`], the votes to be sent among it; a watcher, [`Record::watch`], never votes. Certificates and
+//! finality proofs are bytes, written by a record and checked by [`check_certificate`] and [`check_proof`] against the stakes
+//! alone. Every refusal is a [`Refusal`].
 //!
 //! ```no_run
 //! use quointrowel::{check_proof, Block, Event, Node, Outbox, Record, Slot};

@@ -59,6 +59,14 @@ impl Record {
         Ok(Record { words })
     }
 
+    /// A fresh watcher of a ring of these stakes: a node that has no own number and never votes. It takes votes in every node's
+    /// name and refuses timeouts with [`Refusal::BadKind`].
+    pub fn watch(stakes: &[u64], genesis: u64) -> Result<Record, Refusal> {
+        let mut words = vec![0; face::record_words(stakes.len())];
+        Refusal::check(face::watch(&mut words, stakes, genesis), 0)?;
+        Ok(Record { words })
+    }
+
     /// Words that were stored.
     pub fn from_words(words: Vec<u64>) -> Record {
         Record { words }

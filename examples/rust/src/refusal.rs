@@ -69,7 +69,9 @@ impl fmt::Display for Refusal {
             BadSizes => "stake table, own number or genesis out of range",
             BadNode => "node number not in the table",
             BadSlot => "slot not 1 to 16",
-            BadKind => "kind not 1 to 5; of a certificate with a large table, not 11 to 15",
+            BadKind => {
+                "kind not 1 to 5; of a certificate with a large table, not 11 to 15; timeout for a watcher"
+            }
             BadBlock => "block 0 where one is needed, or not 0 where none is",
             OwnName => "vote in the own node's name from outside",
             AlreadyKept => {

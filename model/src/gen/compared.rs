@@ -116,6 +116,7 @@ fn other_ring(w: &mut Writer, ring: &Ring) -> Ring {
             ring.camps.iter_mut().for_each(|camp| camp.retain(|&node| node != last));
         }
         7 if ring.nodes() < MOST_NODES && ring.stakes.iter().sum::<u64>() < MOST_TOTAL => ring.stakes.push(1),
+        8 => ring.watches = !ring.watches,
         _ => {}
     }
     ring

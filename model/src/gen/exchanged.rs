@@ -78,8 +78,8 @@ impl Peers {
     fn spread(&mut self, w: &mut Writer) {
         for from in 0..self.count() {
             let own = self.node(w, from).own();
-            let cast: Vec<_> =
-                self.node(w, from).stored_votes().into_iter().filter(|&(_, node, _)| node == own).collect();
+            let mut cast = self.node(w, from).stored_votes();
+            cast.retain(|&(_, node, _)| Some(node) == own);
             for (slot, node, vote) in cast {
                 if self.sent.insert((from, slot, vote.kind(), vote.block())) {
                     for to in (0..self.count()).filter(|&to| to != from) {
@@ -217,7 +217,7 @@ fn some_parent(w: &mut Writer, peers: &Peers, slot: u64) -> (u64, u64) {
 
 /// The nodes that no one simulates.
 fn strangers(w: &Writer, peers: &Peers) -> Vec<(usize, usize)> {
-    let simulated: Vec<usize> = (0..peers.count()).map(|member| peers.node(w, member).own()).collect();
+    let simulated: Vec<usize> = (0..peers.count()).filter_map(|member| peers.node(w, member).own()).collect();
     let camps = w.ring.camps.iter().enumerate();
     let all = camps.flat_map(|(camp, nodes)| nodes.iter().map(move |&node| (camp, node)));
     all.filter(|(_, node)| !simulated.contains(node)).collect()

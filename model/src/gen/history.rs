@@ -204,7 +204,7 @@ fn plan(w: &mut Writer, numbers: &Numbers, first: u64, last: u64) -> Vec<Action>
         }
         let second = random.pick(SECONDS);
         for (camp, members) in ring.camps.iter().enumerate() {
-            for &node in members.iter().filter(|&&node| node != ring.own) {
+            for &node in members.iter().filter(|&&node| !ring.is_own(node)) {
                 let lean = if random.percent(absent_percent) { Lean::Nothing } else { leans[camp] };
                 let (kind, block) = match lean {
                     Lean::Block(i) => (1, blocks[i]),

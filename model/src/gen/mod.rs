@@ -12,6 +12,7 @@ mod received;
 mod ring;
 mod scenes;
 mod trays;
+mod watched;
 mod writer;
 
 use crate::node::LAST_SLOT;
@@ -31,7 +32,7 @@ pub struct Script {
 
 /// Seeds in a row go through the scenes in turn, each as often as it has
 /// numbers here.
-const SCENES: u64 = 92;
+const SCENES: u64 = 102;
 
 /// Of so many scripts one has very many votes.
 const MANY_LINES_ONCE_IN: u64 = 1000;
@@ -49,24 +50,25 @@ pub fn script(seed: u64) -> Script {
         4 => only_malformed(random),
         5 | 6 => faults(random),
         7 | 8 => lone(random),
-        9..=12 | 67 => packets_only(random),
+        9..=12 | 67 | 84 | 90 => packets_only(random),
         13..=15 => soup(random),
         16..=18 => pushes(random),
         19 => brink(random),
         20..=23 | 75..=77 => avalanche(random),
-        24..=27 => standoffs(random),
+        24..=27 | 87 => standoffs(random),
         28 | 29 => bridges(random),
         30 | 31 => leaps(random),
-        32..=34 => messages(random),
+        32..=34 | 85 => messages(random),
         35 | 36 => trays(random),
-        37..=45 | 78 | 79 => waits(random),
+        37..=45 | 78 | 79 | 88 | 89 => waits(random),
         46..=48 => ancestry(random),
         49..=52 => in_pieces(random),
-        53..=57 => compared(random),
+        53..=57 | 86 => compared(random),
         58..=61 => cards(random),
         62..=66 => received(random),
         68..=71 => plays(random),
         72..=74 => exchanged(random),
+        80..=83 => watched(random),
         _ => history(random),
     }
 }
@@ -84,6 +86,12 @@ fn begin(mut random: Random, mut ring: Ring, least: u64, most: u64) -> Writer {
     let mut w = Writer::new(random, ring, budget);
     w.start();
     w
+}
+
+/// Now and then with a watcher, where a scene does not live by the own votes.
+fn begin_any(mut random: Random, mut ring: Ring, least: u64, most: u64) -> Writer {
+    ring.watches = random.percent(12);
+    begin(random, ring, least, most)
 }
 
 fn end(mut w: Writer) -> Script {
@@ -114,7 +122,7 @@ fn quit(w: &mut Writer) {
 
 fn history(mut random: Random) -> Script {
     let ring = history::ring_for_history(&mut random);
-    let mut w = begin(random, ring, 20, 270);
+    let mut w = begin_any(random, ring, 20, 270);
     history::history(&mut w);
     let most = w.random.pick(&[0, 5, 15]);
     finish_with_audit(w, most)
@@ -122,14 +130,14 @@ fn history(mut random: Random) -> Script {
 
 fn pushes(mut random: Random) -> Script {
     let ring = Ring::small(&mut random);
-    let mut w = begin(random, ring, 50, 250);
+    let mut w = begin_any(random, ring, 50, 250);
     scenes::pushes(&mut w);
     finish_with_audit(w, 8)
 }
 
 fn soup(mut random: Random) -> Script {
     let ring = if random.percent(70) { Ring::small(&mut random) } else { Ring::any(&mut random) };
-    let mut w = begin(random, ring, 30, 250);
+    let mut w = begin_any(random, ring, 30, 250);
     scenes::soup(&mut w);
     finish_with_audit(w, 8)
 }
@@ -143,7 +151,7 @@ fn lone(mut random: Random) -> Script {
 
 fn brink(mut random: Random) -> Script {
     let ring = Ring::any(&mut random);
-    let mut w = begin(random, ring, 10, 150);
+    let mut w = begin_any(random, ring, 10, 150);
     scenes::brink(&mut w);
     finish_with_audit(w, 10)
 }
@@ -167,7 +175,7 @@ fn standoffs(mut random: Random) -> Script {
 fn waits(mut random: Random) -> Script {
     let nodes = random.pick(&[5, 5, 5, 6, 8]);
     let mut ring = Ring::of_fifths(&mut random, nodes);
-    if random.percent(35) {
+    if random.percent(45) {
         ring = ring.widened(&mut random);
     }
     let mut w = begin(random, ring, 100, 200);
@@ -177,14 +185,14 @@ fn waits(mut random: Random) -> Script {
 
 fn ancestry(mut random: Random) -> Script {
     let ring = Ring::small(&mut random);
-    let mut w = begin(random, ring, 60, 200);
+    let mut w = begin_any(random, ring, 60, 200);
     scenes::ancestry(&mut w);
     finish_with_audit(w, 5)
 }
 
 fn bridges(mut random: Random) -> Script {
     let ring = Ring::small(&mut random);
-    let mut w = begin(random, ring, 150, 250);
+    let mut w = begin_any(random, ring, 150, 250);
     scenes::bridges(&mut w);
     finish_with_audit(w, 5)
 }
@@ -201,14 +209,14 @@ fn compared(mut random: Random) -> Script {
     if random.percent(15) {
         ring = ring.widened(&mut random);
     }
-    let mut w = begin(random, ring, 20, 50);
+    let mut w = begin_any(random, ring, 20, 50);
     compared::compared(&mut w);
     end(w)
 }
 
 fn cards(mut random: Random) -> Script {
     let ring = cards::ring_for_cards(&mut random);
-    let mut w = begin(random, ring, 40, 200);
+    let mut w = begin_any(random, ring, 40, 200);
     cards::cards(&mut w);
     end(w)
 }
@@ -227,9 +235,16 @@ fn received(mut random: Random) -> Script {
     if random.percent(15) {
         ring = ring.widened(&mut random);
     }
-    let mut w = begin(random, ring, 40, 150);
+    let mut w = begin_any(random, ring, 40, 150);
     received::received(&mut w);
     finish_with_audit(w, 15)
+}
+
+fn watched(mut random: Random) -> Script {
+    let ring = Ring::small(&mut random);
+    let mut w = begin(random, ring, 20, 100);
+    watched::watched(&mut w);
+    finish_with_audit(w, 10)
 }
 
 fn plays(mut random: Random) -> Script {
@@ -237,7 +252,7 @@ fn plays(mut random: Random) -> Script {
     let ring =
         if random.percent(80) { Ring::of_fifths(&mut random, nodes) } else { Ring::small(&mut random) };
     let ring = if random.percent(15) { ring.widened(&mut random) } else { ring };
-    let mut w = begin(random, ring, 60, 150);
+    let mut w = begin_any(random, ring, 60, 150);
     received::plays(&mut w);
     finish_with_audit(w, 10)
 }
@@ -246,7 +261,7 @@ fn exchanged(mut random: Random) -> Script {
     let nodes = random.pick(&[5, 6, 8, 10]);
     let ring =
         if random.percent(60) { Ring::of_fifths(&mut random, nodes) } else { Ring::small(&mut random) };
-    let mut w = begin(random, ring, 80, 220);
+    let mut w = begin_any(random, ring, 80, 220);
     exchanged::exchanged(&mut w);
     finish_with_audit(w, 10)
 }
@@ -382,7 +397,7 @@ fn only_malformed(mut random: Random) -> Script {
 /// Refused lines over a node with some history.
 fn faults(mut random: Random) -> Script {
     let ring = Ring::small(&mut random);
-    let mut w = begin(random, ring, 20, 60);
+    let mut w = begin_any(random, ring, 20, 60);
     scenes::soup(&mut w);
     let numbers = Numbers::any(&mut w.random, w.ring.genesis);
     let room = w.random.range(20, 150) as usize;
@@ -405,7 +420,7 @@ fn trays(mut random: Random) -> Script {
         6..=8 => Ring::any(&mut random),
         _ => Ring::crowd(&mut random),
     };
-    let mut w = begin(random, ring, 10, 80);
+    let mut w = begin_any(random, ring, 10, 80);
     trays::trays(&mut w);
     finish_with_audit(w, 8)
 }

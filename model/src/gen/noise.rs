@@ -52,12 +52,12 @@ pub fn some(w: &mut Writer, numbers: &Numbers) {
 /// What people read, for its own sake and for what it must leave alone.
 fn for_people(w: &mut Writer) {
     let slot = w.random.pick(&[1, 1, 2, 5, LAST_SLOT, 0, LAST_SLOT + 1, 1 << 32 | 1, u64::MAX]);
-    let line = match w.random.below(8) {
+    let line = match w.random.below(9) {
         0 => "board".to_string(),
         1 | 2 => format!("board {slot}"),
         3 => format!("board {slot} {}", w.random.any_number()),
         4 | 5 => "help".to_string(),
-        6 => format!("why {}", w.random.pick(&[0, 1, 9, 15, 18, 19, 257, u64::MAX])),
+        6 | 7 => format!("why {}", w.random.pick(&[0, 1, 9, 15, 18, 19, 257, u64::MAX])),
         _ => return page_of_votes(w, slot),
     };
     w.ask_for_text(&line);
@@ -78,8 +78,8 @@ fn block_of(w: &mut Writer, numbers: &Numbers, slot: u64) -> u64 {
 
 /// A vote in the place of a stored one, or that very vote.
 fn contradict(w: &mut Writer, numbers: &Numbers) {
-    let own = w.ring.own;
-    let stored: Vec<_> = w.node().stored_votes().into_iter().filter(|&(_, node, _)| node != own).collect();
+    let mut stored = w.node().stored_votes();
+    stored.retain(|&(_, node, _)| !w.ring.is_own(node));
     if stored.is_empty() {
         return;
     }
@@ -219,6 +219,11 @@ pub fn bad_start(w: &mut Writer) -> String {
         2 => own = w.random.pick(&[stakes.len() as u64, MOST_NODES as u64, u64::MAX]),
         3 => genesis = 0,
         _ => spoil_table(&mut w.random, &mut stakes),
+    }
+    // A watcher's start has the same faults but that of the own number.
+    let fault_of_own = own != ring.own as u64;
+    if !fault_of_own && w.random.percent(25) {
+        return format!("watch {genesis} {}", super::ring::words(&stakes)).trim_end().to_string();
     }
     // Without stakes there must be no space at the line's end.
     format!("start {own} {genesis} {}", super::ring::words(&stakes)).trim_end().to_string()

@@ -21,7 +21,9 @@ pub fn received(w: &mut Writer) {
     let fault = w.random.pick(&[0, 5, 30]);
     while !w.full() {
         let slot = w.random.pick(slots);
-        let block = w.random.pick(&numbers.of_slot(slot));
+        let any = w.random.pick(&numbers.of_slot(slot));
+        let own = w.node().own_cell(slot).notar_block();
+        let block = own.filter(|_| w.random.percent(50)).unwrap_or(any);
         match w.random.below(19) {
             0..=4 => {
                 let cert = some_cert(w, block);
@@ -51,12 +53,12 @@ pub fn plays(w: &mut Writer) {
     let numbers = Numbers::any(&mut w.random, w.ring.genesis);
     w.say("look");
     while !w.full() {
-        match w.random.below(7) {
+        match w.random.below(8) {
             0 => opened(w, &numbers),
-            1 | 2 => awaited(w, &numbers),
-            3 => own_final(w, &numbers),
-            4 => halves(w, &numbers),
-            5 => walked(w, &numbers),
+            1..=3 => awaited(w, &numbers),
+            4 => own_final(w, &numbers),
+            5 => halves(w, &numbers),
+            6 => walked(w, &numbers),
             _ => lies(w, &numbers),
         }
         if w.random.percent(10) {
@@ -208,9 +210,10 @@ fn two_fifths(w: &mut Writer, slot: u64, block: u64) {
     let mut camps = [1, 2, 3, 4];
     w.random.shuffle(&mut camps);
     let nodes = [w.ring.camps[camps[0]].clone(), w.ring.camps[camps[1]].clone()].concat();
-    let own = w.ring.own;
-    for node in nodes.into_iter().filter(|&node| node != own) {
-        w.vote(1, node, slot, block);
+    for node in nodes {
+        if !w.ring.is_own(node) {
+            w.vote(1, node, slot, block);
+        }
     }
 }
 

@@ -11,6 +11,8 @@ use crate::stakes::{Family, Stakes, Threshold, MOST_NODES, MOST_NODES_OF_SMALL, 
 pub struct Ring {
     pub stakes: Vec<u64>,
     pub own: usize,
+    /// The node is a watcher: it has no own number, and `own` is as any other.
+    pub watches: bool,
     pub genesis: u64,
     pub camps: Vec<Vec<usize>>,
 }
@@ -64,6 +66,7 @@ impl Ring {
         let mut ring = Ring {
             stakes: named.iter().map(|&(_, stake)| stake).collect(),
             own: 0,
+            watches: false,
             genesis: genesis(random),
             camps: (0..5).map(|camp| (0..nodes).filter(|&n| named[n].0 == camp).collect()).collect(),
         };
@@ -182,7 +185,7 @@ impl Ring {
             stakes[place] = self.stakes[node];
         }
         let camps = self.camps.iter().map(|camp| camp.iter().map(|&node| places[node]).collect()).collect();
-        Ring { stakes, own: places[self.own], genesis: self.genesis, camps }
+        Ring { stakes, own: places[self.own], watches: self.watches, genesis: self.genesis, camps }
     }
 
     /// A large table in which no node stands out.
@@ -204,7 +207,7 @@ impl Ring {
     pub fn with(random: &mut Random, stakes: Vec<u64>) -> Ring {
         let camps = lightest_first(random, &stakes);
         let own = random.pick(&camps[0]);
-        Ring { stakes, own, genesis: genesis(random), camps }
+        Ring { stakes, own, watches: false, genesis: genesis(random), camps }
     }
 
     pub fn nodes(&self) -> usize {
@@ -220,15 +223,23 @@ impl Ring {
         self.table().family().kinds_after() + meaning
     }
 
+    /// Whether the node votes by itself, so that no vote in its name is taken.
+    pub fn is_own(&self, node: usize) -> bool {
+        node == self.own && !self.watches
+    }
+
     /// The other nodes that are in a camp.
     pub fn others(&self) -> Vec<usize> {
         let mut others: Vec<usize> = self.camps.concat();
-        others.retain(|&node| node != self.own);
+        others.retain(|&node| !self.is_own(node));
         others.sort_unstable();
         others
     }
 
     pub fn start_line(&self) -> String {
+        if self.watches {
+            return format!("watch {} {}", self.genesis, self.stake_words());
+        }
         format!("start {} {} {}", self.own, self.genesis, self.stake_words())
     }
 

@@ -139,6 +139,7 @@ const PRIMED: &[[Lean; 4]] = &[
     [S, S, A, A],
     [S, A, B, C],
     [S, A, B, C],
+    [S, A, B, C],
     [S, S, A, B],
     [A, A, B, B],
     [S, S, S, A],
@@ -278,7 +279,7 @@ pub fn standoffs(w: &mut Writer) {
 
 fn camp_votes(w: &mut Writer, camps: &[usize], slot: u64, lean: Lean, blocks: &[u64; 4]) {
     let mut nodes: Vec<usize> = camps.iter().flat_map(|&camp| w.ring.camps[camp].clone()).collect();
-    nodes.retain(|&node| node != w.ring.own);
+    nodes.retain(|&node| !w.ring.is_own(node));
     w.random.shuffle(&mut nodes);
     for node in nodes {
         match lean {

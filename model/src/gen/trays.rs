@@ -65,7 +65,7 @@ fn everyone(w: &mut Writer, numbers: &Numbers, slot: u64) {
     let blocks = numbers.of_slot(slot);
     let (kind, block) =
         w.random.pick(&[(1, blocks[0]), (1, blocks[1]), (2, blocks[0]), (3, 0), (4, 0), (5, 0)]);
-    let mut nodes: Vec<usize> = (0..w.ring.nodes()).filter(|&node| node != w.ring.own).collect();
+    let mut nodes: Vec<usize> = (0..w.ring.nodes()).filter(|&node| !w.ring.is_own(node)).collect();
     w.random.shuffle(&mut nodes);
     if nodes.len() > 300 && !w.random.percent(5) {
         nodes.truncate(100);
@@ -94,7 +94,7 @@ fn some_vote(w: &mut Writer, numbers: &Numbers, slots: u64, fault: u64) -> [u64;
     let kind = w.random.pick(&[1, 1, 1, 1, 2, 2, 3, 3, 4, 5]);
     let mut node = w.random.index(w.ring.nodes());
     // The own name stands in few lines where faults are few.
-    if node == w.ring.own && !w.random.percent(fault) {
+    if w.ring.is_own(node) && !w.random.percent(fault) {
         node = (node + 1) % w.ring.nodes();
     }
     let mut vote = [kind, node as u64, slot, if kind <= 2 { w.random.pick(&blocks[..choices]) } else { 0 }];

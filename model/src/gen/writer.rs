@@ -192,7 +192,7 @@ impl Writer {
     pub fn repeat_some_line(&mut self) {
         let recent = self.said.len().min(40);
         let line = self.said[self.said.len() - 1 - self.random.index(recent)].clone();
-        if !line.starts_with("start") {
+        if !line.starts_with("start") && !line.starts_with("watch") {
             self.say(line);
         }
     }

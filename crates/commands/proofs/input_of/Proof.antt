@@ -84,13 +84,24 @@ unfolding inputOf
 returns-7 c =
     sym (choose-off _ _ _ (sym (c .before .before .before .before .before .before .before .before .before .before .before .before .before .before .before .before .before .before .before .same .ensures) ∙ c .before .before .before .before .before .before .before .before .before .before .before .before .before .before .before .before .before .before .if1 .left) ∙ choose-off _ _ _ (sym (c .before .before .before .before .before .before .before .before .before .before .before .before .before .before .before .before .same2 .ensures) ∙ c .before .before .before .before .before .before .before .before .before .before .before .before .before .before .before .if2 .left) ∙ choose-off _ _ _ (sym (c .before .before .before .before .before .before .before .before .before .before .before .before .before .same3 .ensures) ∙ c .before .before .before .before .before .before .before .before .before .before .before .before .if3 .left) ∙ choose-off _ _ _ (sym (c .before .before .before .before .before .before .before .before .before .before .same4 .ensures) ∙ c .before .before .before .before .before .before .before .before .before .if4 .left) ∙ choose-off _ _ _ (sym (c .before .before .before .before .before .before .before .same5 .ensures) ∙ c .before .before .before .before .before .before .if5 .left) ∙ choose-off _ _ _ (sym (c .before .before .before .before .same6 .ensures) ∙ c .before .before .before .if6 .left) ∙ choose-on _ _ _ (sym (c .before .same7 .ensures) ∙ c .if7 .taken))
 
-question-of-requires : tie.Need-question-of-requires
-question-of-requires c κs = search needs
+slice-aggregate-same-8 : tie.Need-slice-aggregate-same-8
+slice-aggregate-same-8 c = search needs
+
+same-requires-8 : tie.Need-same-requires-8
+same-requires-8 c κs = search needs
 
 returns-8 : tie.Need-returns-8
 unfolding inputOf
 returns-8 c =
-    c .question-of .ensures ∙ sym (choose-off _ _ _ (sym (c .before .before .before .before .before .before .before .before .before .before .before .before .before .before .before .before .before .before .before .before .same .ensures) ∙ c .before .before .before .before .before .before .before .before .before .before .before .before .before .before .before .before .before .before .before .if1 .left) ∙ choose-off _ _ _ (sym (c .before .before .before .before .before .before .before .before .before .before .before .before .before .before .before .before .before .same2 .ensures) ∙ c .before .before .before .before .before .before .before .before .before .before .before .before .before .before .before .before .if2 .left) ∙ choose-off _ _ _ (sym (c .before .before .before .before .before .before .before .before .before .before .before .before .before .before .same3 .ensures) ∙ c .before .before .before .before .before .before .before .before .before .before .before .before .before .if3 .left) ∙ choose-off _ _ _ (sym (c .before .before .before .before .before .before .before .before .before .before .before .same4 .ensures) ∙ c .before .before .before .before .before .before .before .before .before .before .if4 .left) ∙ choose-off _ _ _ (sym (c .before .before .before .before .before .before .before .before .same5 .ensures) ∙ c .before .before .before .before .before .before .before .if5 .left) ∙ choose-off _ _ _ (sym (c .before .before .before .before .before .same6 .ensures) ∙ c .before .before .before .before .if6 .left) ∙ choose-off _ _ _ (sym (c .before .before .same7 .ensures) ∙ c .before .if7 .left))
+    sym (choose-off _ _ _ (sym (c .before .before .before .before .before .before .before .before .before .before .before .before .before .before .before .before .before .before .before .before .before .before .same .ensures) ∙ c .before .before .before .before .before .before .before .before .before .before .before .before .before .before .before .before .before .before .before .before .before .if1 .left) ∙ choose-off _ _ _ (sym (c .before .before .before .before .before .before .before .before .before .before .before .before .before .before .before .before .before .before .before .same2 .ensures) ∙ c .before .before .before .before .before .before .before .before .before .before .before .before .before .before .before .before .before .before .if2 .left) ∙ choose-off _ _ _ (sym (c .before .before .before .before .before .before .before .before .before .before .before .before .before .before .before .before .same3 .ensures) ∙ c .before .before .before .before .before .before .before .before .before .before .before .before .before .before .before .if3 .left) ∙ choose-off _ _ _ (sym (c .before .before .before .before .before .before .before .before .before .before .before .before .before .same4 .ensures) ∙ c .before .before .before .before .before .before .before .before .before .before .before .before .if4 .left) ∙ choose-off _ _ _ (sym (c .before .before .before .before .before .before .before .before .before .before .same5 .ensures) ∙ c .before .before .before .before .before .before .before .before .before .if5 .left) ∙ choose-off _ _ _ (sym (c .before .before .before .before .before .before .before .same6 .ensures) ∙ c .before .before .before .before .before .before .if6 .left) ∙ choose-off _ _ _ (sym (c .before .before .before .before .same7 .ensures) ∙ c .before .before .before .if7 .left) ∙ choose-on _ _ _ (sym (c .before .same8 .ensures) ∙ c .if8 .taken))
+
+question-of-requires : tie.Need-question-of-requires
+question-of-requires c κs = search needs
+
+returns-9 : tie.Need-returns-9
+unfolding inputOf
+returns-9 c =
+    c .question-of .ensures ∙ sym (choose-off _ _ _ (sym (c .before .before .before .before .before .before .before .before .before .before .before .before .before .before .before .before .before .before .before .before .before .before .before .same .ensures) ∙ c .before .before .before .before .before .before .before .before .before .before .before .before .before .before .before .before .before .before .before .before .before .before .if1 .left) ∙ choose-off _ _ _ (sym (c .before .before .before .before .before .before .before .before .before .before .before .before .before .before .before .before .before .before .before .before .same2 .ensures) ∙ c .before .before .before .before .before .before .before .before .before .before .before .before .before .before .before .before .before .before .before .if2 .left) ∙ choose-off _ _ _ (sym (c .before .before .before .before .before .before .before .before .before .before .before .before .before .before .before .before .before .same3 .ensures) ∙ c .before .before .before .before .before .before .before .before .before .before .before .before .before .before .before .before .if3 .left) ∙ choose-off _ _ _ (sym (c .before .before .before .before .before .before .before .before .before .before .before .before .before .before .same4 .ensures) ∙ c .before .before .before .before .before .before .before .before .before .before .before .before .before .if4 .left) ∙ choose-off _ _ _ (sym (c .before .before .before .before .before .before .before .before .before .before .before .same5 .ensures) ∙ c .before .before .before .before .before .before .before .before .before .before .if5 .left) ∙ choose-off _ _ _ (sym (c .before .before .before .before .before .before .before .before .same6 .ensures) ∙ c .before .before .before .before .before .before .before .if6 .left) ∙ choose-off _ _ _ (sym (c .before .before .before .before .before .same7 .ensures) ∙ c .before .before .before .before .if7 .left) ∙ choose-off _ _ _ (sym (c .before .before .same8 .ensures) ∙ c .before .if8 .left))
 
 pub input-of-spec : {M : Type 1} → statement M
 input-of-spec =
@@ -117,5 +128,8 @@ input-of-spec =
     slice-aggregate-same-7
     same-requires-7
     returns-7
+    slice-aggregate-same-8
+    same-requires-8
+    returns-8
     question-of-requires
-    returns-8)
+    returns-9)

@@ -2,7 +2,7 @@
 use mathlib.Core.Path.{_∙_, ap, sym}
 use borrow.Author.Needs.{needs}
 use Rattle.rulebook.specs.Rules.{State, maySkipFallback}
-use Rattle.voter.proofs.LiveLaws.{live-castable, live-owned, onward, onward-none}
+use Rattle.voter.proofs.LiveLaws.{casting-castable, live-slot, onward, onward-none}
 use Rattle.voter.proofs.OutboxLaws.{moved-is}
 use Rattle.voter.specs.Outbox.{stateIn}
 use Rattle.fallbacks.proofs.FallbackLaws.{skipFallback-on, skipFallback-off, skipFallback-comes}
@@ -10,13 +10,13 @@ use Rattle.fallbacks.proofs.add_skip_fallback.Statement.{statement}
 use Rattle.fallbacks.proofs.add_skip_fallback.Tie as tie
 
 own-cell-requires : tie.Need-own-cell-requires
-own-cell-requires c κs = live-owned (c .before .before .before .pre)
+own-cell-requires c κs = live-slot (c .before .before .before .pre .live)
 
 may-skip-fallback-requires : tie.Need-may-skip-fallback-requires
 may-skip-fallback-requires c κs = search needs
 
 cast-vote-requires : tie.Need-cast-vote-requires
-cast-vote-requires c κs = live-castable (c .before .before .before .before .before .before .before .before .pre)
+cast-vote-requires c κs = casting-castable (c .before .before .before .before .before .before .before .before .pre)
 
 same-length : tie.Need-same-length
 same-length c = search needs
@@ -28,7 +28,7 @@ returns : tie.Need-returns
 returns c =
     let a = c .before .before .before .before .before .before .before .before .before .before .before .before .before .args in let p = c .before .before .before .before .before .before .before .before .before .before .before .before .before .pre in let o : State = stateIn (a .rec .now) (a .outbox .now) (a .at) in let q = c .before .before .before .before .cast-vote in
     let e = ap maySkipFallback (sym (c .before .before .before .before .before .before .before .before .before .own-cell .ensures)) ∙ sym (c .before .before .before .before .before .before .before .before .may-skip-fallback .ensures) ∙ c .before .before .before .before .before .before .before .if1 .taken in
-    onward (p .live) (q .kept .0) (q .kept .1 .0) (moved-is (q .ensures) (skipFallback-on o (a .s .0) e)) (skipFallback-comes o (a .s .0) (p .live .sound) (p .low) (p .high))
+    onward (p .live .live) (q .kept .0) (q .kept .1 .0) (moved-is (q .ensures) (skipFallback-on o (a .s .0) e)) (skipFallback-comes o (a .s .0) (p .live .live .sound) (p .votes) (p .live .low) (p .live .high))
 
 same-length-3 : tie.Need-same-length-3
 same-length-3 c = search needs
@@ -37,7 +37,7 @@ returns-2 : tie.Need-returns-2
 returns-2 c =
     let a = c .before .before .before .before .before .before .args in let p = c .before .before .before .before .before .before .pre in let o : State = stateIn (a .rec .now) (a .outbox .now) (a .at) in
     let e = ap maySkipFallback (sym (c .before .before .own-cell .ensures)) ∙ sym (c .before .may-skip-fallback .ensures) ∙ c .if1 .left in
-    onward-none (p .live) (skipFallback-off o (a .s .0) e)
+    onward-none (p .live .live) (skipFallback-off o (a .s .0) e)
 
 pub add-skip-fallback-spec : {M : Type 1} → statement M
 add-skip-fallback-spec =

@@ -7,12 +7,12 @@ use Rattle.rulebook.specs.Rules.{State, mayFinal}
 use Rattle.rulebook.specs.declared.CertificateKind.the-variants as certificate
 use Rattle.rulebook.specs.declared.Cell.{Cell}
 use Rattle.record.specs.Layout.{ledgerOf}
-use Rattle.voter.proofs.LiveLaws.{live-castable, onward, onward-none}
+use Rattle.voter.proofs.LiveLaws.{casting-castable, onward, onward-none}
 use Rattle.voter.proofs.OutboxLaws.{moved-is}
 use Rattle.voter.specs.Outbox.{stateIn}
 use Rattle.settling.proofs.Spending.{C-comes}
 use Rattle.rules.proofs.RuleLaws.{C-on, C-none, C-off}
-use Rattle.fallbacks.proofs.UnderLaws.{under-carded}
+use Rattle.fallbacks.proofs.UnderLaws.{under-carded, under-casting}
 use Rattle.rules.proofs.rule_c.Statement.{statement}
 use Rattle.rules.proofs.rule_c.Tie as tie
 
@@ -27,7 +27,7 @@ held-requires c κs = search (needs, under-carded)
 
 cast-vote-requires : tie.Need-cast-vote-requires
 cast-vote-requires c κs =
-    live-castable (c .before .before .before .before .before .before .before .before .before .before .before .pre .live)
+    casting-castable (under-casting (c .before .before .before .before .before .before .before .before .before .before .before .pre))
 
 same-length : tie.Need-same-length
 same-length c = search needs
@@ -42,7 +42,7 @@ returns c =
     let e = ap (λ (x : Cell). mayFinal x) (sym ec) ∙ sym (c .before .before .before .before .before .before .before .before .before .before .before .may-final .ensures) ∙ c .before .before .before .before .before .before .before .before .before .before .if1 .taken in
     let f = ap (λ (x : Cell). held l certificate.Notar s (x .notar)) (sym ec) ∙ sym (c .before .before .before .before .before .before .before .before .held .ensures) ∙ c .before .before .before .before .before .before .before .if2 .taken in
     let q = c .before .before .before .before .cast-vote in
-    onward (p .live .live) (q .kept .0) (q .kept .1 .0) (moved-is (q .ensures) (sym (C-on o s e f))) (C-comes o (p .live .live .sound) s (p .live .low) (p .live .high))
+    onward (p .under .live .live) (q .kept .0) (q .kept .1 .0) (moved-is (q .ensures) (sym (C-on o s e f))) (C-comes o (p .under .live .live .sound) s (p .under .live .low) (p .under .live .high) (p .votes))
 
 same-length-3 : tie.Need-same-length-3
 same-length-3 c = search needs
@@ -53,7 +53,7 @@ returns-2 c =
     let ec = c .before .before .before .before .before .own-cell .ensures in
     let e = ap (λ (x : Cell). mayFinal x) (sym ec) ∙ sym (c .before .before .before .before .may-final .ensures) ∙ c .before .before .before .if1 .taken in
     let f = ap (λ (x : Cell). held l certificate.Notar s (x .notar)) (sym ec) ∙ sym (c .before .held .ensures) ∙ c .if2 .left in
-    onward-none (p .live .live) (sym (C-none o s e f))
+    onward-none (p .under .live .live) (sym (C-none o s e f))
 
 same-length-4 : tie.Need-same-length-4
 same-length-4 c = search needs
@@ -62,7 +62,7 @@ returns-3 : tie.Need-returns-3
 returns-3 c =
     let a = c .before .before .before .before .before .before .args in let p = c .before .before .before .before .before .before .pre in let o : State = stateIn (a .rec .now) (a .outbox .now) (a .at) in let s : ℕ = a .s .0 in let l = ledgerOf (a .rec .now) in
     let ec = c .before .before .own-cell .ensures in
-    onward-none (p .live .live) (sym (C-off o s (ap (λ (x : Cell). mayFinal x) (sym ec) ∙ sym (c .before .may-final .ensures) ∙ c .if1 .left)))
+    onward-none (p .under .live .live) (sym (C-off o s (ap (λ (x : Cell). mayFinal x) (sym ec) ∙ sym (c .before .may-final .ensures) ∙ c .if1 .left)))
 
 pub rule-c-spec : {M : Type 1} → statement M
 rule-c-spec =

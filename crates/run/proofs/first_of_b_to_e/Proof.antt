@@ -4,7 +4,7 @@ use Prim.Native.Nat.{ℕ}
 use borrow.Author.Needs.{needs}
 use Rattle.voter.proofs.LiveLaws.{onward-none, onward-is}
 use Rattle.run.proofs.SlotLaws.{only-B, only-C, only-D, only-E, idle-quiet}
-use Rattle.run.proofs.ScanLaws.{still-under-way, going-start, going-more, going-found, going-last}
+use Rattle.run.proofs.ScanLaws.{voting-begins, still-voting, going-start, going-more, going-found, going-last}
 use Rattle.run.proofs.first_of_b_to_e.Statement.{statement}
 use Rattle.run.proofs.first_of_b_to_e.Tie as tie
 
@@ -20,7 +20,8 @@ returns c =
     onward-none (p .live .live) (sym (idle-quiet _ s (sym (c .before .is-idle .ensures) ∙ c .if1 .taken)))
 
 rule-b-requires : tie.Need-rule-b-requires
-rule-b-requires c κs = search needs
+rule-b-requires c κs =
+    voting-begins (c .before .before .before .before .before .before .before .pre) _ (c .before .before .before .is-idle .ensures) (c .before .before .if1 .left)
 
 same-length-2 : tie.Need-same-length-2
 same-length-2 c = search needs
@@ -31,11 +32,12 @@ same-length-3 c = search needs
 returns-2 : tie.Need-returns-2
 returns-2 c =
     let p = c .before .before .before .before .before .before .before .before .before .before .before .before .before .pre in let s : ℕ = c .before .before .before .before .before .before .before .before .before .before .before .before .before .args .s .0 in
-    going-found s 1 3 1 (going-start s 4 1 (p .live .live)) (onward-is (c .before .before .before .before .before .rule-b .ensures) (only-B _ s)) (c .if2 .taken)
+    let vb = voting-begins (c .before .before .before .before .before .before .before .before .before .before .before .before .before .pre) _ (c .before .before .before .before .before .before .before .before .before .is-idle .ensures) (c .before .before .before .before .before .before .before .before .if1 .left) in
+    going-found s 1 3 1 (going-start s 4 1 (p .live .live)) (onward-is (c .before .before .before .before .before .rule-b .ensures) (only-B _ s (vb .votes))) (c .if2 .taken)
 
 rule-c-requires : tie.Need-rule-c-requires
 rule-c-requires c κs =
-    still-under-way (c .before .before .before .before .before .before .before .before .before .before .before .before .before .before .before .pre) (c .before .before .before .before .before .before .before .rule-b .ensures)
+    still-voting (voting-begins (c .before .before .before .before .before .before .before .before .before .before .before .before .before .before .before .pre) _ (c .before .before .before .before .before .before .before .before .before .before .before .is-idle .ensures) (c .before .before .before .before .before .before .before .before .before .before .if1 .left)) (c .before .before .before .before .before .before .before .rule-b .ensures)
 
 same-length-4 : tie.Need-same-length-4
 same-length-4 c = search needs
@@ -46,12 +48,14 @@ same-length-5 c = search needs
 returns-3 : tie.Need-returns-3
 returns-3 c =
     let p = c .before .before .before .before .before .before .before .before .before .before .before .before .before .before .before .before .before .before .before .before .before .pre in let s : ℕ = c .before .before .before .before .before .before .before .before .before .before .before .before .before .before .before .before .before .before .before .before .before .args .s .0 in
-    let b = going-more s 1 3 1 (going-start s 4 1 (p .live .live)) (onward-is (c .before .before .before .before .before .before .before .before .before .before .before .before .before .rule-b .ensures) (only-B _ s)) (p .live) (c .before .before .before .before .before .before .before .before .if2 .left) in
-    going-found s 1 2 2 b (onward-is (c .before .before .before .before .before .rule-c .ensures) (only-C _ s)) (c .if3 .taken)
+    let vb = voting-begins (c .before .before .before .before .before .before .before .before .before .before .before .before .before .before .before .before .before .before .before .before .before .pre) _ (c .before .before .before .before .before .before .before .before .before .before .before .before .before .before .before .before .before .is-idle .ensures) (c .before .before .before .before .before .before .before .before .before .before .before .before .before .before .before .before .if1 .left) in
+    let vc = still-voting vb (c .before .before .before .before .before .before .before .before .before .before .before .before .before .rule-b .ensures) in
+    let b = going-more s 1 3 1 (going-start s 4 1 (p .live .live)) (onward-is (c .before .before .before .before .before .before .before .before .before .before .before .before .before .rule-b .ensures) (only-B _ s (vb .votes))) (p .live) (c .before .before .before .before .before .before .before .before .if2 .left) in
+    going-found s 1 2 2 b (onward-is (c .before .before .before .before .before .rule-c .ensures) (only-C _ s (vc .votes))) (c .if3 .taken)
 
 rule-d-requires : tie.Need-rule-d-requires
 rule-d-requires c κs =
-    still-under-way (still-under-way (c .before .before .before .before .before .before .before .before .before .before .before .before .before .before .before .before .before .before .before .before .before .before .before .pre) (c .before .before .before .before .before .before .before .before .before .before .before .before .before .before .before .rule-b .ensures)) (c .before .before .before .before .before .before .before .rule-c .ensures)
+    still-voting (still-voting (voting-begins (c .before .before .before .before .before .before .before .before .before .before .before .before .before .before .before .before .before .before .before .before .before .before .before .pre) _ (c .before .before .before .before .before .before .before .before .before .before .before .before .before .before .before .before .before .before .before .is-idle .ensures) (c .before .before .before .before .before .before .before .before .before .before .before .before .before .before .before .before .before .before .if1 .left)) (c .before .before .before .before .before .before .before .before .before .before .before .before .before .before .before .rule-b .ensures)) (c .before .before .before .before .before .before .before .rule-c .ensures)
 
 same-length-6 : tie.Need-same-length-6
 same-length-6 c = search needs
@@ -62,13 +66,16 @@ same-length-7 c = search needs
 returns-4 : tie.Need-returns-4
 returns-4 c =
     let p = c .before .before .before .before .before .before .before .before .before .before .before .before .before .before .before .before .before .before .before .before .before .before .before .before .before .before .before .before .before .pre in let s : ℕ = c .before .before .before .before .before .before .before .before .before .before .before .before .before .before .before .before .before .before .before .before .before .before .before .before .before .before .before .before .before .args .s .0 in
-    let b = going-more s 1 3 1 (going-start s 4 1 (p .live .live)) (onward-is (c .before .before .before .before .before .before .before .before .before .before .before .before .before .before .before .before .before .before .before .before .before .rule-b .ensures) (only-B _ s)) (p .live) (c .before .before .before .before .before .before .before .before .before .before .before .before .before .before .before .before .if2 .left) in
-    let d = going-more s 1 2 2 b (onward-is (c .before .before .before .before .before .before .before .before .before .before .before .before .before .rule-c .ensures) (only-C _ s)) (p .live) (c .before .before .before .before .before .before .before .before .if3 .left) in
-    going-found s 1 1 3 d (onward-is (c .before .before .before .before .before .rule-d .ensures) (only-D _ s)) (c .if4 .taken)
+    let vb = voting-begins (c .before .before .before .before .before .before .before .before .before .before .before .before .before .before .before .before .before .before .before .before .before .before .before .before .before .before .before .before .before .pre) _ (c .before .before .before .before .before .before .before .before .before .before .before .before .before .before .before .before .before .before .before .before .before .before .before .before .before .is-idle .ensures) (c .before .before .before .before .before .before .before .before .before .before .before .before .before .before .before .before .before .before .before .before .before .before .before .before .if1 .left) in
+    let vc = still-voting vb (c .before .before .before .before .before .before .before .before .before .before .before .before .before .before .before .before .before .before .before .before .before .rule-b .ensures) in
+    let vd = still-voting vc (c .before .before .before .before .before .before .before .before .before .before .before .before .before .rule-c .ensures) in
+    let b = going-more s 1 3 1 (going-start s 4 1 (p .live .live)) (onward-is (c .before .before .before .before .before .before .before .before .before .before .before .before .before .before .before .before .before .before .before .before .before .rule-b .ensures) (only-B _ s (vb .votes))) (p .live) (c .before .before .before .before .before .before .before .before .before .before .before .before .before .before .before .before .if2 .left) in
+    let d = going-more s 1 2 2 b (onward-is (c .before .before .before .before .before .before .before .before .before .before .before .before .before .rule-c .ensures) (only-C _ s (vc .votes))) (p .live) (c .before .before .before .before .before .before .before .before .if3 .left) in
+    going-found s 1 1 3 d (onward-is (c .before .before .before .before .before .rule-d .ensures) (only-D _ s (vd .votes))) (c .if4 .taken)
 
 rule-e-requires : tie.Need-rule-e-requires
 rule-e-requires c κs =
-    still-under-way (still-under-way (still-under-way (c .before .before .before .before .before .before .before .before .before .before .before .before .before .before .before .before .before .before .before .before .before .before .before .before .before .before .before .before .before .before .before .pre) (c .before .before .before .before .before .before .before .before .before .before .before .before .before .before .before .before .before .before .before .before .before .before .before .rule-b .ensures)) (c .before .before .before .before .before .before .before .before .before .before .before .before .before .before .before .rule-c .ensures)) (c .before .before .before .before .before .before .before .rule-d .ensures)
+    still-voting (still-voting (still-voting (voting-begins (c .before .before .before .before .before .before .before .before .before .before .before .before .before .before .before .before .before .before .before .before .before .before .before .before .before .before .before .before .before .before .before .pre) _ (c .before .before .before .before .before .before .before .before .before .before .before .before .before .before .before .before .before .before .before .before .before .before .before .before .before .before .before .is-idle .ensures) (c .before .before .before .before .before .before .before .before .before .before .before .before .before .before .before .before .before .before .before .before .before .before .before .before .before .before .if1 .left)) (c .before .before .before .before .before .before .before .before .before .before .before .before .before .before .before .before .before .before .before .before .before .before .before .rule-b .ensures)) (c .before .before .before .before .before .before .before .before .before .before .before .before .before .before .before .rule-c .ensures)) (c .before .before .before .before .before .before .before .rule-d .ensures)
 
 same-length-8 : tie.Need-same-length-8
 same-length-8 c = search needs
@@ -79,10 +86,14 @@ same-length-9 c = search needs
 returns-5 : tie.Need-returns-5
 returns-5 c =
     let p = c .before .before .before .before .before .before .before .before .before .before .before .before .before .before .before .before .before .before .before .before .before .before .before .before .before .before .before .before .before .before .before .before .before .before .before .before .pre in let s : ℕ = c .before .before .before .before .before .before .before .before .before .before .before .before .before .before .before .before .before .before .before .before .before .before .before .before .before .before .before .before .before .before .before .before .before .before .before .before .args .s .0 in
-    let b = going-more s 1 3 1 (going-start s 4 1 (p .live .live)) (onward-is (c .before .before .before .before .before .before .before .before .before .before .before .before .before .before .before .before .before .before .before .before .before .before .before .before .before .before .before .before .rule-b .ensures) (only-B _ s)) (p .live) (c .before .before .before .before .before .before .before .before .before .before .before .before .before .before .before .before .before .before .before .before .before .before .before .if2 .left) in
-    let d = going-more s 1 2 2 b (onward-is (c .before .before .before .before .before .before .before .before .before .before .before .before .before .before .before .before .before .before .before .before .rule-c .ensures) (only-C _ s)) (p .live) (c .before .before .before .before .before .before .before .before .before .before .before .before .before .before .before .if3 .left) in
-    let e = going-more s 1 1 3 d (onward-is (c .before .before .before .before .before .before .before .before .before .before .before .before .rule-d .ensures) (only-D _ s)) (p .live) (c .before .before .before .before .before .before .before .if4 .left) in
-    going-last s 1 4 e (onward-is (c .before .before .before .before .rule-e .ensures) (only-E _ s))
+    let vb = voting-begins (c .before .before .before .before .before .before .before .before .before .before .before .before .before .before .before .before .before .before .before .before .before .before .before .before .before .before .before .before .before .before .before .before .before .before .before .before .pre) _ (c .before .before .before .before .before .before .before .before .before .before .before .before .before .before .before .before .before .before .before .before .before .before .before .before .before .before .before .before .before .before .before .before .is-idle .ensures) (c .before .before .before .before .before .before .before .before .before .before .before .before .before .before .before .before .before .before .before .before .before .before .before .before .before .before .before .before .before .before .before .if1 .left) in
+    let vc = still-voting vb (c .before .before .before .before .before .before .before .before .before .before .before .before .before .before .before .before .before .before .before .before .before .before .before .before .before .before .before .before .rule-b .ensures) in
+    let vd = still-voting vc (c .before .before .before .before .before .before .before .before .before .before .before .before .before .before .before .before .before .before .before .before .rule-c .ensures) in
+    let ve = still-voting vd (c .before .before .before .before .before .before .before .before .before .before .before .before .rule-d .ensures) in
+    let b = going-more s 1 3 1 (going-start s 4 1 (p .live .live)) (onward-is (c .before .before .before .before .before .before .before .before .before .before .before .before .before .before .before .before .before .before .before .before .before .before .before .before .before .before .before .before .rule-b .ensures) (only-B _ s (vb .votes))) (p .live) (c .before .before .before .before .before .before .before .before .before .before .before .before .before .before .before .before .before .before .before .before .before .before .before .if2 .left) in
+    let d = going-more s 1 2 2 b (onward-is (c .before .before .before .before .before .before .before .before .before .before .before .before .before .before .before .before .before .before .before .before .rule-c .ensures) (only-C _ s (vc .votes))) (p .live) (c .before .before .before .before .before .before .before .before .before .before .before .before .before .before .before .if3 .left) in
+    let e = going-more s 1 1 3 d (onward-is (c .before .before .before .before .before .before .before .before .before .before .before .before .rule-d .ensures) (only-D _ s (vd .votes))) (p .live) (c .before .before .before .before .before .before .before .if4 .left) in
+    going-last s 1 4 e (onward-is (c .before .before .before .before .rule-e .ensures) (only-E _ s (ve .votes)))
 
 pub first-of-b-to-e-spec : {M : Type 1} → statement M
 first-of-b-to-e-spec =

@@ -1,5 +1,5 @@
--- Both parts as the record has them.
-use mathlib.Core.Bool.{_&&_}
+-- Each part as the record has it.
+use mathlib.Core.Bool.{_&&_, _||_}
 use mathlib.Core.Path.{_∙_, ap}
 use borrow.Author.Needs.{needs}
 use Rattle.rulebook.specs.declared.Cell.{Cell}
@@ -17,12 +17,15 @@ own-cell-requires c κs = search needs
 no-initial-requires : tie.Need-no-initial-requires
 no-initial-requires c κs = search needs
 
+is-watcher-requires : tie.Need-is-watcher-requires
+is-watcher-requires c κs = search needs
+
 returns : tie.Need-returns
 unfolding isIdle
 returns c =
-    let initial = c .before .no-initial .ensures ∙ ap (λ (x : Cell). noInitial x) (c .before .before .own-cell .ensures) in
-    λ i. initial i && none (c .before .before .before .load-block .ensures i .number)
+    let initial = c .before .before .no-initial .ensures ∙ ap (λ (x : Cell). noInitial x) (c .before .before .before .own-cell .ensures) in
+    λ i. c .is-watcher .ensures i || (initial i && none (c .before .before .before .before .load-block .ensures i .number))
 
 pub is-idle-spec : {M : Type 1} → statement M
 is-idle-spec =
-    tie.close (tie.spec load-block-requires own-cell-requires no-initial-requires returns)
+    tie.close (tie.spec load-block-requires own-cell-requires no-initial-requires is-watcher-requires returns)

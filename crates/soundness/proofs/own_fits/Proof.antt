@@ -7,7 +7,7 @@ use Rattle.soundness.proofs.own_fits.Tie as tie
 
 own-cell-requires : tie.Need-own-cell-requires
 own-cell-requires c κs =
-    let a = c .before .pre .carded .weighing in record { long = a .long; slot = a .slot; own = a .table .own }
+    let a = c .before .pre .carded .weighing in record { long = a .long; slot = a .slot }
 
 returns : tie.Need-returns
 returns c =

@@ -1,9 +1,10 @@
 -- Four skips from the window's first slot on, one after the other.
 use Prim.Native.Nat.{_/_, ℕ, _+_, _-_, _*_}
+use native.Mathlib.Omega.{arith}
 use borrow.Author.Needs.{needs}
 use Rattle.rulebook.specs.Rules.{State, castSkip}
 use Rattle.voter.proofs.CastLaws.{skips-from, first-is}
-use Rattle.voter.proofs.LiveLaws.{onward-is, onward-then}
+use Rattle.voter.proofs.LiveLaws.{votes-on, casting-at, onward-is, onward-then}
 use Rattle.voter.specs.Outbox.{stateIn}
 use Rattle.voter.proofs.cast_skips.Statement.{statement}
 use Rattle.voter.proofs.cast_skips.Tie as tie
@@ -24,19 +25,22 @@ add-t9 : tie.Need-add-t9
 add-t9 c = search needs
 
 cast-skip-requires-2 : tie.Need-cast-skip-requires-2
-cast-skip-requires-2 c κs = search needs
+cast-skip-requires-2 c κs =
+    casting-at (c .before .before .before .before .before .before .cast-skip .ensures .live) (votes-on (c .before .before .before .before .before .before .cast-skip .ensures .same) (c .before .before .before .before .before .before .before .before .before .before .before .before .pre .votes)) (omega arith) (omega (arith, c .before .before .before .before .before .before .before .before .before .before .before .before .pre .live .high))
 
 add-t11 : tie.Need-add-t11
 add-t11 c = search needs
 
 cast-skip-requires-3 : tie.Need-cast-skip-requires-3
-cast-skip-requires-3 c κs = search needs
+cast-skip-requires-3 c κs =
+    casting-at (c .before .before .before .before .before .before .cast-skip2 .ensures .live) (votes-on (c .before .before .before .before .before .before .cast-skip2 .ensures .same) (votes-on (c .before .before .before .before .before .before .before .before .before .before .before .before .before .cast-skip .ensures .same) (c .before .before .before .before .before .before .before .before .before .before .before .before .before .before .before .before .before .before .before .pre .votes))) (omega arith) (omega (arith, c .before .before .before .before .before .before .before .before .before .before .before .before .before .before .before .before .before .before .before .pre .live .high))
 
 add-t9-2 : tie.Need-add-t9-2
 add-t9-2 c = search needs
 
 cast-skip-requires-4 : tie.Need-cast-skip-requires-4
-cast-skip-requires-4 c κs = search needs
+cast-skip-requires-4 c κs =
+    casting-at (c .before .before .before .before .before .before .cast-skip3 .ensures .live) (votes-on (c .before .before .before .before .before .before .cast-skip3 .ensures .same) (votes-on (c .before .before .before .before .before .before .before .before .before .before .before .before .before .cast-skip2 .ensures .same) (votes-on (c .before .before .before .before .before .before .before .before .before .before .before .before .before .before .before .before .before .before .before .before .cast-skip .ensures .same) (c .before .before .before .before .before .before .before .before .before .before .before .before .before .before .before .before .before .before .before .before .before .before .before .before .before .before .pre .votes)))) (omega arith) (omega (arith, c .before .before .before .before .before .before .before .before .before .before .before .before .before .before .before .before .before .before .before .before .before .before .before .before .before .before .pre .live .high))
 
 same-length : tie.Need-same-length
 same-length c = search needs

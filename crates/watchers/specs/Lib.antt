@@ -1,0 +1,3 @@
+-- A watcher beside a voting node.
+pub mod Watching
+mod Cases
