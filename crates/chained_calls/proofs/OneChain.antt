@@ -47,10 +47,10 @@ module _ (stakes : List ℕ) (genesis : ℕ → ℕ) (honest : Test) (lives : �
   fed n = arrivalsOf (lives n .calls)
 
   -- What an honest node's words keep is what its ledger keeps.
-  kept-same : (n s b p x : ℕ) → T (honest n) → blockKept lives n s b p x ≡ book.keptBy stakes genesis honest fed n s b p x
+  pub kept-same : (n s b p x : ℕ) → T (honest n) → blockKept lives n s b p x ≡ book.keptBy stakes genesis honest fed n s b p x
   kept-same n s b p x h = ap (λ (l : Ledger). keepsBlock l s b p x) (lived stakes n (genesis n) (lives n) (all n h) .ledger)
 
-  parents : CodeOneParent honest lives → book.OneParent stakes genesis honest fed
+  pub parents : CodeOneParent honest lives → book.OneParent stakes genesis honest fed
   parents once m k n s b p x q y h t u =
       once n m s b p x q y h k (subst T (sym (kept-same n s b p x h)) t) (subst T (sym (kept-same m s b q y k)) u)
 

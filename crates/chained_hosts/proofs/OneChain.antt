@@ -31,13 +31,13 @@ module _ (honest : Test) (lives : ℕ → HostLife) where
   abbrev plain : ℕ → Life
   plain n = lifeOf (lives n)
 
-  kept-same : (n s b p x : ℕ) → code.blockKept plain n s b p x ≡ blockKept lives n s b p x
+  pub kept-same : (n s b p x : ℕ) → code.blockKept plain n s b p x ≡ blockKept lives n s b p x
   kept-same n s b p x = ap (λ (ws : List ℕ). keepsBlock (ledgerOf ws) s b p x) (last-is (lives n .words) (lives n .calls))
 
   mark-same : (n s : ℕ) → code.finalMark plain n s ≡ finalMark lives n s
   mark-same n s = ap (λ (ws : List ℕ). rowAt (ledgerOf ws) s .final) (last-is (lives n .words) (lives n .calls))
 
-  parents : HostOneParent honest lives → code.CodeOneParent honest plain
+  pub parents : HostOneParent honest lives → code.CodeOneParent honest plain
   parents once n m s b p x q y h k t u = once n m s b p x q y h k (subst T (kept-same n s b p x) t) (subst T (kept-same m s b q y) u)
 
   parents-back : code.CodeOneParent honest plain → HostOneParent honest lives

@@ -1,2 +1,3 @@
 -- One chain over histories of calls of the C functions.
 pub mod OneChain
+pub mod Watching
