@@ -1,0 +1,2 @@
+-- Progress over histories of calls.
+pub mod NeverHangs

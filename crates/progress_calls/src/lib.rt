@@ -1,0 +1,1 @@
+// Progress without clocks on the promises of the code: no code of its own.

@@ -1,0 +1,2 @@
+-- Progress over histories of C calls.
+pub mod NeverHangs
