@@ -154,6 +154,10 @@ uint64_t qr_vote(uint64_t *record, size_t record_words, uint64_t *outbox, size_t
  * A block with its parent. Up to four are kept of a slot, each number with one parent; the node may cast notar for the
  * first alone, and outside a window's first slot it falls back only to a block that is kept. Refusals: 17, 9, 3, 5, 11; 7
  * where that very block is kept; 8 for a kept number with another parent, and for a fifth block.
+ *
+ * So that the four places never run out, announce a slot's first block as it comes, and a further one only once it has rule D's
+ * weights in this record: its notar votes reach 40 percent of the stake, or reach 20 and together with skip votes 60. At most
+ * three blocks of a slot ever have them. By this policy 8 means a number that is kept with another parent, and nothing else.
  */
 uint64_t qr_block(uint64_t *record, size_t record_words, uint64_t *outbox, size_t outbox_words, size_t *made, size_t slot,
                   uint64_t number, size_t parent_slot, uint64_t parent);

@@ -31,7 +31,7 @@ use Rattle.safety.proofs.Guards.{given-T}
 -- ---- kept blocks
 
 -- A block of which the test holds, and every test that holds of it holds of some.
-some-block-at : (p : Block → Bool) (ks : List Block) → T (someBlock p ks)
+pub some-block-at : (p : Block → Bool) (ks : List Block) → T (someBlock p ks)
     → (k : Block) × T (p k) × ((q : Block → Bool) → T (q k) → T (someBlock q ks))
 unfolding someBlock
 some-block-at p [] t = absurd t
@@ -41,7 +41,7 @@ some-block-at p (k ∷ ks) t =
     (λ u. let h = some-block-at p ks u in (h .0, h .1, λ q w. T-right (q k) (someBlock q ks) (h .2 q w)))
 
 -- A kept block is kept with its own parent.
-is-block : (k : Block) (b : ℕ) → T (not (isFree k)) → T (hasNumber b k) → T (isBlock b (k .parentslot .0) (k .parent) k)
+pub is-block : (k : Block) (b : ℕ) → T (not (isFree k)) → T (hasNumber b k) → T (isBlock b (k .parentslot .0) (k .parent) k)
 unfolding isBlock
 is-block k b h e =
     T-and (not (isFree k)) (hasNumber b k && (eqb (k .parentslot .0) (k .parentslot .0) && eqb (k .parent) (k .parent))) h

@@ -19,7 +19,7 @@ use Rattle.safety.proofs.Behind.{fallback-weights}
 use Rattle.safety.proofs.Lives.{life-ready, start-sized, fresh-ready}
 
 -- Rule D's weights over ballots are its weights over cells.
-weights-back : (l : Ledger) (s b : ℕ) → T (dWeights (l .total) (weightOf l s (notar b)) (weightOf l s skip)) → T (fallbackWeights l s b)
+pub weights-back : (l : Ledger) (s b : ℕ) → T (dWeights (l .total) (weightOf l s (notar b)) (weightOf l s skip)) → T (fallbackWeights l s b)
 unfolding fallbackWeights weigh counts
 weights-back l s b t =
     let x = weight (l .stakes) (l .count) (λ n. eqb (cellAt l s n .notar) b) in

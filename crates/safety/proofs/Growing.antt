@@ -84,7 +84,7 @@ module _ (l m : Ledger) (table : SameTable l m) (grow : Grow l m) where
       (λ n u. kept-has (cellAt l s n) (cellAt m s n) p (grow .cells s n) u))
 
   -- Rule D's weights stay.
-  weights-grow : (s b : ℕ) → T (dWeights (l .total) (weightOf l s (notar b)) (weightOf l s skip)) → T (dWeights (m .total) (weightOf m s (notar b)) (weightOf m s skip))
+  pub weights-grow : (s b : ℕ) → T (dWeights (l .total) (weightOf l s (notar b)) (weightOf l s skip)) → T (dWeights (m .total) (weightOf m s (notar b)) (weightOf m s skip))
   weights-grow s b t =
       let x = weightOf l s (notar b) in
       let y = weightOf l s skip in
