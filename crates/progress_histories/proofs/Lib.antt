@@ -1,0 +1,4 @@
+pub mod Cells
+pub mod Stuck
+pub mod Tests
+pub mod Histories
