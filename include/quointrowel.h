@@ -12,6 +12,11 @@
  * votes. Words that no call of this library left are looked through at every call and refused with QR_BAD_RECORD where they
  * are no record; a record that this library left is never refused so.
  *
+ * Versions. A stored record is for the version that wrote it (QR_VERSION). Another version's words are not to be lent; they are
+ * refused with QR_BAD_RECORD, mostly by their number alone, where the two versions keep different things. Packets carry over:
+ * certificates, proofs and vote messages. A member finishes its 16 slots with the version that it began them with, since a fresh node
+ * knows nothing of its own earlier votes and could vote against them.
+ *
  * Answers. Every operation answers a number: 0 where it is done, else why not (enum qr_number). A refusal changes none
  * of the record, the outbox and the buffers, and puts zeros into the places for the values beside it (qr_differ says what
  * stands there beside its two). A number that is out of range, a slot of 99 or a kind of 7, is not a fault of the host: it has its own refusal.
@@ -97,6 +102,8 @@ enum qr_size {
     QR_LARGE_CERTIFICATE_BYTES = 768, /* the same with a large table */
     QR_LARGE_PROOF_BYTES = 1536,
     QR_VOTE_BYTES = 16,        /* bytes of a buffer for a vote message, or more, with any table */
+    QR_TEXT_BYTES = 512,       /* bytes of a buffer for a number's text, or more */
+    QR_VOTES_WORDS = 7,        /* words in which a node's stored votes in a slot are told */
     QR_LINE_WORDS = 5,         /* words of a line in a list of differences */
     QR_PIECES_WORDS = 2050,    /* words of the state of a proof in pieces, exactly */
     QR_PIECES_BYTES = 1341,    /* and bytes of it, exactly */
@@ -104,6 +111,11 @@ enum qr_size {
     QR_MOST_NODES = 2048,
     QR_LAST_SLOT = 16
 };
+
+/* The version of this header, and that of the library that is linked, which a host compares with it before all else. */
+#define QR_VERSION 1
+
+uint64_t qr_version(void);
 
 /*
  * Words of a record of a ring of so many nodes, 1 to QR_MOST_NODES, exactly: 1,371 for three nodes, 260,473 for 2,048. With a
@@ -210,6 +222,19 @@ uint64_t qr_write_proof(const uint64_t *record, size_t record_words, uint8_t *bu
  */
 uint64_t qr_card(const uint64_t *record, size_t record_words, size_t slot, uint64_t values[5]);
 
+/* A slot's final block, which a record of kind 6 told, into *block; 0 where there is none, and beside a refusal. Refusals: 17, 3. */
+uint64_t qr_final_block(const uint64_t *record, size_t record_words, size_t slot, uint64_t *block);
+
+/* Whether a slot's window is armed, so that its timeouts are taken: 1 or 0 into *armed; 0 beside a refusal. Refusals: 17, 3. */
+uint64_t qr_is_armed(const uint64_t *record, size_t record_words, size_t slot, uint64_t *armed);
+
+/*
+ * The stored votes of a node in a slot, the own node's too, into values: the block of its notar vote or 1 for a skip vote in the next
+ * word, of these two one at most; the blocks of up to three notar-fallback votes, in the order of their coming; 1 for a skip-fallback
+ * vote; 1 for a final vote. 0 for each that is not stored, and zeros beside a refusal. Refusals: 17, 3, 2.
+ */
+uint64_t qr_kept_votes(const uint64_t *record, size_t record_words, size_t slot, size_t node, uint64_t values[QR_VOTES_WORDS]);
+
 /*
  * Check a packet against the stakes alone; their number tells the family. The kind, read first, tells how many numbers are
  * read, five or 67, whatever the table: a whole certificate of the other family is refused with 4, a broken one with 12 or 13.
@@ -273,6 +298,13 @@ enum qr_side {
 
 uint64_t qr_differ(const uint64_t *first, size_t first_words, const uint64_t *second, size_t second_words, uint64_t *list,
                    size_t list_words, size_t *beside);
+
+/*
+ * Writes what a number of enum qr_number means, a sentence for people, to the buffer's front, which has at least QR_TEXT_BYTES bytes,
+ * and puts the number of its bytes into *written; no zero byte ends it, and bytes past it stay. 0 has a text too, and for every other
+ * number it is "No refusal has this number." Refusals: 9.
+ */
+uint64_t qr_refusal_text(uint8_t *buffer, size_t buffer_bytes, size_t *written, uint64_t number);
 
 #ifdef __cplusplus
 }

@@ -1,7 +1,7 @@
-/* Bench cases B1 and B9 of the scope document, through the C face: one node of stake 5, one block, its finality proof; and a
-   proof that is too light, with what is missing. Then a vote as a message, a tray of votes and the tally card after it, a
-   certificate that one node wrote and another takes, and a ring of 100 nodes, whose certificates have the kinds 11 to 15. Last a
-   proof that comes byte by byte. */
+/* Bench cases B1 and B9 of the scope document, through the C face: one node of stake 5, one block, what is read of the node, its
+   finality proof; and a proof that is too light, with what is missing. Then a vote as a message, a tray of votes and the tally card
+   after it, a certificate that one node wrote and another takes, and a ring of 100 nodes, whose certificates have the kinds 11 to 15.
+   Last a proof that comes byte by byte, and what some numbers mean. */
 #include <inttypes.h>
 #include <stdio.h>
 
@@ -20,6 +20,42 @@ static void show_check(const char *what, uint64_t number, const uint64_t values[
     printf("%s: %" PRIu64 ", kind %" PRIu64 " slot %" PRIu64 " block %" PRIu64 " signers %" PRIu64 " weight %" PRIu64
            ", missing %" PRIu64 "\n",
            what, number, values[0], values[1], values[2], values[3], values[4], missing);
+}
+
+/* What a host reads of B1's node: the final block, the armed window, the own votes; and slots and nodes that are none. */
+static void show_readers(const uint64_t *record)
+{
+    const size_t words = QR_RECORD_WORDS(1);
+    uint64_t block, armed, votes[QR_VOTES_WORDS];
+    uint64_t number = qr_final_block(record, words, 1, &block);
+    printf("final in slot 1: %" PRIu64 ", block %" PRIu64, number, block);
+    number = qr_final_block(record, words, 2, &block);
+    printf("; in slot 2: %" PRIu64 ", block %" PRIu64, number, block);
+    number = qr_final_block(record, words, 0, &block);
+    printf("; in slot 0: %" PRIu64 "\n", number);
+    number = qr_is_armed(record, words, 4, &armed);
+    printf("armed in slot 4: %" PRIu64 ", %" PRIu64, number, armed);
+    number = qr_is_armed(record, words, 5, &armed);
+    printf("; in slot 5: %" PRIu64 ", %" PRIu64, number, armed);
+    number = qr_is_armed(record, words - 1, 4, &armed);
+    printf("; of words that are no record: %" PRIu64 "\n", number);
+    number = qr_kept_votes(record, words, 1, 0, votes);
+    printf("votes of node 0 in slot 1: %" PRIu64 ":", number);
+    for (size_t i = 0; i < QR_VOTES_WORDS; i++)
+        printf(" %" PRIu64, votes[i]);
+    number = qr_kept_votes(record, words, 1, 1, votes);
+    printf("; of node 1: %" PRIu64 "\n", number);
+}
+
+/* What a number means; and a buffer that is too short. */
+static void show_text(uint64_t number)
+{
+    uint8_t text[QR_TEXT_BYTES];
+    size_t written;
+    uint64_t answer = qr_refusal_text(text, sizeof text, &written, number);
+    printf("text of %" PRIu64 ": %" PRIu64 ", %.*s", number, answer, (int)written, (const char *)text);
+    answer = qr_refusal_text(text, sizeof text - 1, &written, number);
+    printf(" Into 511 bytes: %" PRIu64 ", %zu bytes\n", answer, written);
 }
 
 /* A vote written for another member, and read again. */
@@ -302,7 +338,7 @@ int main(void)
     uint8_t packet[QR_PROOF_BYTES];
     size_t made, written;
 
-    if (qr_record_words(QR_MOST_SMALL) != QR_RECORD_WORDS(QR_MOST_SMALL)
+    if (qr_version() != QR_VERSION || qr_record_words(QR_MOST_SMALL) != QR_RECORD_WORDS(QR_MOST_SMALL)
         || qr_record_words(QR_MOST_NODES) != QR_RECORD_WORDS(QR_MOST_NODES) || qr_outbox_words() != QR_OUTBOX_WORDS
         || qr_pieces_words() != QR_PIECES_WORDS || qr_pieces_bytes() != QR_PIECES_BYTES) {
         fprintf(stderr, "the library is not of this header\n");
@@ -312,6 +348,7 @@ int main(void)
         return 1;
     uint64_t number = qr_block(record, QR_RECORD_WORDS(1), outbox, QR_OUTBOX_WORDS, &made, 1, 7, 0, 1);
     show_records("B1", number, outbox, made);
+    show_readers(record);
     number = qr_look(record, QR_RECORD_WORDS(2), outbox, QR_OUTBOX_WORDS, &made);
     printf("a record one place too long: %" PRIu64, number);
     number = qr_look(record, QR_RECORD_WORDS(1), outbox, QR_OUTBOX_WORDS - 1, &made);
@@ -337,5 +374,9 @@ int main(void)
     show_large(outbox);
     show_differences(record, outbox);
     show_pieces(stakes, 1, long_proof, sizeof long_proof);
+    show_text(QR_DONE);
+    show_text(QR_BAD_SLOT);
+    show_text(QR_NOT_HELD);
+    show_text(QR_NOT_HELD + 1);
     return 0;
 }

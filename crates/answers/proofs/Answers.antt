@@ -22,7 +22,11 @@ use Rattle.differences.specs.Lent.{DifferOf, differPanel}
 use Rattle.pieces.specs.declared.PieceAnswer.{PieceAnswer}
 use Rattle.pieces.specs.Pieces.{piecePanel}
 use Rattle.pieces.specs.State.{nodes, PieceOf, EndOf, endLeaves}
-use Rattle.answers.specs.Face.{Beside, Started, Watched, Stepped, Taken, Trayed, Wrote, MessageRead, CardRead, Checked, Compared, Pieced, Ended}
+use Rattle.readers.specs.declared.FinalAnswer.{FinalAnswer}
+use Rattle.readers.specs.declared.ArmedAnswer.{ArmedAnswer}
+use Rattle.readers.specs.declared.VotesAnswer.{VotesAnswer}
+use Rattle.readers.specs.Asked.{finalPanel, armedPanel, votesPanel}
+use Rattle.answers.specs.Face.{Beside, Started, Watched, Stepped, Taken, Trayed, Wrote, MessageRead, CardRead, FinalRead, ArmedRead, VotesRead, Checked, Compared, Pieced, Ended}
 
 pub started : (ws stakes : List ℕ) (own genesis : ℕ) (a : StartAnswer) (n : ℕ) (left : List ℕ) → StartOf ws stakes own genesis a left
     → n ≡ startPanel a .number → Started ws stakes own genesis n left
@@ -90,6 +94,27 @@ card-read b a n vs s e d =
     record {
       numbered = e ∙ ap (λ (x : CardAnswer). cardPanel x .number) s;
       valued = d ∙ ap (λ (x : CardAnswer). cardPanel x .values) s;
+    }
+
+pub final-read : (b a : FinalAnswer) (n v : ℕ) → a ≡ b → n ≡ finalPanel a .number → Beside v (finalPanel a .values) → FinalRead b n v
+final-read b a n v s e d =
+    record {
+      numbered = e ∙ ap (λ (x : FinalAnswer). finalPanel x .number) s;
+      valued = d ∙ ap (λ (x : FinalAnswer). finalPanel x .values) s;
+    }
+
+pub armed-read : (b a : ArmedAnswer) (n v : ℕ) → a ≡ b → n ≡ armedPanel a .number → Beside v (armedPanel a .values) → ArmedRead b n v
+armed-read b a n v s e d =
+    record {
+      numbered = e ∙ ap (λ (x : ArmedAnswer). armedPanel x .number) s;
+      valued = d ∙ ap (λ (x : ArmedAnswer). armedPanel x .values) s;
+    }
+
+pub votes-read : (b a : VotesAnswer) (n : ℕ) (vs : List ℕ) → a ≡ b → n ≡ votesPanel a .number → vs ≡ votesPanel a .values → VotesRead b n vs
+votes-read b a n vs s e d =
+    record {
+      numbered = e ∙ ap (λ (x : VotesAnswer). votesPanel x .number) s;
+      valued = d ∙ ap (λ (x : VotesAnswer). votesPanel x .values) s;
     }
 
 pub checked : (count : ℕ) (b a : CheckAnswer) (n : ℕ) (vs : List ℕ) (m : ℕ) → a ≡ b → n ≡ checkNumber a → vs ≡ checkValues count a

@@ -8,7 +8,10 @@ use Rattle.rulebook.specs.declared.ReadAnswer.{ReadAnswer}
 use Rattle.rulebook.specs.declared.CheckAnswer.{CheckAnswer}
 use Rattle.rulebook.specs.Writers as writer
 use Rattle.cards.specs.declared.CardAnswer.{CardAnswer}
-use Rattle.answers.specs.Face.{Beside, Started, Watched, Stepped, Taken, Trayed, Wrote, MessageRead, CardRead, Checked, Compared, Pieced, Ended}
+use Rattle.readers.specs.declared.FinalAnswer.{FinalAnswer}
+use Rattle.readers.specs.declared.ArmedAnswer.{ArmedAnswer}
+use Rattle.readers.specs.declared.VotesAnswer.{VotesAnswer}
+use Rattle.answers.specs.Face.{Beside, Started, Watched, Stepped, Taken, Trayed, Wrote, MessageRead, CardRead, FinalRead, ArmedRead, VotesRead, Checked, Compared, Pieced, Ended}
 
 -- One value beside one number.
 beside-one : {v v' : ℕ} {values : List ℕ} → Beside v values → Beside v' values → v ≡ v'
@@ -42,7 +45,7 @@ pub trayed-one : {ws out votes places left left' box box' answers answers' : Lis
 trayed-one a b =
     (a .numbered ∙ sym (b .numbered), beside-one (a .counted) (b .counted), a .words ∙ sym (b .words), a .outbox ∙ sym (b .outbox), a .answered ∙ sym (b .answered))
 
--- qr_write_certificate, qr_write_proof, qr_write_vote.
+-- qr_write_certificate, qr_write_proof, qr_write_vote, qr_refusal_text.
 pub wrote-one : {w : writer.Wrote} {buffer after after' : List ℕ} {n n' count count' : ℕ} → Wrote w buffer n count after → Wrote w buffer n' count' after'
     → (n ≡ n') × (count ≡ count') × (after ≡ after')
 wrote-one a b = (a .numbered ∙ sym (b .numbered), beside-one (a .counted) (b .counted), a .bytes ∙ sym (b .bytes))
@@ -56,6 +59,21 @@ message-read-one a b = (a .numbered ∙ sym (b .numbered), a .valued ∙ sym (b 
 pub card-read-one : {answer : CardAnswer} {n n' : ℕ} {values values' : List ℕ} → CardRead answer n values → CardRead answer n' values'
     → (n ≡ n') × (values ≡ values')
 card-read-one a b = (a .numbered ∙ sym (b .numbered), a .valued ∙ sym (b .valued))
+
+-- qr_final_block.
+pub final-read-one : {answer : FinalAnswer} {n n' block block' : ℕ} → FinalRead answer n block → FinalRead answer n' block'
+    → (n ≡ n') × (block ≡ block')
+final-read-one a b = (a .numbered ∙ sym (b .numbered), beside-one (a .valued) (b .valued))
+
+-- qr_is_armed.
+pub armed-read-one : {answer : ArmedAnswer} {n n' armed armed' : ℕ} → ArmedRead answer n armed → ArmedRead answer n' armed'
+    → (n ≡ n') × (armed ≡ armed')
+armed-read-one a b = (a .numbered ∙ sym (b .numbered), beside-one (a .valued) (b .valued))
+
+-- qr_kept_votes.
+pub votes-read-one : {answer : VotesAnswer} {n n' : ℕ} {values values' : List ℕ} → VotesRead answer n values → VotesRead answer n' values'
+    → (n ≡ n') × (values ≡ values')
+votes-read-one a b = (a .numbered ∙ sym (b .numbered), a .valued ∙ sym (b .valued))
 
 -- qr_check_certificate, qr_check_proof.
 pub checked-one : {count : ℕ} {answer : CheckAnswer} {n n' missing missing' : ℕ} {values values' : List ℕ} → Checked count answer n values missing → Checked count answer n' values' missing'

@@ -22,6 +22,14 @@ use Rattle.differences.specs.Lent.{differ, differPanel}
 use Rattle.soundness.specs.Starting.{startJudged, startAnswer, startLeft, watchJudged}
 use Rattle.pieces.specs.Pieces.{piecePanel}
 use Rattle.pieces.specs.State.{nodes, pieceLeaves, endLeaves}
+use Rattle.readers.specs.declared.FinalAnswer.{FinalAnswer}
+use Rattle.readers.specs.declared.ArmedAnswer.{ArmedAnswer}
+use Rattle.readers.specs.declared.VotesAnswer.{VotesAnswer}
+use Rattle.readers.specs.Asked.{finalPanel, armedPanel, votesPanel}
+
+-- The version of the face: raised with every change of a function, of a number, or of what a record's words mean.
+abbrev pub version : ℕ
+version = 1
 
 -- The one value beside a number.
 abbrev pub Beside : ℕ → List ℕ → Type 0
@@ -82,6 +90,21 @@ pub record MessageRead (answer : ReadAnswer) (number : ℕ) (values : List ℕ) 
 pub record CardRead (answer : CardAnswer) (number : ℕ) (values : List ℕ) : Type 0 where
   pub numbered : number ≡ cardPanel answer .number
   pub valued : values ≡ cardPanel answer .values
+
+-- A slot's final block: its number, and the block.
+pub record FinalRead (answer : FinalAnswer) (number block : ℕ) : Type 0 where
+  pub numbered : number ≡ finalPanel answer .number
+  pub valued : Beside block (finalPanel answer .values)
+
+-- Whether a slot's window is armed: its number, and 1 or 0.
+pub record ArmedRead (answer : ArmedAnswer) (number armed : ℕ) : Type 0 where
+  pub numbered : number ≡ armedPanel answer .number
+  pub valued : Beside armed (armedPanel answer .values)
+
+-- A node's stored votes in a slot: its number, and the seven words of the cell.
+pub record VotesRead (answer : VotesAnswer) (number : ℕ) (values : List ℕ) : Type 0 where
+  pub numbered : number ≡ votesPanel answer .number
+  pub valued : values ≡ votesPanel answer .values
 
 -- A check under a table of so many nodes: its number, its five values, and what is missing beside 15.
 pub record Checked (count : ℕ) (answer : CheckAnswer) (number : ℕ) (values : List ℕ) (missing : ℕ) : Type 0 where

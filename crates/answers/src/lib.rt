@@ -1,9 +1,11 @@
 // What the operations answer, as numbers and values on the panel: the definitions of the paper's numbers say which.
 ghost use mathlib.Core.Path.{_≡_};
+ghost use Rattle.rulebook.specs.Tools.{part};
 ghost use Rattle.rulebook.specs.PaperNumbers.{startPanel, stepPanel, writePanel, readPanel, checkNumber, checkValues, checkMissing};
 ghost use Rattle.cards.specs.Asked.{cardValues, cardPanel};
 ghost use Rattle.differences.specs.Lent.{differPanel};
 ghost use Rattle.pieces.specs.Pieces.{piecePanel};
+ghost use Rattle.readers.specs.Asked.{finalPanel, armedPanel, cellValues, votesPanel};
 ghost use Rattle.answers.specs.Face.{Beside, voteValues, acceptedValues};
 use cards::CardAnswer;
 use differences::DifferAnswer;
@@ -13,7 +15,11 @@ use kinds::refusal_missing;
 use kinds::refusal_number;
 use kinds::vote_number;
 use pieces::PieceAnswer;
+use readers::ArmedAnswer;
+use readers::FinalAnswer;
+use readers::VotesAnswer;
 use rulebook::Accepted;
+use rulebook::Cell;
 use rulebook::CheckAnswer;
 use rulebook::ReadAnswer;
 use rulebook::Refusal;
@@ -205,4 +211,86 @@ fn tally_values(t: Tally) -> [u64; 5]
     let skipcert = t.skipcert;
     let weight = t.weight;
     [skip.0, finals.0, skipcert.0, t.leader, weight.0]
+}
+
+// What the question for a final block is answered, as a number.
+pub fn final_number(a: FinalAnswer) -> u64
+    ensures { λ r. ⌜ r ≡ finalPanel a .number ⌝ }
+{
+    match a {
+        FinalAnswer::Block(_) => 0,
+        FinalAnswer::Refused(r) => refusal_number(r),
+    }
+}
+
+// The final block, 0 where there is none and beside a refusal.
+pub fn final_value(a: FinalAnswer) -> u64
+    ensures { λ r. ⌜ Beside r (finalPanel a .values) ⌝ }
+{
+    match a {
+        FinalAnswer::Block(b) => b,
+        FinalAnswer::Refused(_) => 0,
+    }
+}
+
+// What the question whether a window is armed is answered, as a number.
+pub fn armed_number(a: ArmedAnswer) -> u64
+    ensures { λ r. ⌜ r ≡ armedPanel a .number ⌝ }
+{
+    match a {
+        ArmedAnswer::Armed(_) => 0,
+        ArmedAnswer::Refused(r) => refusal_number(r),
+    }
+}
+
+// 1 where the window is armed, else 0, and beside a refusal.
+pub fn armed_value(a: ArmedAnswer) -> u64
+    ensures { λ r. ⌜ Beside r (armedPanel a .values) ⌝ }
+{
+    match a {
+        ArmedAnswer::Armed(there) => mark(there),
+        ArmedAnswer::Refused(_) => 0,
+    }
+}
+
+// What the question for a node's votes is answered, as a number.
+pub fn votes_number(a: VotesAnswer) -> u64
+    ensures { λ r. ⌜ r ≡ votesPanel a .number ⌝ }
+{
+    match a {
+        VotesAnswer::Votes(_) => 0,
+        VotesAnswer::Refused(r) => refusal_number(r),
+    }
+}
+
+// The seven words of the node's cell, zeros beside a refusal.
+pub fn votes_values(a: VotesAnswer) -> [u64; 7]
+    ensures { λ r. ⌜ r ≡ votesPanel a .values ⌝ }
+{
+    match a {
+        VotesAnswer::Votes(c) => cell_values(c),
+        VotesAnswer::Refused(_) => [0, 0, 0, 0, 0, 0, 0],
+    }
+}
+
+// 1 for yes.
+fn mark(there: bool) -> u64
+    ensures { λ r. ⌜ r ≡ part there 1 ⌝ }
+{
+    if there { 1 } else { 0 }
+}
+
+// The seven words of a cell.
+fn cell_values(c: Cell) -> [u64; 7]
+    ensures { λ r. ⌜ r ≡ cellValues c ⌝ }
+{
+    [
+        c.notar,
+        c.skip,
+        c.fallback1,
+        c.fallback2,
+        c.fallback3,
+        c.skipfallback,
+        c.finalvote,
+    ]
 }

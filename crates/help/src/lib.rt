@@ -1,5 +1,12 @@
-// What the panel says of itself: the commands, the kinds, and what each refusal means, in document 01's words.
+// What the panel says of itself: the commands, the kinds, and what each number means.
+use door::end_line;
 use door::tell_line;
+use lines::put_decimal;
+use lines::put_text;
+use texts::put_refusal;
+
+// The number of the last refusal.
+const LAST_REFUSAL: u64 = 18;
 
 // The commands that tell a node something.
 fn inputs(page: &mut [u8], at: usize) -> usize {
@@ -161,103 +168,16 @@ fn kinds(page: &mut [u8], at: usize) -> usize {
     )
 }
 
-// Refusals 1 to 6, and any number that is none of the others.
-fn early_refusal(page: &mut [u8], at: usize, n: u64) -> usize {
-    match n {
-        1 => tell_line(
-            page,
-            at,
-            b"1: The stake table, the own number or genesis breaks the sizes.",
-        ),
-        2 => tell_line(page, at, b"2: The node number is not in the table."),
-        3 => tell_line(page, at, b"3: The slot is not 1 to 16."),
-        4 => tell_line(
-            page,
-            at,
-            b"4: The kind is not 1 to 5; or, with more than 64 nodes, a certificate's is not 11 to 15; or the timeout is for a watcher.",
-        ),
-        5 => tell_line(
-            page,
-            at,
-            b"5: The block is 0 where one is needed, or not 0 where none is; or a block's parent number is 0.",
-        ),
-        6 => tell_line(
-            page,
-            at,
-            b"6: The vote is in the own node's name and came from outside.",
-        ),
-        _ => tell_line(page, at, b"No refusal has this number."),
-    }
-}
-
-// Refusals 7 to 12, and those before them.
-fn middle_refusal(page: &mut [u8], at: usize, n: u64) -> usize {
-    match n {
-        7 => tell_line(
-            page,
-            at,
-            b"7: That very vote, block with parent, or timeout is already kept; or a certificate of that kind, slot and block.",
-        ),
-        8 => tell_line(
-            page,
-            at,
-            b"8: Another stands in its place: a second initial vote, a fourth notar-fallback, a fifth block of a slot, a kept block with another parent, another block in a kept certificate's place, a tenth certificate of kind 3.",
-        ),
-        9 => tell_line(
-            page,
-            at,
-            b"9: The outbox is below 160 records; or the buffer below 32 bytes for a certificate, 64 for a proof (768 and 1,536 with more than 64 nodes), 16 for a vote message; or a tray has fewer places for answers than votes; or a list fewer lines than votes differ.",
-        ),
-        10 => tell_line(
-            page,
-            at,
-            b"10: The timeout is for a window that is not armed.",
-        ),
-        11 => tell_line(
-            page,
-            at,
-            b"11: The parent slot is not below the slot, or is slot 0 with another number than genesis.",
-        ),
-        12 => tell_line(
-            page,
-            at,
-            b"12: The packet ends early, or bytes remain; or a part of a vote ends a tray; or no piece was taken before the end.",
-        ),
-        _ => early_refusal(page, at, n),
-    }
-}
-
-// What a refusal means, in a sentence.
+// What a refusal means: its number and its text; of a number that is none, the text alone.
 fn refusal(page: &mut [u8], at: usize, n: u64) -> usize {
-    match n {
-        13 => tell_line(page, at, b"13: A number is not shortest, or above 64 bits."),
-        14 => tell_line(
-            page,
-            at,
-            b"14: A signer is beyond the table or in both masks, or mask B is used where 0 is due.",
-        ),
-        15 => tell_line(
-            page,
-            at,
-            b"15: The weight is below the threshold; a check tells beside it what is missing.",
-        ),
-        16 => tell_line(
-            page,
-            at,
-            b"16: The packet is not one of the two proof forms.",
-        ),
-        17 => tell_line(
-            page,
-            at,
-            b"17: No node is started; or the record has a wrong length, a field outside its range, an own number above the number of nodes, a total that is not the sum, a fallback block kept twice for one node, an own notar-fallback whose block does not reach rule D's weights, a block kept twice in a slot, a tally card that a recount of the slot's votes does not give, a kept certificate that the checker refuses or that repeats another, or an unused place that is not 0.",
-        ),
-        18 => tell_line(
-            page,
-            at,
-            b"18: The certificate or proof asked for is not held.",
-        ),
-        _ => middle_refusal(page, at, n),
+    if n > LAST_REFUSAL {
+        let end = put_refusal(page, at, n);
+        return end_line(page, end);
     }
+    let p = put_decimal(page, at, n);
+    let q = put_text(page, p, b": ");
+    let r = put_refusal(page, q, n);
+    end_line(page, r)
 }
 
 // Every refusal, each in a sentence.
@@ -281,8 +201,5 @@ pub fn help(page: &mut [u8]) -> bool {
 
 // Tells what a number means, and whether the line was written.
 pub fn why(page: &mut [u8], n: u64) -> bool {
-    if n == 0 {
-        return tell_line(page, 0, b"0: Done.") < page.len();
-    }
     refusal(page, 0, n) < page.len()
 }

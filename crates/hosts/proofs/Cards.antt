@@ -37,7 +37,7 @@ module _ (stakes : List ℕ) (own genesis : ℕ) (life : HostLife) (h : HostLive
       subst (λ (x : List ℕ). CardsAgree (ledgerOf x)) (last-is (life .words) before)
       (code-cards-agree stakes own genesis (lifeOf life) (lived-is stakes own genesis life h) (callsOf (life .words) before) (callsOf ws later) split)
 
-  sound-then : soundWords ws ≡ true
+  pub sound-then : soundWords ws ≡ true
   sound-then =
       subst (λ (x : List ℕ). soundWords x ≡ true) (last-is (life .words) before)
       (code-record-sound stakes own genesis (upTo (lifeOf life) (callsOf (life .words) before))

@@ -7,5 +7,6 @@ pub mod Honest
 pub mod Received
 pub mod Fallbacks
 pub mod Cards
+pub mod Readers
 pub mod Watchers
 pub mod Following

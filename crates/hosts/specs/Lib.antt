@@ -4,4 +4,5 @@ pub mod Ring
 pub mod Received
 pub mod Fallbacks
 pub mod Cards
+pub mod Readers
 pub mod Watchers

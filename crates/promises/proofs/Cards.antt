@@ -25,6 +25,10 @@ use Rattle.cards.specs.declared.CardAnswer.{CardAnswer}
 use Rattle.cards.specs.declared.CardAnswer.the-variants as card
 use Rattle.cards.specs.Asked.{cardOn, cardPanel}
 use Rattle.cards.proofs.Ways.{unsound-card, slotless-card, card-recounted}
+use Rattle.readers.specs.declared.FinalAnswer.{FinalAnswer}
+use Rattle.readers.specs.declared.ArmedAnswer.{ArmedAnswer}
+use Rattle.readers.specs.declared.VotesAnswer.{VotesAnswer}
+use Rattle.readers.specs.Asked.{finalPanel, armedPanel, votesPanel}
 use Rattle.promises.specs.Panels.{shown, besideIt, soundFirst, stepJudged, takeJudged, trayJudged}
 use Rattle.promises.specs.Differs.{shownAs}
 use Rattle.promises.specs.Cards.{CardShown, FaceCardRefused, cardLine, CardPrinted, RefusedEverywhere, DisagreeingRefused, RefusedCards, FaceRefusedCards}
@@ -32,6 +36,7 @@ use Rattle.promises.proofs.Numbered.{step-refusal}
 use Rattle.promises.proofs.Shown.{step-shown, take-shown, tray-shown, certificate-shown, proof-shown}
 use Rattle.promises.proofs.Refused.{fed-kept, face-step-refused, face-take-refused, face-tray-refused}
 use Rattle.promises.proofs.Differs.{face-differ}
+use Rattle.promises.proofs.Readers.{unsound-final, unsound-armed, unsound-votes}
 use Rattle.promises.proofs.Printed.{sends}
 
 -- ---- what is answered
@@ -78,7 +83,7 @@ card-printed ws s number values h =
 -- ---- words that are not sound, as with a card that disagrees
 
 pub unsound-refused : (ws : List ℕ) → soundWords ws ≡ false → RefusedEverywhere ws
-unfolding cardPanel refusalNumber stepJudged takeJudged trayJudged
+unfolding cardPanel finalPanel armedPanel votesPanel refusalNumber stepJudged takeJudged trayJudged
 unsound-refused ws e =
     record {
       stepped = λ out i number made ws' left h.
@@ -102,6 +107,9 @@ unsound-refused ws e =
           ∙ ap (λ (p : Panel). p .number) (proof-shown ws buffer s b (proofOn ws (length buffer) s b .answer) _ (record { answered = refl; bytes = refl }))
           ∙ unsound-shown ws _ _ e;
       card = λ s number values h. h .numbered ∙ ap (λ (a : CardAnswer). cardPanel a .number) (unsound-card ws s e);
+      final = λ s number block h. h .numbered ∙ ap (λ (a : FinalAnswer). finalPanel a .number) (unsound-final ws s e);
+      armed = λ s number flag h. h .numbered ∙ ap (λ (a : ArmedAnswer). armedPanel a .number) (unsound-armed ws s e);
+      votes = λ s n number values h. h .numbered ∙ ap (λ (a : VotesAnswer). votesPanel a .number) (unsound-votes ws s n e);
       first = λ two list number beside left h. sided (face-differ ws two list number beside left h .first e .0);
       second = λ one list number beside left t h. sided (face-differ one ws list number beside left h .second t e .0);
     }

@@ -10,6 +10,7 @@ pub mod Printed
 pub mod Families
 pub mod Differs
 pub mod Pieces
+pub mod Readers
 pub mod Cards
 pub mod Certificates
 pub mod Watchers

@@ -19,7 +19,8 @@ use Rattle.lines.specs.Answers.{answerLine, fiveValues, checkLine}
 use Rattle.writers.specs.Writing.{certificateOn, proofOn}
 use Rattle.cards.specs.declared.CardAnswer.{CardAnswer}
 use Rattle.cards.specs.Asked.{cardOn, cardValues, cardPanel}
-use Rattle.answers.specs.Face.{Stepped, Taken, Trayed, Wrote, CardRead, Compared}
+use Rattle.readers.specs.Asked.{finalOn, armedOn, votesOn}
+use Rattle.answers.specs.Face.{Stepped, Taken, Trayed, Wrote, CardRead, FinalRead, ArmedRead, VotesRead, Compared}
 use Rattle.promises.specs.Panels.{shown, soundFirst}
 use Rattle.promises.specs.Printed.{Sends}
 
@@ -56,7 +57,7 @@ pub record Disagrees (ws : List ℕ) : Type 0 where
   pub other : ¬ (rowAt (ledgerOf ws) slot .card ≡ recount (ledgerOf ws) slot)
 
 -- Every function of the face that is lent a node's record answers 17: qr_vote, qr_block, qr_timeout and qr_look; qr_take; qr_tray; the two
--- writers; qr_card; qr_differ with the side whose record it is.
+-- writers; qr_card, qr_final_block, qr_is_armed and qr_kept_votes; qr_differ with the side whose record it is.
 pub record RefusedEverywhere (ws : List ℕ) : Type 0 where
   pub stepped : (out : List ℕ) (i : Input) (number made : ℕ) (ws' left : List ℕ) → Stepped ws out i number made ws' left → number ≡ 17
   pub taken : (out packet : List ℕ) (number made : ℕ) (ws' left : List ℕ) → Taken ws out packet number made ws' left → number ≡ 17
@@ -67,6 +68,9 @@ pub record RefusedEverywhere (ws : List ℕ) : Type 0 where
   pub proof : (buffer : List ℕ) (s b number written : ℕ) (after : List ℕ) → Wrote (proofOn ws (length buffer) s b) buffer number written after
       → number ≡ 17
   pub card : (s number : ℕ) (values : List ℕ) → CardRead (cardOn ws s) number values → number ≡ 17
+  pub final : (s number block : ℕ) → FinalRead (finalOn ws s) number block → number ≡ 17
+  pub armed : (s number flag : ℕ) → ArmedRead (armedOn ws s) number flag → number ≡ 17
+  pub votes : (s n number : ℕ) (values : List ℕ) → VotesRead (votesOn ws s n) number values → number ≡ 17
   pub first : (two list : List ℕ) (number beside : ℕ) (left : List ℕ) → Compared ws two list number beside left → (number ≡ 17) × (beside ≡ 1)
   pub second : (one list : List ℕ) (number beside : ℕ) (left : List ℕ) → soundWords one ≡ true → Compared one ws list number beside left
       → (number ≡ 17) × (beside ≡ 2)

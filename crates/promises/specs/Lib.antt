@@ -9,5 +9,6 @@ pub mod Families
 pub mod Differs
 pub mod Pieces
 pub mod Cards
+pub mod Readers
 pub mod Certificates
 pub mod Watchers

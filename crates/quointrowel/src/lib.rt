@@ -10,8 +10,12 @@ ghost use Rattle.record.specs.Layout.{recordWords};
 ghost use Rattle.writers.specs.Writing.{certificateOn, proofOn};
 ghost use Rattle.rulebook.specs.declared.Input.the-variants as input;
 ghost use Rattle.cards.specs.Asked.{cardOn};
+ghost use Rattle.readers.specs.Asked.{finalOn, armedOn, votesOn};
+ghost use Rattle.texts.specs.Texts.{textOn};
 ghost use Rattle.pieces.specs.State.{stateWords, frontBytes};
-ghost use Rattle.answers.specs.Face.{voteInput, blockInput, timeoutInput, Started, Watched, Stepped, Taken, Trayed, Wrote, MessageRead, CardRead, Checked, Compared, Pieced, Ended};
+ghost use Rattle.answers.specs.Face.{version, voteInput, blockInput, timeoutInput, Started, Watched, Stepped, Taken, Trayed, Wrote, MessageRead, CardRead, FinalRead, ArmedRead, VotesRead, Checked, Compared, Pieced, Ended};
+use answers::armed_number;
+use answers::armed_value;
 use answers::bytes_written;
 use answers::card_number;
 use answers::card_values;
@@ -20,12 +24,16 @@ use answers::check_number;
 use answers::check_values;
 use answers::differ_number;
 use answers::differ_value;
+use answers::final_number;
+use answers::final_value;
 use answers::piece_number;
 use answers::read_number;
 use answers::read_values;
 use answers::records_made;
 use answers::start_number;
 use answers::step_number;
+use answers::votes_number;
+use answers::votes_values;
 use answers::write_number;
 use cards::read_card;
 use checker::check_certificate;
@@ -43,6 +51,9 @@ use pieces::front_bytes;
 use pieces::node_count;
 use pieces::piece;
 use pieces::state_words;
+use readers::read_armed;
+use readers::read_final;
+use readers::read_votes;
 use record::record_words;
 use rulebook::Input;
 use rulebook::Node;
@@ -50,9 +61,18 @@ use rulebook::Slot;
 use soundness::start;
 use soundness::watch;
 use taking::take;
+use texts::refusal_text;
 use trays::tray;
 use writers::write_certificate;
 use writers::write_proof;
+
+// The version of the library that is linked.
+#[no_mangle]
+pub extern "C" fn qr_version() -> u64
+    ensures { λ r. ⌜ r ≡ version ⌝ }
+{
+    1
+}
 
 // How many words the record of a node has, by the number of stakes.
 #[no_mangle]
@@ -221,6 +241,36 @@ pub extern "C" fn qr_card(rec: &[u64], slot: usize, values: &mut [u64; 5]) -> u6
     card_number(a)
 }
 
+// Reads a slot's final block.
+#[no_mangle]
+pub extern "C" fn qr_final_block(rec: &[u64], slot: usize, block: &mut u64) -> u64
+    ensures { λ r. ⌜ FinalRead (finalOn (now (rec .entry)) slot) r (now (block .exit)) ⌝ }
+{
+    let a = read_final(rec, Slot(slot));
+    *block = final_value(a);
+    final_number(a)
+}
+
+// Reads whether a slot's window is armed: 1 or 0.
+#[no_mangle]
+pub extern "C" fn qr_is_armed(rec: &[u64], slot: usize, armed: &mut u64) -> u64
+    ensures { λ r. ⌜ ArmedRead (armedOn (now (rec .entry)) slot) r (now (armed .exit)) ⌝ }
+{
+    let a = read_armed(rec, Slot(slot));
+    *armed = armed_value(a);
+    armed_number(a)
+}
+
+// Reads a node's stored votes in a slot: the seven words of its cell.
+#[no_mangle]
+pub extern "C" fn qr_kept_votes(rec: &[u64], slot: usize, node: usize, values: &mut [u64; 7]) -> u64
+    ensures { λ r. ⌜ VotesRead (votesOn (now (rec .entry)) slot node) r (now (values .exit)) ⌝ }
+{
+    let a = read_votes(rec, Slot(slot), Node(node));
+    *values = votes_values(a);
+    votes_number(a)
+}
+
 // Checks a packet that is to be one certificate.
 #[no_mangle]
 pub extern "C" fn qr_check_certificate(
@@ -339,4 +389,14 @@ pub extern "C" fn qr_differ(
     let a = differ(first, second, list);
     *beside = differ_value(a);
     differ_number(a)
+}
+
+// Writes what a number means, in a sentence, to the buffer's front.
+#[no_mangle]
+pub extern "C" fn qr_refusal_text(buffer: &mut [u8], written: &mut usize, number: u64) -> u64
+    ensures { λ r. ⌜ Wrote (textOn (length (now (buffer .entry))) number) (now (buffer .entry)) r (now (written .exit)) (now (buffer .exit)) ⌝ }
+{
+    let a = refusal_text(buffer, number);
+    *written = bytes_written(a);
+    write_number(a)
 }

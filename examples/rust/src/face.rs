@@ -8,6 +8,7 @@
 #[rustfmt::skip]
 mod c {
     extern "C" {
+        pub fn qr_version() -> u64;
         pub fn qr_record_words(stake_count: usize) -> usize;
         pub fn qr_outbox_words() -> usize;
         pub fn qr_pieces_words() -> usize;
@@ -30,6 +31,9 @@ mod c {
         pub fn qr_write_proof(record: *const u64, record_words: usize, buffer: *mut u8, buffer_bytes: usize,
                               written: *mut usize, slot: usize, block: u64) -> u64;
         pub fn qr_card(record: *const u64, record_words: usize, slot: usize, values: *mut [u64; 5]) -> u64;
+        pub fn qr_final_block(record: *const u64, record_words: usize, slot: usize, block: *mut u64) -> u64;
+        pub fn qr_is_armed(record: *const u64, record_words: usize, slot: usize, armed: *mut u64) -> u64;
+        pub fn qr_kept_votes(record: *const u64, record_words: usize, slot: usize, node: usize, values: *mut [u64; 7]) -> u64;
         pub fn qr_check_certificate(stakes: *const u64, stake_count: usize, packet: *const u8, packet_bytes: usize,
                                     values: *mut [u64; 5], missing: *mut u64) -> u64;
         pub fn qr_check_proof(stakes: *const u64, stake_count: usize, packet: *const u8, packet_bytes: usize,
@@ -43,6 +47,7 @@ mod c {
                              kind: u64, node: usize, slot: usize, block: u64) -> u64;
         pub fn qr_differ(first: *const u64, first_words: usize, second: *const u64, second_words: usize,
                          list: *mut u64, list_words: usize, beside: *mut usize) -> u64;
+        pub fn qr_refusal_text(buffer: *mut u8, buffer_bytes: usize, written: *mut usize, number: u64) -> u64;
     }
 }
 
@@ -60,6 +65,10 @@ pub type Check = (u64, [u64; 5], u64);
 fn checked(call: impl FnOnce(&mut [u64; 5], &mut u64) -> u64) -> Check {
     let (mut values, mut missing) = ([0; 5], 0);
     (call(&mut values, &mut missing), values, missing)
+}
+
+pub fn version() -> u64 {
+    unsafe { c::qr_version() }
 }
 
 pub fn record_words(stake_count: usize) -> usize {
@@ -160,6 +169,24 @@ pub fn card(record: &[u64], slot: usize) -> (u64, [u64; 5]) {
     (number, values)
 }
 
+pub fn final_block(record: &[u64], slot: usize) -> (u64, u64) {
+    let mut block = 0;
+    let number = unsafe { c::qr_final_block(record.as_ptr(), record.len(), slot, &mut block) };
+    (number, block)
+}
+
+pub fn is_armed(record: &[u64], slot: usize) -> (u64, u64) {
+    let mut armed = 0;
+    let number = unsafe { c::qr_is_armed(record.as_ptr(), record.len(), slot, &mut armed) };
+    (number, armed)
+}
+
+pub fn kept_votes(record: &[u64], slot: usize, node: usize) -> (u64, [u64; 7]) {
+    let mut values = [0; 7];
+    let number = unsafe { c::qr_kept_votes(record.as_ptr(), record.len(), slot, node, &mut values) };
+    (number, values)
+}
+
 pub fn check_certificate(stakes: &[u64], packet: &[u8]) -> Check {
     checked(|values, missing| unsafe {
         c::qr_check_certificate(stakes.as_ptr(), stakes.len(), packet.as_ptr(), packet.len(), values, missing)
@@ -210,4 +237,9 @@ pub fn differ(first: &[u64], second: &[u64], list: &mut [u64]) -> Counted {
     counted(|beside| unsafe {
         c::qr_differ(first.as_ptr(), first.len(), second.as_ptr(), second.len(), list, room, beside)
     })
+}
+
+pub fn refusal_text(buffer: &mut [u8], number: u64) -> Counted {
+    let (room, buffer) = (buffer.len(), buffer.as_mut_ptr());
+    counted(|written| unsafe { c::qr_refusal_text(buffer, room, written, number) })
 }

@@ -3,7 +3,7 @@
 //! A node is its [`Record`]. The host feeds it votes, blocks, timeouts and other nodes' certificates; what the node does in
 //! answer stands in an [`Outbox`], the votes to be sent among it; a watcher, [`Record::watch`], never votes. Certificates and
 //! finality proofs are bytes, written by a record and checked by [`check_certificate`] and [`check_proof`] against the stakes
-//! alone. Every refusal is a [`Refusal`].
+//! alone. Every refusal is a [`Refusal`]. A stored record is for the [`version`] that wrote it; certificates and proofs carry over.
 //!
 //! ```no_run
 //! use quointrowel::{check_proof, Block, Event, Node, Outbox, Record, Slot};
@@ -29,6 +29,7 @@ mod face;
 mod message;
 mod record;
 mod refusal;
+mod version;
 mod words;
 
 pub use checker::{check_certificate, check_proof, Checked, ProofInPieces};
@@ -36,4 +37,5 @@ pub use difference::{differences, Comparison, Difference, Side};
 pub use message::{read_vote, write_vote};
 pub use record::{Outbox, Record};
 pub use refusal::Refusal;
+pub use version::{version, VERSION};
 pub use words::{Block, Card, CertificateKind, Event, Node, Slot, Vote, VoteKind, Weight};

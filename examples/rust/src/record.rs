@@ -150,6 +150,27 @@ impl Record {
         Ok(Card::of_words(values))
     }
 
+    /// A slot's final block, by certificates or as an ancestor of such a block; None where there is none.
+    pub fn final_block(&self, slot: Slot) -> Result<Option<u64>, Refusal> {
+        let (number, block) = face::final_block(&self.words, slot.0);
+        Refusal::check(number, 0)?;
+        Ok((block != 0).then_some(block))
+    }
+
+    /// Whether a slot's window is armed, so that its timeouts are taken.
+    pub fn is_armed(&self, slot: Slot) -> Result<bool, Refusal> {
+        let (number, armed) = face::is_armed(&self.words, slot.0);
+        Refusal::check(number, 0)?;
+        Ok(armed != 0)
+    }
+
+    /// The stored votes of a node in a slot, the own node's too: the initial vote, then its fallbacks, then its final vote.
+    pub fn kept_votes(&self, slot: Slot, node: Node) -> Result<Vec<Vote>, Refusal> {
+        let (number, words) = face::kept_votes(&self.words, slot.0, node.0);
+        Refusal::check(number, 0)?;
+        Ok(Vote::of_cell(slot, node, words))
+    }
+
     /// A record's length tells how many nodes its ring has.
     fn is_large(&self) -> bool {
         self.words.len() > face::record_words(MOST_SMALL)

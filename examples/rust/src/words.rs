@@ -53,6 +53,15 @@ impl Vote {
         [self.kind as u64, self.node.0 as u64, self.slot.0 as u64, self.block]
     }
 
+    /// The votes that a node's seven words in a slot tell: notar and notar-fallbacks by their blocks, the others by a 1.
+    pub(crate) fn of_cell(slot: Slot, node: Node, words: [u64; 7]) -> Vec<Vote> {
+        use VoteKind::*;
+        let kinds = [Notar, Skip, NotarFallback, NotarFallback, NotarFallback, SkipFallback, Final];
+        let stored = kinds.into_iter().zip(words).filter(|&(_, word)| word != 0);
+        let block = |kind, word| if matches!(kind, Notar | NotarFallback) { word } else { 0 };
+        stored.map(|(kind, word)| Vote { kind, node, slot, block: block(kind, word) }).collect()
+    }
+
     /// None where the words have no kind of a vote.
     pub(crate) fn of_words([kind, node, slot, block]: [u64; 4]) -> Option<Vote> {
         let kind = VoteKind::of_number(kind)?;

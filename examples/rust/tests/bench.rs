@@ -124,6 +124,22 @@ fn a_card_tells_what_votes_weigh() {
 }
 
 #[test]
+fn a_record_is_read() {
+    let (record, _) = b1();
+    assert_eq!(record.final_block(Slot(1)), Ok(Some(7)));
+    assert_eq!(record.final_block(Slot(2)), Ok(None));
+    assert_eq!([4, 5].map(|slot| record.is_armed(Slot(slot))), [Ok(true), Ok(false)]);
+    let own = vec![vote(VoteKind::Notar, 0, 1, 7), vote(VoteKind::Final, 0, 1, 0)];
+    assert_eq!(record.kept_votes(Slot(1), Node(0)), Ok(own));
+    assert_eq!(record.kept_votes(Slot(16), Node(0)), Ok(vec![]));
+    assert_eq!(record.kept_votes(Slot(1), Node(1)), Err(Refusal::BadNode));
+    assert_eq!(record.kept_votes(Slot(0), Node(1)), Err(Refusal::BadSlot));
+    let cut = Record::from_words(record.words()[1..].to_vec());
+    assert_eq!(cut.final_block(Slot(1)), Err(Refusal::BadRecord));
+    assert_eq!(cut.is_armed(Slot(0)), Err(Refusal::BadRecord));
+}
+
+#[test]
 fn two_records_are_compared() {
     let start = |own| Record::start(&[4, 3, 3], Node(own), 1).unwrap();
     let (mut tokyo, mut zurich, mut outbox) = (start(0), start(1), Outbox::new());

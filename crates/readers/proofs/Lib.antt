@@ -1,0 +1,2 @@
+-- What is answered, way by way.
+pub mod Ways

@@ -1,0 +1,2 @@
+-- What is answered to a host's questions.
+pub mod Asked

@@ -1,0 +1,2 @@
+-- Laws of the texts.
+pub mod Laws

@@ -1,0 +1,3 @@
+-- The text of each number.
+pub mod Texts
+pub mod Cases
