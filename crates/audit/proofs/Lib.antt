@@ -1,3 +1,4 @@
 pub mod Summing
 pub mod Rivals
 pub mod Fitting
+pub mod Groups

@@ -133,7 +133,7 @@ module _ (l : Ledger) (s : ℕ) where
         by-test (leads m w b v) (λ t. leads-on m w b v t (λ i. absurd (omega arith)) (λ i j. absurd (omega arith))) (λ t. t)
 
     -- nor does b itself
-    rival-self : (m : ℕ) → eqb m b ≡ true → rivals l s b v m ≡ false
+    pub rival-self : (m : ℕ) → eqb m b ≡ true → rivals l s b v m ≡ false
     rival-self m e =
         let q = eqb-true m b e in
         let z = ap weighs q in

@@ -1,10 +1,11 @@
 -- The sums of one pass: none, one node more, a blank cell, no wrapping; and what they say of a slot's cells and card. Assumes nothing.
-use mathlib.Core.Path.{_≡_, refl, sym, ap, _∙_}
+use mathlib.Core.Path.{_≡_, refl, sym, ap, ap₂, _∙_}
 use mathlib.Core.Bool.{Bool, true, false, not, _&&_, _||_}
 use Prim.Native.Nat.{ℕ, _+_, _<_}
 use native.Mathlib.Omega.{arith}
 use lib.Dec.{eqb, ltb}
-use borrow.Author.Tests.{eqb-true, ne-eqb, lt-ltb, le-ltb}
+use lib.Bits.{bitOr, or-comm, or-add-and, and-le-r}
+use borrow.Author.Tests.{eqb-true, eq-eqb, ne-eqb, lt-ltb, le-ltb}
 use Rattle.rulebook.specs.declared.Cell.{Cell}
 use Rattle.rulebook.specs.declared.Tally.{Tally}
 use Rattle.rulebook.specs.declared.Who.the-variants as who
@@ -14,7 +15,7 @@ use Rattle.rulebook.specs.Ledger.{Ledger, none, noCell, noCard, places, rowAt, 
 use Rattle.rulebook.specs.Pool.{counts, weigh}
 use Rattle.rulebook.specs.Cards.{most, leader, recount, sameCard}
 use Rattle.rulebook.specs.WellFormed.{inOrder, cellFits, cellBlank, cellsFit, cardFits}
-use Rattle.rulebook.proofs.ToolLaws.{given-on, given-off, and-both, by-test, all-none, all-more, all-same, all-at, all-each}
+use Rattle.rulebook.proofs.ToolLaws.{given-on, given-off, and-both, both-and, by-test, same-test, all-none, all-more, all-same, all-at, all-each}
 use Rattle.rulebook.proofs.WeightLaws.{weight-none, weight-same, weight-more, weight-room}
 use Rattle.recounting.proofs.Using.{same-card}
 use Rattle.record.specs.Tabled.{Tabled}
@@ -197,3 +198,26 @@ votes-blank l s full c ec e f =
     (λ i h. blank-cell (cellAt l s i) (all-at (places l) i (λ n. cellBlank (cellAt l s n)) (unused-blank l s ∙ f) (omega arith))) in
     let b = sym (blank-sums l s 0 each) in
     fits-none l s 0 0 0 (summed-any l s 0 noSums b) refl ∙ votes-on l s full noCard noSums (sym (same-card c noCard e) ∙ ec) b refl
+
+-- ---- words or-ed together
+
+or-zero : (a b : ℕ) → bitOr a b ≡ 0 → a ≡ 0
+or-zero a b e = omega (arith, or-add-and a b, and-le-r a b)
+
+pub or-blank : (a b : ℕ) → none (bitOr a b) ≡ (none a && none b)
+or-blank a b =
+    same-test (none (bitOr a b)) (none a && none b)
+    (λ t.
+    let e = eqb-true (bitOr a b) 0 t in
+    both-and (none a) (none b) (eq-eqb a 0 (or-zero a b e)) (eq-eqb b 0 (or-zero b a (or-comm b a ∙ e))))
+    (λ t. let h = and-both (none a) (none b) t in eq-eqb (bitOr a b) 0 (ap₂ bitOr (eqb-true a 0 (h .0)) (eqb-true b 0 (h .1))))
+
+pub words-blank : (c : Cell) → none (bitOr (bitOr (c .notar) (c .skip)) (bitOr (bitOr (c .fallback1) (bitOr (c .fallback2) (c .fallback3))) (bitOr (c .skipfallback) (c .finalvote)))) ≡ cellBlank c
+unfolding cellBlank
+words-blank c =
+    or-blank (bitOr (c .notar) (c .skip)) (bitOr (bitOr (c .fallback1) (bitOr (c .fallback2) (c .fallback3))) (bitOr (c .skipfallback) (c .finalvote)))
+    ∙ ap₂ (λ (x y : Bool). x && y) (or-blank (c .notar) (c .skip))
+    (or-blank (bitOr (c .fallback1) (bitOr (c .fallback2) (c .fallback3))) (bitOr (c .skipfallback) (c .finalvote))
+    ∙ ap₂ (λ (x y : Bool). x && y)
+    (or-blank (c .fallback1) (bitOr (c .fallback2) (c .fallback3)) ∙ ap (λ (x : Bool). none (c .fallback1) && x) (or-blank (c .fallback2) (c .fallback3)))
+    (or-blank (c .skipfallback) (c .finalvote)))

@@ -30,10 +30,14 @@ pub record Trying (ws : List ℕ) (s n : ℕ) : Type 0 where
   pub weighing : Weighing ws s
   pub nodes : n ≤ places (ledgerOf ws)
 
--- The slot can be weighed, block b has weight v, and all notar votes weigh so much.
-pub record Claimed (ws : List ℕ) (s b v any : ℕ) : Type 0 where
+-- The slot can be weighed, and block b has weight v.
+pub record Leading (ws : List ℕ) (s b v : ℕ) : Type 0 where
   pub weighing : Weighing ws s
   pub block : 1 ≤ b
   pub some : 1 ≤ v
   pub weight : weigh (ledgerOf ws) s (who.Notar b) ≡ v
+
+-- Likewise, and all notar votes weigh so much.
+pub record Claimed (ws : List ℕ) (s b v any : ℕ) : Type 0 where
+  pub leading : Leading ws s b v
   pub all : any ≡ weigh (ledgerOf ws) s who.AnyNotar

@@ -1,23 +1,24 @@
 // The 17 test of a slot's votes: every cell in range, and the tally card what a recount gives. One pass over the cells tests them
 // and sums all that the card is held to. Only where no block has more than all the others together are others weighed, each once.
 ghost use mathlib.Core.Path.{_≡_};
-ghost use mathlib.Core.Bool.{_&&_};
+ghost use mathlib.Core.Bool.{false, _&&_};
 ghost use Prim.Native.Nat.{_+_, _≤_, _^_};
 ghost use lib.Dec.{eqb};
 ghost use Rattle.rulebook.specs.Tools.{part};
 ghost use Rattle.rulebook.specs.Weights.{stakeIn};
-ghost use Rattle.rulebook.specs.Ledger.{noCard, cellAt};
+ghost use Rattle.rulebook.specs.Ledger.{none, noCard, cellAt};
 ghost use Rattle.rulebook.specs.Cards.{most, leader, sameCard};
 ghost use Rattle.rulebook.specs.WellFormed.{inOrder, cellFits, cellBlank, cellsFit, cardFits};
 ghost use Rattle.record.specs.Layout.{InSlot, ledgerOf};
 ghost use Rattle.pool.specs.Weighing.{Weighing};
 ghost use Rattle.audit.specs.Summing.{fallbacksFit, noSums, withCell, sumsTo, Room, Adding, Summed, Auditing, Recounting};
-ghost use Rattle.audit.specs.Rivals.{Trying, Claimed, firstWeight, hasRival};
+ghost use Rattle.audit.specs.Rivals.{Trying, Leading, Claimed, firstWeight, hasRival};
 use candidates::is_new;
 use pool::weigh;
 use record::count;
 use record::load_card;
 use record::load_cell;
+use record::notar_of;
 use record::places_in;
 use record::stake;
 use rulebook::Cell;
@@ -38,6 +39,9 @@ pub struct Sums {
     pub any: Weight,
     pub lead: Weight,
 }
+
+// How many groups the votes for other blocks than the leader are summed in.
+const GROUPS: usize = 64;
 
 // Two places for blocks: the later is filled only after the earlier, and not with the same number.
 pub fn in_order(x: u64, y: u64) -> bool
@@ -191,6 +195,40 @@ fn has_rival(rec: &[u64], s: Slot, b: u64, v: Weight, any: Weight) -> bool
     false
 }
 
+// Whether some block other than b may lead b at weight v. The notar votes for others are summed in groups by the last bits of
+// their blocks' numbers: no block has more than its group.
+fn may_be_led(rec: &[u64], s: Slot, b: u64, v: Weight) -> bool
+    requires { ⌜ Leading (now rec) (s .0) b (v .0) ⌝ }
+    ensures { λ r. ⌜ (r ≡ false → hasRival (ledgerOf (now (rec .entry))) (s .0) b (v .0) (ledgerOf (now (rec .entry)) .count) ≡ false) ⌝ }
+{
+    let nodes = count(rec);
+    let mut groups = [0u64; GROUPS];
+    for n in 0..nodes {
+        let m = notar_of(rec, s, Node(n));
+        if (m != 0) & (m != b) {
+            let w = stake(rec, Node(n));
+            let g = (m % 64) as usize;
+            let sum = groups[g] + w.0;
+            if leads(m, Weight(sum), b, v) {
+                return true;
+            }
+            groups[g] = sum;
+        }
+    }
+    false
+}
+
+// Whether some block of the slot leads b at weight v. Blocks are weighed only where a group has enough.
+fn is_led(rec: &[u64], s: Slot, b: u64, v: Weight, any: Weight) -> bool
+    requires { ⌜ Claimed (now rec) (s .0) b (v .0) (any .0) ⌝ }
+    ensures { λ r. ⌜ r ≡ hasRival (ledgerOf (now (rec .entry))) (s .0) b (v .0) (ledgerOf (now (rec .entry)) .count) ⌝ }
+{
+    if !may_be_led(rec, s, b, v) {
+        return false;
+    }
+    has_rival(rec, s, b, v, any)
+}
+
 // Whether the card's leader leads the slot at the card's weight.
 fn leader_fits(rec: &[u64], s: Slot, t: Tally, sums: Sums) -> bool
     requires { ⌜ Summed (now rec) (s .0) (t .leader) sums ⌝ }
@@ -209,7 +247,7 @@ fn leader_fits(rec: &[u64], s: Slot, t: Tally, sums: Sums) -> bool
     if any.0 < w.0 + w.0 {
         return true;
     }
-    !has_rival(rec, s, b, v, any)
+    !is_led(rec, s, b, v, any)
 }
 
 // Whether a slot's cells fit, and its card t is what a recount of its votes gives.
@@ -243,18 +281,25 @@ pub fn card_blank(t: Tally) -> bool
     sums & ((t.leader == 0) & (weight.0 == 0))
 }
 
-// No cell of a row has anything in it.
+// All words of a cell or-ed together.
+fn cell_words(c: Cell) -> u64
+    ensures { λ r. ⌜ none r ≡ cellBlank c ⌝ }
+{
+    let fallbacks = c.fallback1 | (c.fallback2 | c.fallback3);
+    (c.notar | c.skip) | (fallbacks | (c.skipfallback | c.finalvote))
+}
+
+// No cell of a row has anything in it: all words are or-ed together, with no test between them.
 pub fn cells_blank(rec: &[u64], s: Slot) -> bool
     requires { ⌜ InSlot (now rec) (s .0) ⌝ }
     ensures { λ r. ⌜ r ≡ cellsFit (ledgerOf (now (rec .entry))) (s .0) 0 ⌝ }
 {
     let places = places_in(rec);
-    let mut ok = true;
+    let mut all: u64 = 0;
     for n in 0..places {
-        let here = cell_blank(load_cell(rec, s, Node(n)));
-        ok = ok & here;
+        all = all | cell_words(load_cell(rec, s, Node(n)));
     }
-    ok
+    all == 0
 }
 
 // Whether a slot's cells fit, and its card is what a recount of its votes gives. Nothing is summed where nothing stands.

@@ -197,16 +197,16 @@ pub fn fallback_block(rec: &[u64], s: Slot) -> u64
     lowest_fallback(rec, s)
 }
 
-// F's test: kind 1 held for b, or kinds 2 for b and 5.
+// F's test: kind 1 held for b, or kinds 2 for b and 5. Where kind 1 is held kind 2 is, which is asked for first.
 pub fn is_final(rec: &[u64], s: Slot, b: u64) -> bool
     requires { ⌜ Carded (now rec) (s .0) ⌝ }
     ensures { λ r. ⌜ r ≡ isFinal (ledgerOf (now (rec .entry))) (s .0) b ⌝ }
 {
-    if held(rec, CertificateKind::FastFinal, s, b) {
-        return true;
-    }
     if !held(rec, CertificateKind::Notar, s, b) {
         return false;
+    }
+    if held(rec, CertificateKind::FastFinal, s, b) {
+        return true;
     }
     held(rec, CertificateKind::Final, s, 0)
 }

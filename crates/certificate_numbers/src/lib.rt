@@ -6,7 +6,7 @@ ghost use Rattle.certificate_numbers.specs.Told.{headingAt, foundAs, Scr
 ghost use Rattle.numbers.specs.Written.{Room, Written};
 use mask_words::read_mask;
 use mask_words::write_mask;
-use numbers::read_number;
+use numbers::take_number;
 use numbers::write_number;
 use rulebook::Found;
 use rulebook::Heading;
@@ -52,15 +52,15 @@ fn failed_mask(m: Laid) -> Found
 fn read_heading(bytes: &[u8], at: usize) -> Found
     ensures { λ r. ⌜ r ≡ headingAt (now (bytes .entry)) at ⌝ }
 {
-    let n1 = read_number(bytes, at);
+    let n1 = take_number(bytes, at);
     let Reading::Number(kind, p) = n1 else {
         return failed(n1);
     };
-    let n2 = read_number(bytes, p);
+    let n2 = take_number(bytes, p);
     let Reading::Number(slot, q) = n2 else {
         return failed(n2);
     };
-    let n3 = read_number(bytes, q);
+    let n3 = take_number(bytes, q);
     let Reading::Number(block, next) = n3 else {
         return failed(n3);
     };

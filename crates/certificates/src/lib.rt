@@ -56,12 +56,10 @@ fn bad_signers(count: usize, k: CertificateKind, a: &[u64], b: &[u64]) -> bool
     requires { ⌜ Wide count (now a) (now b) ⌝ }
     ensures { λ r. ⌜ ((c : Heading) → r ≡ badSigners count k (certificateOf c (now (a .entry)) (now (b .entry)))) ⌝ }
 {
-    let past_a = stakes::beyond(a, count);
-    let past_b = stakes::beyond(b, count);
-    let both = stakes::overlap(a, b);
+    let bad = stakes::misplaced(a, b, count);
     let no_b = without_b(k);
     let some_b = stakes::beyond(b, 0);
-    (past_a | past_b) | (both | (no_b & some_b))
+    bad | (no_b & some_b)
 }
 
 // 15 with what is missing, or what is told of the certificate: the signers are weighed once.

@@ -14,6 +14,9 @@ use record::mask_words;
 use record::places_in;
 use rulebook::Slot;
 
+// The words of a slot's places where masks have one word.
+const FEW_WORDS: usize = MOST_CERTIFICATES * 3;
+
 // The block of the certificate in one of a slot's places; 0 where none is kept, and for kinds that have none.
 pub fn block_at(rec: &[u64], s: Slot, n: usize) -> u64
     requires { ⌜ InKept (now rec) (s .0) n ⌝ }
@@ -72,13 +75,19 @@ pub fn is_kept(rec: &[u64], s: Slot, n: usize) -> bool
     has_signers(a) | has_signers(b)
 }
 
-// Whether a slot keeps no certificate: all words of its places are 0.
+// Whether a slot keeps no certificate: all words of its places are 0. Where masks have one word their number is known, and they are
+// read without a loop.
 pub fn nothing_kept(rec: &[u64], s: Slot) -> bool
     requires { ⌜ InSlot (now rec) (s .0) ⌝ }
     ensures { λ r. ⌜ r ≡ eachKept (λ i q. keptBlank q) 0 (certificatesAt (ledgerOf (now (rec .entry))) (s .0)) ⌝ }
 {
     let from = kept_start(rec, s, 0);
-    let end = from + MOST_CERTIFICATES * (1 + 2 * mask_words(places_in(rec)));
+    let words = mask_words(places_in(rec));
+    if words == 1 {
+        let few = &rec[from..from + FEW_WORDS];
+        return all_none(few);
+    }
+    let end = from + MOST_CERTIFICATES * (1 + 2 * words);
     let part = &rec[from..end];
     all_none(part)
 }

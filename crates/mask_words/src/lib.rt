@@ -4,7 +4,7 @@ ghost use lib.ListN.{length};
 ghost use Rattle.rulebook.specs.Packets.{maskAt, maskBytes, joined};
 ghost use Rattle.mask_words.specs.Told.{failedWord, laidAs};
 ghost use Rattle.numbers.specs.Written.{Room, Written};
-use numbers::read_number;
+use numbers::take_number;
 use numbers::write_number;
 use rulebook::Laid;
 use rulebook::Reading;
@@ -26,7 +26,7 @@ pub fn read_mask(bytes: &[u8], at: usize, mask: &mut [u64]) -> Laid
 {
     let mut p = at;
     for i in 0..mask.len() {
-        let n = read_number(bytes, p);
+        let n = take_number(bytes, p);
         let Reading::Number(v, next) = n else {
             return failed_word(n);
         };

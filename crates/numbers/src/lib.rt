@@ -43,6 +43,19 @@ pub fn read_number(bytes: &[u8], at: usize) -> Reading
     Reading::Early
 }
 
+// The same, by one look where the number has one byte, as most have.
+pub fn take_number(bytes: &[u8], at: usize) -> Reading
+    ensures { λ r. ⌜ r ≡ numberAt (now (bytes .entry)) at ⌝ }
+{
+    if at < bytes.len() {
+        let b = wide(bytes[at]);
+        if b < 128 {
+            return Reading::Number(b, at + 1);
+        }
+    }
+    read_number(bytes, at)
+}
+
 // Writes a number from a place on and answers the place after it.
 pub fn write_number(bytes: &mut [u8], at: usize, v: u64) -> usize
     requires { ⌜ Room (now bytes) at (numberBytes v) ⌝ }

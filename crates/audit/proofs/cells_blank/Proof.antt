@@ -1,24 +1,24 @@
--- The loop has joined the tests of the cells behind it.
+-- The words behind the loop are 0 exactly where its cells are blank.
 use mathlib.Core.Path.{_≡_, _∙_, ap, sym}
 use mathlib.Core.Bool.{_&&_}
 use Prim.Native.Nat.{ℕ, _-_, _≤_}
 use native.Mathlib.Omega.{arith}
 use borrow.Author.Needs.{needs}
 use Rattle.rulebook.specs.WellFormed.{cellBlank}
-use Rattle.rulebook.specs.Ledger.{places, cellAt}
+use Rattle.rulebook.specs.Ledger.{none, places, cellAt}
 use Rattle.rulebook.specs.Tools.{allTo}
 use Rattle.record.specs.Layout.{ledgerOf}
 use Rattle.rulebook.proofs.ToolLaws.{all-none, all-more}
-use Rattle.audit.proofs.Summing.{unused-blank}
+use Rattle.audit.proofs.Summing.{unused-blank, or-blank}
 use Rattle.audit.proofs.cells_blank.Statement.{statement}
 use Rattle.audit.proofs.cells_blank.Tie as tie
 
 abbrev Inv-loop : tie.InvT-loop
-Inv-loop rec s places ok₀ n₀ ok n =
-    (n ≤ places) × (ok ≡ allTo n (λ k. cellBlank (cellAt (ledgerOf rec) (s .0) k)))
+Inv-loop rec s places all₀ n₀ all n =
+    (n ≤ places) × (none all ≡ allTo n (λ k. cellBlank (cellAt (ledgerOf rec) (s .0) k)))
 
 abbrev μ-loop : tie.MeasureT-loop
-μ-loop rec s places ok₀ n₀ ok n =
+μ-loop rec s places all₀ n₀ all n =
     places - n
 
 places-in-requires : tie.Need-places-in-requires Inv-loop μ-loop
@@ -32,8 +32,8 @@ load-cell-requires : tie.Need-load-cell-requires Inv-loop μ-loop
 load-cell-requires c κs =
     let a = c .before .before .before .before .pre in record { long = a .long; slot = a .slot; node = omega (arith, c .before .before .places-in .ensures) }
 
-cell-blank-requires : tie.Need-cell-blank-requires Inv-loop μ-loop
-cell-blank-requires c κs = search needs
+cell-words-requires : tie.Need-cell-words-requires Inv-loop μ-loop
+cell-words-requires c κs = search needs
 
 add-n : tie.Need-add-n Inv-loop μ-loop
 add-n c = search needs
@@ -44,7 +44,7 @@ loop-less c = search needs
 loop-again : tie.Need-loop-again Inv-loop μ-loop
 loop-again c =
     let k = c .before .before .before .loop in
-    (omega arith, (λ i. k .inv .1 i && (c .cell-blank .ensures ∙ ap cellBlank (c .before .load-cell .ensures)) i) ∙ sym (all-more (k .n) _))
+    (omega arith, or-blank (k .all) (c .cell-words .result) ∙ (λ i. k .inv .1 i && (c .cell-words .ensures ∙ ap cellBlank (c .before .load-cell .ensures)) i) ∙ sym (all-more (k .n) _))
 
 returns : tie.Need-returns Inv-loop μ-loop
 returns c =
@@ -62,7 +62,7 @@ cells-blank-spec =
     places-in-requires
     loop-holds
     load-cell-requires
-    cell-blank-requires
+    cell-words-requires
     add-n
     loop-less
     loop-again

@@ -25,31 +25,31 @@ count-requires c κs = search needs
 sub-rest : tie.Need-sub-rest Inv-loop μ-loop
 sub-rest c =
     let a = c .before .before .before .before in
-    let p = a .pre in
-    omega (arith, left-first (ledgerOf (a .args .rec .now)) (a .args .s .0) (a .args .b) (a .args .v .0) (p .block) (p .some) (p .weight), p .all)
+    let p = a .pre .leading in
+    omega (arith, left-first (ledgerOf (a .args .rec .now)) (a .args .s .0) (a .args .b) (a .args .v .0) (p .block) (p .some) (p .weight), a .pre .all)
 
 loop-holds : tie.Need-loop-holds Inv-loop μ-loop
 loop-holds c =
     let a = c .before .before .before .before in
-    let p = a .pre in
+    let p = a .pre .leading in
     let l = ledgerOf (a .args .rec .now) in
-    (omega arith, rival-none l (a .args .s .0) (a .args .b) (a .args .v .0), omega (arith, left-first l (a .args .s .0) (a .args .b) (a .args .v .0) (p .block) (p .some) (p .weight), p .all))
+    (omega arith, rival-none l (a .args .s .0) (a .args .b) (a .args .v .0), omega (arith, left-first l (a .args .s .0) (a .args .b) (a .args .v .0) (p .block) (p .some) (p .weight), a .pre .all))
 
 returns : tie.Need-returns Inv-loop μ-loop
 returns c =
     let a = c .before .before .before .before .before .before .before .before in
-    let p = a .pre in
+    let p = a .pre .leading in
     let k = c .before .before .before .loop in
     rival-stop (ledgerOf (a .args .rec .now)) (a .args .s .0) (a .args .b) (a .args .v .0) (p .block) (p .some) (p .weight) (k .n) _ (k .inv .1) (k .inv .2) (c .if1 .taken)
 
 load-cell-requires : tie.Need-load-cell-requires Inv-loop μ-loop
 load-cell-requires c κs =
-    let a = c .before .before .before .before .before .before .before .before .pre .weighing in
+    let a = c .before .before .before .before .before .before .before .before .pre .leading .weighing in
     record { long = a .long; slot = a .slot; node = omega (arith, a .table .few, c .before .before .before .before .before .before .count .ensures) }
 
 first-weight-requires : tie.Need-first-weight-requires Inv-loop μ-loop
 first-weight-requires c κs =
-    let a = c .before .before .before .before .before .before .before .before .before .pre .weighing in
+    let a = c .before .before .before .before .before .before .before .before .before .pre .leading .weighing in
     record { weighing = a; nodes = omega (arith, a .table .few, c .before .before .before .before .before .before .before .count .ensures, c .before .before .before .loop-test .taken) }
 
 leads-requires : tie.Need-leads-requires Inv-loop μ-loop
@@ -58,14 +58,14 @@ leads-requires c κs = search needs
 returns-2 : tie.Need-returns-2 Inv-loop μ-loop
 returns-2 c =
     let a = c .before .before .before .before .before .before .before .before .before .before .before .before in
-    let p = a .pre in
+    let p = a .pre .leading in
     rival-found (ledgerOf (a .args .rec .now)) (a .args .s .0) (a .args .b) (a .args .v .0) (p .block) (p .some) (p .weight) (c .before .before .before .before .before .before .before .loop .n) _ _ (ap (λ (x : Cell). x .notar) (c .before .before .before .load-cell .ensures)) (c .before .before .first-weight .ensures)
     (omega (arith, c .before .before .before .before .before .before .before .before .before .before .count .ensures, c .before .before .before .before .before .before .loop-test .taken)) (sym (c .before .leads .ensures) ∙ c .if2 .taken)
 
 sub-rest-2 : tie.Need-sub-rest-2 Inv-loop μ-loop
 sub-rest-2 c =
     let a = c .before .before .before .before .before .before .before .before .before .before .before .before .before in
-    let p = a .pre in
+    let p = a .pre .leading in
     let k = c .before .before .before .before .before .before .before .before .loop in
     omega (arith, left-more (ledgerOf (a .args .rec .now)) (a .args .s .0) (a .args .b) (a .args .v .0) (p .block) (p .some) (p .weight) (k .n) _ _ (ap (λ (x : Cell). x .notar) (c .before .before .before .before .load-cell .ensures)) (c .before .before .before .first-weight .ensures) (k .rest) (k .inv .2) .0)
 
@@ -78,7 +78,7 @@ loop-less c = search needs
 loop-again : tie.Need-loop-again Inv-loop μ-loop
 loop-again c =
     let a = c .before .before .before .before .before .before .before .before .before .before .before .before .before in
-    let p = a .pre in
+    let p = a .pre .leading in
     let k = c .before .before .before .before .before .before .before .before .loop in
     let e = ap (λ (x : Cell). x .notar) (c .before .before .before .before .load-cell .ensures) in
     let l = ledgerOf (a .args .rec .now) in (

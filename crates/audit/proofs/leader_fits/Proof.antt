@@ -35,17 +35,19 @@ returns-3 c =
     let l = ledgerOf (a .rec .now) in
     fits-quick l (a .s .0) (a .t .leader) (a .t .weight .0) _ (summed-lead l (a .s .0) (a .t .leader) (a .sums) (p .sums) (c .before .before .before .before .before .before .before .if1 .left)) (c .before .before .before .before .before .before .before .if1 .left) (c .before .before .before .if2 .left) _ (summed-any l (a .s .0) (a .t .leader) (a .sums) (p .sums)) (c .if3 .taken)
 
-has-rival-requires : tie.Need-has-rival-requires
-has-rival-requires c κs =
+is-led-requires : tie.Need-is-led-requires
+is-led-requires c κs =
     let a = c .before .before .before .before .before .before .before .before .before .before .before .before .args in
     let p = c .before .before .before .before .before .before .before .before .before .before .before .before .pre in
     let l = ledgerOf (a .rec .now) in
     let e = summed-lead l (a .s .0) (a .t .leader) (a .sums) (p .sums) (c .before .before .before .before .before .before .before .if1 .left) in
     record {
-      weighing = p .weighing;
-      block = omega (arith, c .before .before .before .before .before .before .before .if1 .left);
-      some = claim-some l (a .s .0) (a .t .leader) (a .t .weight .0) _ e (c .before .before .before .before .before .before .before .if1 .left) (c .before .before .before .if2 .left);
-      weight = sym e ∙ claim-same l (a .s .0) (a .t .leader) (a .t .weight .0) _ e (c .before .before .before .before .before .before .before .if1 .left) (c .before .before .before .if2 .left);
+      leading = record {
+        weighing = p .weighing;
+        block = omega (arith, c .before .before .before .before .before .before .before .if1 .left);
+        some = claim-some l (a .s .0) (a .t .leader) (a .t .weight .0) _ e (c .before .before .before .before .before .before .before .if1 .left) (c .before .before .before .if2 .left);
+        weight = sym e ∙ claim-same l (a .s .0) (a .t .leader) (a .t .weight .0) _ e (c .before .before .before .before .before .before .before .if1 .left) (c .before .before .before .if2 .left);
+      };
       all = summed-any l (a .s .0) (a .t .leader) (a .sums) (p .sums);
     }
 
@@ -54,8 +56,8 @@ returns-4 c =
     let a = c .before .before .before .before .before .before .before .before .before .before .before .before .before .args in
     let p = c .before .before .before .before .before .before .before .before .before .before .before .before .before .pre in
     let l = ledgerOf (a .rec .now) in
-    fits-unled l (a .s .0) (a .t .leader) (a .t .weight .0) _ (summed-lead l (a .s .0) (a .t .leader) (a .sums) (p .sums) (c .before .before .before .before .before .before .before .before .if1 .left)) (c .before .before .before .before .before .before .before .before .if1 .left) (c .before .before .before .before .if2 .left) _ (c .has-rival .ensures)
+    fits-unled l (a .s .0) (a .t .leader) (a .t .weight .0) _ (summed-lead l (a .s .0) (a .t .leader) (a .sums) (p .sums) (c .before .before .before .before .before .before .before .before .if1 .left)) (c .before .before .before .before .before .before .before .before .if1 .left) (c .before .before .before .before .if2 .left) _ (c .is-led .ensures)
 
 pub leader-fits-spec : {M : Type 1} → statement M
 leader-fits-spec =
-    tie.close (tie.spec returns returns-2 add-if3 returns-3 has-rival-requires returns-4)
+    tie.close (tie.spec returns returns-2 add-if3 returns-3 is-led-requires returns-4)

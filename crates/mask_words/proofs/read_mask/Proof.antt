@@ -24,8 +24,8 @@ loop-holds : tie.Need-loop-holds Inv-loop μ-loop
 loop-holds c =
     (refl, taken-none (now (c .before .before .args .bytes)) (now (c .before .before .args .mask)) (c .before .before .args .at))
 
-read-number-requires : tie.Need-read-number-requires Inv-loop μ-loop
-read-number-requires c κs = search needs
+take-number-requires : tie.Need-take-number-requires Inv-loop μ-loop
+take-number-requires c κs = search needs
 
 enum-known-n : tie.Need-enum-known-n Inv-loop μ-loop
 enum-known-n c = search needs
@@ -41,7 +41,7 @@ returns : tie.Need-returns Inv-loop μ-loop
 returns c =
     let l = c .before .before .before .before .loop in
     let s = c .before .before .before .before .before .before .before .args in
-    ap (λ (x : Laid). laidAs x (joined (l .mask))) (c .failed-word .ensures) ∙ taken-fell (length (now (s .mask))) (now (s .bytes)) (s .at) (l .mask) (l .i) (l .p) (l .inv .1) _ (joined (l .mask)) (omega arith) (c .before .match .keys2) (c .before .before .read-number .ensures)
+    ap (λ (x : Laid). laidAs x (joined (l .mask))) (c .failed-word .ensures) ∙ taken-fell (length (now (s .mask))) (now (s .bytes)) (s .at) (l .mask) (l .i) (l .p) (l .inv .1) _ (joined (l .mask)) (omega arith) (c .before .match .keys2) (c .before .before .take-number .ensures)
 
 mul-mask : tie.Need-mul-mask Inv-loop μ-loop
 mul-mask c = search needs
@@ -61,7 +61,7 @@ loop-again : tie.Need-loop-again Inv-loop μ-loop
 loop-again c =
     let l = c .before .before .before .before .before .loop in
     let s = c .before .before .before .before .before .before .before .before .args in
-    (refl, taken-more (length (now (s .mask))) (now (s .bytes)) (s .at) (l .mask) (l .i) (l .p) (l .inv .1) _ _ (omega arith) (sym (c .before .before .before .read-number .ensures) ∙ c .before .n .given .1))
+    (refl, taken-more (length (now (s .mask))) (now (s .bytes)) (s .at) (l .mask) (l .i) (l .p) (l .inv .1) _ _ (omega arith) (sym (c .before .before .before .take-number .ensures) ∙ c .before .n .given .1))
 
 same-length-2 : tie.Need-same-length-2 Inv-loop μ-loop
 same-length-2 c =
@@ -80,7 +80,7 @@ read-mask-spec =
     Inv-loop
     μ-loop
     loop-holds
-    read-number-requires
+    take-number-requires
     enum-known-n
     failed-word-requires
     same-length
