@@ -5,15 +5,16 @@ use Prim.Native.Nat.{ℕ}
 use lib.ListN.{length}
 use lib.Dec.{T}
 use Rattle.rulebook.specs.declared.Input.{Input}
-use Rattle.rulebook.specs.Ledger.{Ledger, putArmed, putFinal}
-use Rattle.rulebook.specs.Rules.{stateOf, ruleG}
-use Rattle.rulebook.specs.Scripts.{vote, block, look, flatten, answers, stored, told, ring, equal, equals, all}
+use Rattle.rulebook.specs.Ledger.{Ledger, putFinal}
+use Rattle.rulebook.specs.Rules.{ruleG}
+use Rattle.rulebook.specs.Inputs.{feed}
+use Rattle.rulebook.specs.Scripts.{vote, block, look, flatten, answers, stored, told, toldBy, allArmed, ring, equal, equals, all}
 use Rattle.rulebook.specs.Computes.{rules}
 
 -- A ring with its windows armed, whose own node never votes: no block of these cases has the parent that B asks for. Node 1 has 80
 -- percent.
 abbrev watching : Ledger
-watching = putArmed (putArmed (ring (1 ∷ 8 ∷ 1 ∷ []) []) 1) 5
+watching = allArmed (ring (1 ∷ 8 ∷ 1 ∷ []) [])
 
 -- Node 1's vote, which makes a block final.
 abbrev seal : ℕ → ℕ → Input
@@ -50,10 +51,10 @@ halted =
 abbrev eachPlace : Bool
 eachPlace =
     let other : ℕ → Input = (λ b. block 5 b 3 31) in
-    let parent : List Input → List ℕ = (λ is. told (stored watching (is ++ (seal 5 51 ∷ [])))) in
-    let both : List ℕ = 6 ∷ 5 ∷ 51 ∷ 6 ∷ 4 ∷ 41 ∷ [] in
-    equals (parent (fifth ∷ other 52 ∷ []) ∷ parent (other 52 ∷ fifth ∷ []) ∷ parent (other 52 ∷ other 53 ∷ fifth ∷ []) ∷ parent (other 52 ∷ other 53 ∷ other 54 ∷ fifth ∷ []) ∷ [])
-    (both ∷ both ∷ both ∷ both ∷ [])
+    let walk : List Input → List ℕ = (λ is. toldBy ruleG 5 (putFinal (stored watching is) 5 51)) in
+    let parent : List ℕ = 6 ∷ 4 ∷ 41 ∷ [] in
+    equals (walk (fifth ∷ other 52 ∷ []) ∷ walk (other 52 ∷ fifth ∷ []) ∷ walk (other 52 ∷ other 53 ∷ fifth ∷ []) ∷ walk (other 52 ∷ other 53 ∷ other 54 ∷ fifth ∷ []) ∷ [])
+    (parent ∷ parent ∷ parent ∷ parent ∷ [])
 
 -- Over slots without a block, and over windows.
 abbrev overWindows : Bool
@@ -74,11 +75,12 @@ meetsAnother =
 -- nothing where it comes to hold for that very block.
 abbrev newcomer : Bool
 newcomer =
-    let walked = stored watching (fifth ∷ block 6 61 4 43 ∷ []) in
-    equals (answers walked (seal 5 51 ∷ seal 4 42 ∷ vote 1 2 4 42 ∷ look ∷ seal 6 61 ∷ []))
-    ((0 ∷ 6 ∷ 5 ∷ 51 ∷ 6 ∷ 4 ∷ 41 ∷ []) ∷ (0 ∷ 8 ∷ 4 ∷ 42 ∷ []) ∷ (0 ∷ []) ∷ (0 ∷ []) ∷ (0 ∷ 6 ∷ 6 ∷ 61 ∷ []) ∷ [])
-    && equals (answers walked (seal 5 51 ∷ seal 4 40 ∷ [])) ((0 ∷ 6 ∷ 5 ∷ 51 ∷ 6 ∷ 4 ∷ 41 ∷ []) ∷ (0 ∷ 8 ∷ 4 ∷ 40 ∷ []) ∷ [])
-    && equals (answers walked (seal 6 61 ∷ seal 4 43 ∷ [])) ((0 ∷ 6 ∷ 6 ∷ 61 ∷ 6 ∷ 4 ∷ 43 ∷ []) ∷ (0 ∷ []) ∷ [])
+    let l = stored watching (fifth ∷ block 6 61 4 43 ∷ []) in
+    let walked = feed l (seal 5 51) in
+    equal (flatten (walked .records)) (6 ∷ 5 ∷ 51 ∷ 6 ∷ 4 ∷ 41 ∷ [])
+    && equals (answers (walked .ledger) (seal 4 42 ∷ vote 1 2 4 42 ∷ look ∷ seal 6 61 ∷ [])) ((0 ∷ 8 ∷ 4 ∷ 42 ∷ []) ∷ (0 ∷ []) ∷ (0 ∷ []) ∷ (0 ∷ 6 ∷ 6 ∷ 61 ∷ []) ∷ [])
+    && equals (answers (walked .ledger) (seal 4 40 ∷ [])) ((0 ∷ 8 ∷ 4 ∷ 40 ∷ []) ∷ [])
+    && equals (answers l (seal 6 61 ∷ seal 4 43 ∷ [])) ((0 ∷ 6 ∷ 6 ∷ 61 ∷ 6 ∷ 4 ∷ 43 ∷ []) ∷ (0 ∷ []) ∷ [])
 
 -- Certificates that came before the walk: F of each slot, then the walk of the higher, which finds 30 in its way.
 abbrev certificatesFirst : Bool
@@ -94,9 +96,9 @@ FbeforeG = equal (told (putFinal (stored watching (fifth ∷ seal 5 52 ∷ [])) 
 abbrev through : Bool
 through =
     let l = stored watching (third ∷ fourth ∷ block 4 42 3 32 ∷ fifth ∷ []) in
-    let walk : Ledger → List ℕ = (λ m. flatten (ruleG (stateOf m []) 5 .records)) in
+    let walk : Ledger → List ℕ = toldBy ruleG 5 in
     equals (walk (putFinal (putFinal l 4 41) 5 51) ∷ walk (putFinal (putFinal (putFinal l 3 31) 4 41) 5 51) ∷ walk (putFinal (putFinal l 4 42) 5 51) ∷ walk (putFinal l 4 41) ∷ [])
-    ((6 ∷ 2 ∷ 21 ∷ 6 ∷ 3 ∷ 31 ∷ []) ∷ (6 ∷ 2 ∷ 21 ∷ []) ∷ (8 ∷ 4 ∷ 41 ∷ []) ∷ [] ∷ [])
+    ((6 ∷ 3 ∷ 31 ∷ 6 ∷ 2 ∷ 21 ∷ []) ∷ (6 ∷ 2 ∷ 21 ∷ []) ∷ (8 ∷ 4 ∷ 41 ∷ []) ∷ [] ∷ [])
 
 cornersOfAncestors : T (all (wholeChain ∷ halted ∷ eachPlace ∷ overWindows ∷ meetsAnother ∷ newcomer ∷ certificatesFirst ∷ FbeforeG ∷ through ∷ []))
 unfolding rules

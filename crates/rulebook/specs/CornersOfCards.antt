@@ -9,9 +9,9 @@ use Rattle.rulebook.specs.PaperNumbers.{stepPanel}
 use Rattle.rulebook.specs.Tools.{allTo}
 use Rattle.rulebook.specs.Weights.{lastSlot}
 use Rattle.rulebook.specs.Ledger.{Ledger, cardOf, rowAt, putCard}
-use Rattle.rulebook.specs.Inputs.{feed}
+use Rattle.rulebook.specs.Inputs.{intake, feed}
 use Rattle.rulebook.specs.WellFormed.{cardFits, wellFormed, step}
-use Rattle.rulebook.specs.Scripts.{vote, block, timeout, look, votes, answers, after, ring, equal, equals, all}
+use Rattle.rulebook.specs.Scripts.{vote, block, timeout, look, votes, answers, after, stored, allArmed, ring, equal, equals, all}
 use Rattle.rulebook.specs.Bench.{alone}
 use Rattle.rulebook.specs.Computes.{rules}
 
@@ -26,10 +26,14 @@ blank = 0 ∷ 0 ∷ 0 ∷ 0 ∷ 0 ∷ []
 abbrev leading : ℕ → ℕ → List ℕ
 leading b w = 0 ∷ 0 ∷ 0 ∷ b ∷ w ∷ []
 
--- The card of slot 1 after each of the inputs.
+-- The card of slot 1 after each of the inputs, put in as they stand, and with all that the node does with them.
 abbrev cards : Ledger → List Input → List (List ℕ)
 cards l [] = []
-cards l (i ∷ is) = let m = feed l i .ledger in card m 1 ∷ cards m is
+cards l (i ∷ is) = let m = intake l i .ledger in card m 1 ∷ cards m is
+
+abbrev fedCards : Ledger → List Input → List (List ℕ)
+fedCards l [] = []
+fedCards l (i ∷ is) = let m = feed l i .ledger in card m 1 ∷ fedCards m is
 
 -- Five nodes of stakes 1, 2, 2, 3 and 4; the own node, without a block or a timeout, casts nothing.
 abbrev five : Ledger
@@ -62,12 +66,12 @@ own =
 -- A vote of a slot changes that slot's card alone.
 abbrev slots : Bool
 slots =
-    let l = after five (vote 3 1 2 0 ∷ vote 1 2 16 9 ∷ []) in
+    let l = stored five (vote 3 1 2 0 ∷ vote 1 2 16 9 ∷ []) in
     equals (card l 1 ∷ card l 2 ∷ card l 3 ∷ card l 15 ∷ card l 16 ∷ []) (blank ∷ (2 ∷ 0 ∷ 2 ∷ 0 ∷ 0 ∷ []) ∷ blank ∷ blank ∷ leading 9 2 ∷ [])
 
 -- Slot 1 with something on every line of its card, and blocks 7 and 9 in a tie.
 abbrev full : Ledger
-full = after five (vote 1 1 1 9 ∷ vote 1 2 1 7 ∷ vote 3 3 1 0 ∷ vote 4 2 1 0 ∷ vote 5 4 1 0 ∷ [])
+full = stored five (vote 1 1 1 9 ∷ vote 1 2 1 7 ∷ vote 3 3 1 0 ∷ vote 4 2 1 0 ∷ vote 5 4 1 0 ∷ [])
 
 -- "in fresh and in refused cases too": votes refused with 7, 8, 6, 4, 3, 2 and 5 leave the card.
 abbrev refused : Bool
@@ -75,30 +79,33 @@ refused =
     let bad : List Input =
     vote 1 1 1 9 ∷ vote 1 1 1 7 ∷ vote 3 1 1 0 ∷ vote 3 3 1 0 ∷ vote 1 0 1 9 ∷ vote 9 4 1 9 ∷ vote 3 4 17 0 ∷ vote 3 5 1 0 ∷ vote 1 4 1 0 ∷ vote 3 4 1 5 ∷ [] in
     equals (answers full bad) ((7 ∷ []) ∷ (8 ∷ []) ∷ (8 ∷ []) ∷ (7 ∷ []) ∷ (6 ∷ []) ∷ (4 ∷ []) ∷ (3 ∷ []) ∷ (2 ∷ []) ∷ (5 ∷ []) ∷ (5 ∷ []) ∷ [])
-    && equals (cards full bad) (replicate 10 (3 ∷ 4 ∷ 5 ∷ 7 ∷ 2 ∷ []))
+    && equals (fedCards full bad) (replicate 10 (3 ∷ 4 ∷ 5 ∷ 7 ∷ 2 ∷ []))
 
 -- Every card agrees with the recount after each of the inputs.
 abbrev agree : Ledger → List Input → Bool
 agree l [] = allTo lastSlot (λ i. cardFits l (suc i))
 agree l (i ∷ is) = allTo lastSlot (λ n. cardFits l (suc n)) && agree (feed l i .ledger) is
 
--- B4 and B5 of document 01, and a window of own fallbacks.
+-- B4 and B5 of document 01 with five nodes for ten: the own final vote and the skips of a window, then own fallbacks for three blocks in a
+-- tie; and skip-fallbacks after them.
 abbrev along : Bool
 along =
-    let ten = ring (replicate 10 1) [] in
-    agree ten (block 1 7 0 1 ∷ votes 1 (1 ∷ 2 ∷ 3 ∷ 4 ∷ 5 ∷ []) 1 7 ++ votes 3 (6 ∷ 7 ∷ 8 ∷ 9 ∷ []) 1 0)
-    && agree ten (look ∷ timeout 1 ∷ votes 3 (1 ∷ 2 ∷ []) 1 0 ++ votes 1 (4 ∷ 5 ∷ []) 1 23 ++ votes 1 (6 ∷ 7 ∷ []) 1 22 ++ votes 1 (8 ∷ 9 ∷ []) 1 21
-    ++ votes 3 (3 ∷ []) 1 0 ++ votes 4 (1 ∷ 9 ∷ []) 1 0)
+    let fifths = allArmed (ring (replicate 5 1) []) in
+    agree fifths (block 1 7 0 1 ∷ votes 1 (1 ∷ 2 ∷ []) 1 7 ++ votes 3 (3 ∷ 4 ∷ []) 1 0)
+    && agree fifths (timeout 1 ∷ vote 1 1 1 23 ∷ vote 1 2 1 22 ∷ vote 1 3 1 21 ∷ vote 3 4 1 0 ∷ votes 4 (3 ∷ 4 ∷ []) 1 0)
 
 -- "A node record whose card disagrees with the recount is 17": each of its five words, the other block of a tie, a leader without a
 -- vote; in the first slot, in one without votes and in the last; and row 0's.
 abbrev disagree : Bool
 disagree =
-    let fits : ℕ → ℕ → ℕ → ℕ → ℕ → ℕ → Bool = (λ s x y z b w. wellFormed (putCard full s (cardOf x y z b w))) in
-    all (fits 1 3 4 5 7 2 ∷ not (fits 1 2 4 5 7 2) ∷ not (fits 1 3 5 5 7 2) ∷ not (fits 1 3 4 6 7 2) ∷ not (fits 1 3 4 5 9 2) ∷ not (fits 1 3 4 5 7 4)
-    ∷ not (fits 1 3 4 5 0 0) ∷ fits 2 0 0 0 0 0 ∷ not (fits 2 1 0 0 0 0) ∷ not (fits 2 0 0 0 7 0) ∷ not (fits 2 0 0 0 0 1) ∷ not (fits 16 0 1 0 0 0)
-    ∷ not (fits 0 1 0 0 0 0) ∷ not (fits 0 0 1 0 0 0) ∷ not (fits 0 0 0 1 0 0) ∷ not (fits 0 0 0 0 1 0) ∷ not (fits 0 0 0 0 0 1) ∷ [])
-    && equal (stepPanel (step full 480 look .answer) .number ∷ stepPanel (step (putCard full 1 (cardOf 3 4 5 9 2)) 480 look .answer) .number ∷ []) (0 ∷ 17 ∷ [])
+    let spoiled : ℕ → ℕ → ℕ → ℕ → ℕ → ℕ → Ledger = (λ s x y z b w. putCard full s (cardOf x y z b w)) in
+    let agrees : ℕ → ℕ → ℕ → ℕ → ℕ → ℕ → Bool = (λ s x y z b w. cardFits (spoiled s x y z b w) s) in
+    let unused : ℕ → ℕ → ℕ → ℕ → ℕ → Bool = (λ x y z b w. wellFormed (spoiled 0 x y z b w)) in
+    let number : Ledger → ℕ = (λ l. stepPanel (step l 480 look .answer) .number) in
+    all (agrees 1 3 4 5 7 2 ∷ not (agrees 1 2 4 5 7 2) ∷ not (agrees 1 3 5 5 7 2) ∷ not (agrees 1 3 4 6 7 2) ∷ not (agrees 1 3 4 5 9 2) ∷ not (agrees 1 3 4 5 7 4)
+    ∷ not (agrees 1 3 4 5 0 0) ∷ agrees 2 0 0 0 0 0 ∷ not (agrees 2 1 0 0 0 0) ∷ not (agrees 2 0 0 0 7 0) ∷ not (agrees 2 0 0 0 0 1) ∷ not (agrees 16 0 1 0 0 0)
+    ∷ not (unused 1 0 0 0 0) ∷ not (unused 0 1 0 0 0) ∷ not (unused 0 0 1 0 0) ∷ not (unused 0 0 0 1 0) ∷ not (unused 0 0 0 0 1) ∷ [])
+    && equal (number full ∷ number (spoiled 1 3 4 5 9 2) ∷ number (spoiled 2 1 0 0 0 0) ∷ number (spoiled 16 0 1 0 0 0) ∷ []) (0 ∷ 17 ∷ 17 ∷ 17 ∷ [])
 
 cornersOfCards : T (all (leaders ∷ weights ∷ own ∷ slots ∷ refused ∷ along ∷ disagree ∷ []))
 unfolding rules

@@ -10,7 +10,7 @@ use Rattle.rulebook.specs.Weights.{missing}
 use Rattle.rulebook.specs.PaperNumbers.{checkMissing, checkNumber}
 use Rattle.rulebook.specs.Pool.{missingTo}
 use Rattle.rulebook.specs.Checker.{checkCertificate, checkProof}
-use Rattle.rulebook.specs.Scripts.{votes, after, equal, equals, all}
+use Rattle.rulebook.specs.Scripts.{votes, stored, equal, equals, all}
 use Rattle.rulebook.specs.Bench.{ten}
 use Rattle.rulebook.specs.Computes.{rules}
 
@@ -64,13 +64,13 @@ ofProofs =
     ((15 ∷ 1 ∷ []) ∷ (15 ∷ 2 ∷ []) ∷ (15 ∷ 2 ∷ []) ∷ (15 ∷ 1 ∷ []) ∷ (15 ∷ 5 ∷ []) ∷ (14 ∷ 0 ∷ []) ∷ (16 ∷ 0 ∷ []) ∷ (12 ∷ 0 ∷ []) ∷ (0 ∷ 0 ∷ []) ∷ [])
 
 -- Ten nodes: four notar votes for 7 and a fallback vote, two skips and two skip-fallbacks, seven final votes.
-abbrev stored : Bool
-stored =
-    let l = after ten (votes 1 (1 ∷ 2 ∷ 3 ∷ 4 ∷ []) 1 7 ++ votes 2 (5 ∷ []) 1 7 ++ votes 3 (5 ∷ 6 ∷ []) 1 0 ++ votes 4 (1 ∷ 2 ∷ []) 1 0 ++ votes 5 (1 ∷ 2 ∷ 3 ∷ 4 ∷ 5 ∷ 6 ∷ 7 ∷ []) 1 0) in
+abbrev ofVotes : Bool
+ofVotes =
+    let l = stored ten (votes 1 (1 ∷ 2 ∷ 3 ∷ 4 ∷ []) 1 7 ++ votes 2 (5 ∷ []) 1 7 ++ votes 3 (5 ∷ 6 ∷ []) 1 0 ++ votes 4 (1 ∷ 2 ∷ []) 1 0 ++ votes 5 (1 ∷ 2 ∷ 3 ∷ 4 ∷ 5 ∷ 6 ∷ 7 ∷ []) 1 0) in
     equal (missingTo l certificate.FastFinal 1 7 ∷ missingTo l certificate.Notar 1 7 ∷ missingTo l certificate.NotarFallback 1 7 ∷ missingTo l certificate.Skip 1 0 ∷ missingTo l certificate.Final 1 0
     ∷ missingTo l certificate.Notar 1 8 ∷ [])
     (4 ∷ 2 ∷ 1 ∷ 2 ∷ 0 ∷ 6 ∷ [])
 
-cornersOfMissing : T (all (distances ∷ uneven ∷ light ∷ others ∷ ofProofs ∷ stored ∷ []))
+cornersOfMissing : T (all (distances ∷ uneven ∷ light ∷ others ∷ ofProofs ∷ ofVotes ∷ []))
 unfolding rules
 cornersOfMissing = tt

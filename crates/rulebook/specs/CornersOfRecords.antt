@@ -11,7 +11,7 @@ use Rattle.rulebook.specs.PaperNumbers.{stepPanel}
 use Rattle.rulebook.specs.Tools.{choose}
 use Rattle.rulebook.specs.Weights.{lastSlot, windows}
 use Rattle.rulebook.specs.Ledger.{Ledger, none, noBlock, blankRow, rowAt, putRow, putCell, putBlocks, putTimedOut, putFinal, putClash}
-use Rattle.rulebook.specs.WellFormed.{blocksFit, wellFormed, step}
+use Rattle.rulebook.specs.WellFormed.{blocksFit, headFits, wellFormed, step}
 use Rattle.rulebook.specs.Scripts.{vote, look, cell, recounted, withVotes, ring, equal, all}
 use Rattle.rulebook.specs.Computes.{rules}
 
@@ -140,10 +140,9 @@ heads =
     ∷ not (headed 2 10 0 1 (set a 3 2) w) ∷ not (headed 2 6 0 1 a (set w 1 0)) ∷ not (headed 2 10 0 1 a (w ++ (1 ∷ []))) ∷ not (headed 2 (2 ^ 48 + 1) 0 1 a (set (set w 0 (2 ^ 48)) 1 1)) ∷ [])
 
 -- A ring of n nodes of stake 1 whose record has p places.
-abbrev sized : ℕ → ℕ → Bool
+abbrev sized : ℕ → ℕ → Ledger
 sized n p =
-    wellFormed
-    (record {
+    record {
       count = n;
       total = n;
       own = 0;
@@ -151,12 +150,13 @@ sized n p =
       armed = replicate windows 0;
       stakes = replicate (min n p) 1 ++ replicate (p - n) 0;
       rows = replicate (suc lastSlot) (blankRow p);
-    })
+    }
 
--- A record one place too long or too short for its count, on either side of 64.
+-- A record one place too long or too short for its count, on either side of 64. The head alone asks for the length; at 65 all of 17 is asked.
 abbrev lengths : Bool
 lengths =
-    all (sized 1 1 ∷ not (sized 1 2) ∷ not (sized 2 1) ∷ sized 2 2 ∷ not (sized 1 64) ∷ sized 64 64 ∷ not (sized 64 65) ∷ not (sized 64 63) ∷ not (sized 65 64) ∷ sized 65 65 ∷ not (sized 65 66) ∷ [])
+    let fits : ℕ → ℕ → Bool = (λ n p. wellFormed (sized n p)) in
+    all (fits 1 1 ∷ not (fits 1 2) ∷ not (fits 2 1) ∷ fits 2 2 ∷ not (fits 1 64) ∷ headFits (sized 64 64) ∷ not (fits 64 65) ∷ not (fits 64 63) ∷ not (fits 65 64) ∷ fits 65 65 ∷ not (fits 65 66) ∷ [])
 
 -- 17 before 9, 9 before all else; 479 words are too few, 480 are enough. The last two: a record with own fallbacks, in range and not.
 abbrev stepOrder : Bool

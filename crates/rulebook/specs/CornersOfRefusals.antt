@@ -8,12 +8,12 @@ use Rattle.rulebook.specs.PaperNumbers.{verdictNumber, writePanel, kindI
 use Rattle.rulebook.specs.Ledger.{Ledger, noCell, putArmed, putTimedOut}
 use Rattle.rulebook.specs.Inputs.{startVerdict}
 use Rattle.rulebook.specs.Writers.{writeCertificate, writeProof, over}
-use Rattle.rulebook.specs.Scripts.{vote, block, timeout, look, answers, stored, cell, ring, equal, equals, all}
+use Rattle.rulebook.specs.Scripts.{vote, block, timeout, look, answers, stored, laterArmed, allArmed, cell, ring, equal, equals, all}
 use Rattle.rulebook.specs.Computes.{rules}
 
--- Three nodes of stakes 8, 1, 1, the first window armed: nothing that nodes 1 and 2 say reaches any threshold.
+-- Three nodes of stakes 8, 1, 1, the windows armed: nothing that nodes 1 and 2 say reaches any threshold.
 abbrev three : Ledger
-three = putArmed (ring (8 ∷ 1 ∷ 1 ∷ []) []) 1
+three = allArmed (ring (8 ∷ 1 ∷ 1 ∷ []) [])
 
 -- Each vote is wrong in every later way too, as far as one vote can be; 5 for each kind.
 abbrev voteOrder : Bool
@@ -50,12 +50,12 @@ fourBlocks =
 
 abbrev timeoutOrder : Bool
 timeoutOrder =
-    equals (answers (putTimedOut (putTimedOut three 5) 1) (timeout 17 ∷ timeout 0 ∷ timeout 5 ∷ timeout 1 ∷ []))
+    equals (answers (putTimedOut (putTimedOut (putArmed (ring (8 ∷ 1 ∷ 1 ∷ []) []) 1) 5) 1) (timeout 17 ∷ timeout 0 ∷ timeout 5 ∷ timeout 1 ∷ []))
     ((3 ∷ []) ∷ (3 ∷ []) ∷ (10 ∷ []) ∷ (7 ∷ []) ∷ [])
 
 -- A refused input runs no rule: the window is armed by the look after it.
 abbrev noRuleRun : Bool
-noRuleRun = equals (answers (ring (8 ∷ 1 ∷ 1 ∷ []) []) (vote 9 1 1 0 ∷ timeout 1 ∷ look ∷ [])) ((4 ∷ []) ∷ (10 ∷ []) ∷ (0 ∷ 7 ∷ 1 ∷ 0 ∷ []) ∷ [])
+noRuleRun = equals (answers (laterArmed (ring (8 ∷ 1 ∷ 1 ∷ []) [])) (vote 9 1 1 0 ∷ timeout 1 ∷ look ∷ [])) ((4 ∷ []) ∷ (10 ∷ []) ∷ (0 ∷ 7 ∷ 1 ∷ 0 ∷ []) ∷ [])
 
 -- 1: no node, more than 2,048, a stake of 0, a total above 2^48, an own number past the table, genesis 0.
 abbrev starts : Bool

@@ -11,8 +11,10 @@ use Rattle.rulebook.specs.Tools.{choose}
 use Rattle.rulebook.specs.Weights.{isFirst, windowOf, firstOf}
 use Rattle.rulebook.specs.Ledger.{Ledger, noCell, putArmed, putFinal}
 use Rattle.rulebook.specs.Pool.{held, ready}
+use Rattle.rulebook.specs.Rules.{State, ruleA, ruleC, ruleD, ruleE, ruleF}
+use Rattle.rulebook.specs.Inputs.{feed}
 use Rattle.rulebook.specs.WellFormed.{wellFormed}
-use Rattle.rulebook.specs.Scripts.{vote, block, timeout, look, votes, answers, after, stored, told, cell, ring, equal, equals, all}
+use Rattle.rulebook.specs.Scripts.{vote, block, timeout, look, votes, flatten, answers, stored, told, toldBy, laterArmed, allArmed, cell, ring, equal, equals, all}
 use Rattle.rulebook.specs.Bench.{alone}
 use Rattle.rulebook.specs.Computes.{rules}
 
@@ -31,9 +33,9 @@ fallback b = cell 0 0 b 0 0 0 0
 abbrev notarFinal : ℕ → Cell
 notarFinal b = cell b 0 0 0 0 0 1
 
--- The ring with its first window armed.
+-- The ring with its windows armed.
 abbrev armed : List ℕ → List Cell → Ledger
-armed stakes cells = putArmed (ring stakes cells) 1
+armed stakes cells = allArmed (ring stakes cells)
 
 -- The own node's skips in a list of slots.
 abbrev ownSkips : List ℕ → List Input
@@ -52,7 +54,7 @@ withTotal l t =
 -- ---- the order of the rules in a slot: A before B and C, B before F, C before D before E before F; B1 has A before B
 
 abbrev AbeforeC : Bool
-AbeforeC = equal (told (ring (6 ∷ 4 ∷ []) (notar 7 ∷ noCell ∷ []))) (7 ∷ 1 ∷ 0 ∷ 5 ∷ 1 ∷ 0 ∷ 6 ∷ 1 ∷ 7 ∷ [])
+AbeforeC = equal (told (laterArmed (ring (6 ∷ 4 ∷ []) (notar 7 ∷ noCell ∷ [])))) (7 ∷ 1 ∷ 0 ∷ 5 ∷ 1 ∷ 0 ∷ 6 ∷ 1 ∷ 7 ∷ [])
 
 abbrev BbeforeF : Bool
 BbeforeF =
@@ -111,7 +113,7 @@ abbrev nextDoor : Bool
 nextDoor =
     let before : ℕ → Bool = (λ s. ready (stored alone (vote 1 0 (s - 1) 7 ∷ [])) s (s - 1) 7) in
     all (before 5 ∷ before 9 ∷ before 13 ∷ [])
-    && equals (answers (putArmed alone 1) (block 1 1 0 1 ∷ block 2 1 1 1 ∷ []))
+    && equals (answers (allArmed alone) (block 1 1 0 1 ∷ block 2 1 1 1 ∷ []))
     ((0 ∷ 1 ∷ 1 ∷ 1 ∷ 5 ∷ 1 ∷ 0 ∷ 6 ∷ 1 ∷ 1 ∷ []) ∷ (0 ∷ 1 ∷ 2 ∷ 1 ∷ 5 ∷ 2 ∷ 0 ∷ 6 ∷ 2 ∷ 1 ∷ []) ∷ [])
 
 -- The same node, timeout after timeout: genesis is a ready parent of every window, and in the last a block of slot 1 is not.
@@ -132,14 +134,14 @@ abbrev farParent : Bool
 farParent =
     let l = stored (ring (4 ∷ 6 ∷ []) (noCell ∷ notar 7 ∷ [])) (skips (2 ∷ 3 ∷ 4 ∷ 5 ∷ 6 ∷ 7 ∷ 8 ∷ 9 ∷ 10 ∷ 12 ∷ [])) in
     let all = stored l (vote 3 1 11 0 ∷ []) in
-    let three : List ℕ = 7 ∷ 1 ∷ 0 ∷ 7 ∷ 5 ∷ 0 ∷ 7 ∷ 9 ∷ 0 ∷ [] in
-    equals (told (stored l (block 13 30 1 7 ∷ [])) ∷ told (stored all (block 13 30 1 7 ∷ [])) ∷ told (stored all (block 13 30 1 8 ∷ [])) ∷ [])
-    (three ∷ (three ++ (7 ∷ 13 ∷ 0 ∷ 1 ∷ 13 ∷ 30 ∷ [])) ∷ (three ++ (7 ∷ 13 ∷ 0 ∷ [])) ∷ [])
+    let lastOpen : Ledger → Ledger = (λ m. putArmed (putArmed (putArmed m 1) 5) 9) in
+    equals (told (stored (lastOpen l) (block 13 30 1 7 ∷ [])) ∷ told (stored all (block 13 30 1 7 ∷ [])) ∷ told (stored (lastOpen all) (block 13 30 1 8 ∷ [])) ∷ [])
+    ([] ∷ (7 ∷ 1 ∷ 0 ∷ 7 ∷ 5 ∷ 0 ∷ 7 ∷ 9 ∷ 0 ∷ 7 ∷ 13 ∷ 0 ∷ 1 ∷ 13 ∷ 30 ∷ []) ∷ (7 ∷ 13 ∷ 0 ∷ []) ∷ [])
 
 -- A block that fallback votes alone name is a parent, in each of a cell's places; a block of the slot itself is none.
 abbrev parents : Bool
 parents =
-    let arms : Cell → Cell → List ℕ = (λ c d. told (stored (armed (4 ∷ 3 ∷ 3 ∷ []) (noCell ∷ c ∷ d ∷ [])) (votes 3 (1 ∷ 2 ∷ []) 2 0 ++ (votes 3 (1 ∷ 2 ∷ []) 3 0 ++ votes 3 (1 ∷ 2 ∷ []) 4 0)))) in
+    let arms : Cell → Cell → List ℕ = (λ c d. toldBy ruleA 5 (stored (ring (4 ∷ 3 ∷ 3 ∷ []) (noCell ∷ c ∷ d ∷ [])) (votes 3 (1 ∷ 2 ∷ []) 2 0 ++ (votes 3 (1 ∷ 2 ∷ []) 3 0 ++ votes 3 (1 ∷ 2 ∷ []) 4 0)))) in
     equals (arms (fallback 9) (fallback 9) ∷ arms (cell 0 0 21 9 0 0 0) (cell 0 0 22 9 0 0 0) ∷ arms (cell 0 0 21 22 9 0 0) (cell 0 0 23 24 9 0 0)
     ∷ arms (notar 9) (cell 8 0 21 22 9 0 0) ∷ arms (fallback 9) (fallback 8) ∷ [])
     ((7 ∷ 5 ∷ 0 ∷ []) ∷ (7 ∷ 5 ∷ 0 ∷ []) ∷ (7 ∷ 5 ∷ 0 ∷ []) ∷ (7 ∷ 5 ∷ 0 ∷ []) ∷ [] ∷ [])
@@ -149,7 +151,7 @@ parents =
 -- told apart.
 abbrev chain : Bool
 chain =
-    let l = ring (1 ∷ 9 ∷ []) [] in
+    let l = laterArmed (ring (1 ∷ 9 ∷ []) []) in
     equals (answers l (block 2 8 1 7 ∷ block 3 9 1 7 ∷ block 1 7 0 1 ∷ []))
     ((0 ∷ 7 ∷ 1 ∷ 0 ∷ []) ∷ (0 ∷ []) ∷ (0 ∷ 1 ∷ 1 ∷ 7 ∷ 1 ∷ 2 ∷ 8 ∷ []) ∷ [])
     && equals (answers l (block 1 7 0 1 ∷ block 2 7 1 7 ∷ block 3 9 1 7 ∷ block 4 9 3 9 ∷ []))
@@ -158,7 +160,7 @@ chain =
 -- A timeout for a slot with an own initial vote casts nothing; another slot of the window is taken on its own.
 abbrev timeouts : Bool
 timeouts =
-    equals (answers (ring (1 ∷ 9 ∷ []) []) (block 1 7 0 1 ∷ timeout 1 ∷ timeout 2 ∷ timeout 2 ∷ []))
+    equals (answers (laterArmed (ring (1 ∷ 9 ∷ []) [])) (block 1 7 0 1 ∷ timeout 1 ∷ timeout 2 ∷ timeout 2 ∷ []))
     ((0 ∷ 7 ∷ 1 ∷ 0 ∷ 1 ∷ 1 ∷ 7 ∷ []) ∷ (0 ∷ []) ∷ (0 ∷ 3 ∷ 2 ∷ 0 ∷ 3 ∷ 3 ∷ 0 ∷ 3 ∷ 4 ∷ 0 ∷ []) ∷ (7 ∷ []) ∷ [])
 
 -- ---- certificates held: the weights of the votes of each kind, at the threshold and one below
@@ -179,7 +181,7 @@ thresholds =
 -- C asks for the own notar's kind 2, no own fallback of either kind, no own final.
 abbrev finalVotes : Bool
 finalVotes =
-    let own : Cell → Cell → List ℕ = (λ c d. told (closed (1 ∷ 5 ∷ 4 ∷ []) (c ∷ d ∷ noCell ∷ []))) in
+    let own : Cell → Cell → List ℕ = (λ c d. toldBy ruleC 1 (closed (1 ∷ 5 ∷ 4 ∷ []) (c ∷ d ∷ noCell ∷ []))) in
     equals (own (notar 7) (notar 7) ∷ own (notar 7) (fallback 7) ∷ own (cell 7 0 9 0 0 0 0) (notar 7) ∷ own (cell 7 0 0 0 0 1 0) (notar 7) ∷ own (notarFinal 7) (notar 7) ∷ [])
     ((5 ∷ 1 ∷ 0 ∷ []) ∷ [] ∷ [] ∷ [] ∷ [] ∷ [])
 
@@ -187,7 +189,7 @@ finalVotes =
 -- vote, nor for its own block, nor beside an own final.
 abbrev fallbacks : Bool
 fallbacks =
-    let cast : ℕ → ℕ → Cell → Cell → Cell → List ℕ = (λ own other a b c. told (closed (own ∷ other ∷ (10 - own - other) ∷ []) (a ∷ b ∷ c ∷ []))) in
+    let cast : ℕ → ℕ → Cell → Cell → Cell → List ℕ = (λ own other a b c. toldBy ruleD 1 (closed (own ∷ other ∷ (10 - own - other) ∷ []) (a ∷ b ∷ c ∷ []))) in
     equals (cast 1 4 skip (notar 8) noCell ∷ cast 1 3 skip (notar 8) (fallback 8) ∷ cast 4 2 skip (notar 8) noCell ∷ cast 3 2 skip (notar 8) (cell 0 0 0 0 0 1 0)
     ∷ cast 5 1 skip (notar 8) noCell ∷ cast 1 4 noCell (notar 8) noCell ∷ cast 1 4 (notar 8) (notar 8) noCell ∷ cast 1 4 (notar 7) (notar 8) noCell
     ∷ cast 1 4 (cell 7 0 0 0 0 1 0) (notar 8) noCell ∷ cast 1 4 (cell 0 1 0 0 0 0 1) (notar 8) noCell ∷ [])
@@ -197,38 +199,39 @@ fallbacks =
 -- fifths of skip, and the record that it leaves is in range.
 abbrev threeCast : Bool
 threeCast =
-    let own : Cell → List ℕ = (λ c. told (closed (1 ∷ 4 ∷ 5 ∷ []) (c ∷ notar 24 ∷ noCell ∷ []))) in
+    let own : Cell → List ℕ = (λ c. toldBy ruleD 1 (closed (1 ∷ 4 ∷ 5 ∷ []) (c ∷ notar 24 ∷ noCell ∷ []))) in
     let three = closed (1 ∷ 1 ∷ 1 ∷ 1 ∷ 1 ∷ []) (skip ∷ skip ∷ notar 23 ∷ notar 22 ∷ notar 21 ∷ []) in
-    equals (own (cell 0 1 21 22 0 0 0) ∷ own (cell 0 1 21 24 0 0 0) ∷ told three ∷ [])
+    let f = feed three look in
+    equals (own (cell 0 1 21 22 0 0 0) ∷ own (cell 0 1 21 24 0 0 0) ∷ flatten (f .records) ∷ [])
     ((2 ∷ 1 ∷ 24 ∷ []) ∷ [] ∷ (2 ∷ 1 ∷ 21 ∷ 2 ∷ 1 ∷ 22 ∷ 2 ∷ 1 ∷ 23 ∷ []) ∷ [])
-    && wellFormed (after three (look ∷ []))
+    && wellFormed (f .ledger)
 
 -- Beside an own final D and E still cast the window's skips, whichever slot lacks an own initial vote.
 abbrev skipsBesideFinal : Bool
 skipsBesideFinal =
-    let lacking : Cell → Cell → List ℕ → List ℕ = (λ c d ss. told (stored (armed (1 ∷ 4 ∷ 5 ∷ []) (c ∷ d ∷ noCell ∷ [])) (ownSkips ss))) in
-    equals (lacking (cell 0 1 0 0 0 0 1) (notar 8) (2 ∷ 3 ∷ []) ∷ lacking (notarFinal 7) (notar 8) (2 ∷ 3 ∷ []) ∷ lacking (notarFinal 7) skip (2 ∷ 3 ∷ []) ∷ lacking (notarFinal 7) skip (2 ∷ 4 ∷ [])
-    ∷ lacking (notarFinal 7) skip (3 ∷ 4 ∷ []) ∷ [])
+    let lacking : (State → ℕ → State) → Cell → Cell → List ℕ → List ℕ = (λ rule c d ss. toldBy rule 1 (stored (armed (1 ∷ 4 ∷ 5 ∷ []) (c ∷ d ∷ noCell ∷ [])) (ownSkips ss))) in
+    equals (lacking ruleD (cell 0 1 0 0 0 0 1) (notar 8) (2 ∷ 3 ∷ []) ∷ lacking ruleD (notarFinal 7) (notar 8) (2 ∷ 3 ∷ []) ∷ lacking ruleE (notarFinal 7) skip (2 ∷ 3 ∷ [])
+    ∷ lacking ruleE (notarFinal 7) skip (2 ∷ 4 ∷ []) ∷ lacking ruleE (notarFinal 7) skip (3 ∷ 4 ∷ []) ∷ [])
     ((3 ∷ 4 ∷ 0 ∷ []) ∷ (3 ∷ 4 ∷ 0 ∷ []) ∷ (3 ∷ 4 ∷ 0 ∷ []) ∷ (3 ∷ 3 ∷ 0 ∷ []) ∷ (3 ∷ 2 ∷ 0 ∷ []) ∷ [])
 
 -- E by two fifths, not at one less; initial votes alone weigh, also in the largest; after an own notar-fallback, not beside an own
 -- skip, a second time or beside an own final.
 abbrev skipFallbacks : Bool
 skipFallbacks =
-    let cast : ℕ → Cell → Cell → Cell → List ℕ = (λ other a b c. told (closed (2 ∷ other ∷ (8 - other) ∷ []) (a ∷ b ∷ c ∷ []))) in
+    let cast : ℕ → Cell → Cell → Cell → List ℕ = (λ other a b c. toldBy ruleE 1 (closed (2 ∷ other ∷ (8 - other) ∷ []) (a ∷ b ∷ c ∷ []))) in
     equals (cast 4 (notar 7) skip noCell ∷ cast 3 (notar 7) skip (cell 0 0 0 0 0 1 0) ∷ cast 4 (notar 7) (cell 0 1 7 0 0 0 0) noCell ∷ cast 4 (cell 7 0 9 0 0 0 0) skip noCell
     ∷ cast 4 skip skip noCell ∷ cast 4 (cell 7 0 0 0 0 1 0) skip noCell ∷ cast 4 (notarFinal 7) skip noCell ∷ cast 4 noCell skip noCell ∷ [])
     ((4 ∷ 1 ∷ 0 ∷ []) ∷ [] ∷ (4 ∷ 1 ∷ 0 ∷ []) ∷ (4 ∷ 1 ∷ 0 ∷ []) ∷ [] ∷ [] ∷ [] ∷ [] ∷ [])
-    && equal (told (closed (2 ∷ 2 ∷ 2 ∷ 4 ∷ []) (notar 7 ∷ notar 8 ∷ skip ∷ noCell ∷ []))) (4 ∷ 1 ∷ 0 ∷ [])
+    && equal (toldBy ruleE 1 (closed (2 ∷ 2 ∷ 2 ∷ 4 ∷ []) (notar 7 ∷ notar 8 ∷ skip ∷ noCell ∷ []))) (4 ∷ 1 ∷ 0 ∷ [])
 
 -- F by kind 1, or kinds 2 and 5 together; once per slot; where a total that is not the sum lets three be final, the lowest, and the next
 -- as its newcomer.
 abbrev finals : Bool
 finals =
-    let cast : ℕ → Cell → Cell → List ℕ = (λ other b c. told (armed (1 ∷ other ∷ (9 - other) ∷ []) (noCell ∷ b ∷ c ∷ []))) in
+    let cast : ℕ → Cell → Cell → List ℕ = (λ other b c. toldBy ruleF 1 (armed (1 ∷ other ∷ (9 - other) ∷ []) (noCell ∷ b ∷ c ∷ []))) in
     let three : Cell → Cell → Cell → List ℕ = (λ b c d. told (withTotal (armed (1 ∷ 4 ∷ 4 ∷ 4 ∷ []) (noCell ∷ b ∷ c ∷ d ∷ [])) 5)) in
     equals (cast 8 (notar 7) noCell ∷ cast 7 (notar 7) noCell ∷ cast 6 (notarFinal 7) noCell ∷ cast 6 (notar 7) noCell ∷ cast 5 (notarFinal 7) (cell 0 0 7 0 0 0 1)
-    ∷ told (putFinal (armed (1 ∷ 8 ∷ 1 ∷ []) (noCell ∷ notar 7 ∷ noCell ∷ [])) 1 7) ∷ three (notar 8) (notar 9) (notar 10) ∷ three (notar 10) (notar 9) (notar 8) ∷ [])
+    ∷ toldBy ruleF 1 (putFinal (armed (1 ∷ 8 ∷ 1 ∷ []) (noCell ∷ notar 7 ∷ noCell ∷ [])) 1 7) ∷ three (notar 8) (notar 9) (notar 10) ∷ three (notar 10) (notar 9) (notar 8) ∷ [])
     ((6 ∷ 1 ∷ 7 ∷ []) ∷ [] ∷ (6 ∷ 1 ∷ 7 ∷ []) ∷ [] ∷ [] ∷ [] ∷ (6 ∷ 1 ∷ 8 ∷ 8 ∷ 1 ∷ 9 ∷ []) ∷ (6 ∷ 1 ∷ 8 ∷ 8 ∷ 1 ∷ 9 ∷ []) ∷ [])
 
 cornersOfRules : T (all (AbeforeC ∷ BbeforeF ∷ CbeforeD ∷ DbeforeE ∷ EbeforeF ∷ restart ∷ slotsAscend ∷ windowsOfFour ∷ nextDoor ∷ sixteenSkips

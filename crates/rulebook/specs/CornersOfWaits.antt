@@ -5,7 +5,8 @@ use Prim.Native.Nat.{ℕ}
 use lib.Dec.{T}
 use Rattle.rulebook.specs.declared.Input.{Input}
 use Rattle.rulebook.specs.Ledger.{Ledger, putArmed}
-use Rattle.rulebook.specs.Scripts.{vote, block, timeout, look, votes, answers, stored, told, ring, equal, equals, all}
+use Rattle.rulebook.specs.Rules.{ruleD}
+use Rattle.rulebook.specs.Scripts.{vote, block, timeout, look, votes, answers, stored, toldBy, laterArmed, allArmed, ring, equals, all}
 use Rattle.rulebook.specs.Computes.{rules}
 
 -- The own node's skips in a list of slots.
@@ -13,9 +14,9 @@ abbrev ownSkips : List ℕ → List Input
 ownSkips [] = []
 ownSkips (s ∷ ss) = vote 3 0 s 0 ∷ ownSkips ss
 
--- A ring with its first window armed and skipped by the own node, so that D casts no skip.
+-- A ring with its windows armed and the first skipped by the own node, so that D casts no skip there.
 abbrev skipped : List ℕ → Ledger
-skipped stakes = stored (putArmed (ring stakes []) 1) (ownSkips (1 ∷ 2 ∷ 3 ∷ 4 ∷ []))
+skipped stakes = stored (allArmed (ring stakes [])) (ownSkips (1 ∷ 2 ∷ 3 ∷ 4 ∷ []))
 
 -- Tenths of the total: node 1's notar vote gives block 9 of slot 2 the weights of D.
 abbrev voted : Ledger
@@ -35,42 +36,44 @@ nothing = 0 ∷ []
 -- It waits for the block, and falls back when it is announced, once.
 abbrev forTheBlock : Bool
 forTheBlock =
-    equals (answers (stored voted certified) (look ∷ block 2 8 1 7 ∷ block 3 9 1 7 ∷ block 2 9 1 7 ∷ look ∷ []))
-    (nothing ∷ nothing ∷ nothing ∷ falls ∷ nothing ∷ [])
+    let early = stored voted certified in
+    let late = stored early (block 2 8 1 7 ∷ block 3 9 1 7 ∷ []) in
+    equals (toldBy ruleD 2 early ∷ toldBy ruleD 2 late ∷ []) ([] ∷ [] ∷ [])
+    && equals (answers late (block 2 9 1 7 ∷ look ∷ [])) (falls ∷ nothing ∷ [])
 
 -- It waits for the parent's certificate, and falls back on the vote that completes it: 50 percent are too few, 60 are enough, the
 -- own fallback among them, and notar votes as well as fallbacks.
 abbrev forTheParent : Bool
 forTheParent =
     let kept = stored voted (block 2 9 1 7 ∷ vote 2 2 1 7 ∷ []) in
-    equals (answers kept (look ∷ vote 2 1 1 8 ∷ vote 2 1 2 7 ∷ vote 2 1 1 7 ∷ []))
-    (nothing ∷ nothing ∷ nothing ∷ falls ∷ [])
-    && equals (told (stored kept (vote 2 0 1 7 ∷ [])) ∷ told (stored voted (block 2 9 1 7 ∷ vote 2 0 1 7 ∷ vote 1 2 1 7 ∷ [])) ∷ [])
-    ((2 ∷ 2 ∷ 9 ∷ []) ∷ (2 ∷ 2 ∷ 9 ∷ []) ∷ [])
+    let others = stored kept (vote 2 1 1 8 ∷ vote 2 1 2 7 ∷ []) in
+    equals (answers others (vote 2 1 1 7 ∷ [])) (falls ∷ [])
+    && equals (toldBy ruleD 2 kept ∷ toldBy ruleD 2 others ∷ toldBy ruleD 2 (stored kept (vote 2 0 1 7 ∷ [])) ∷ toldBy ruleD 2 (stored voted (block 2 9 1 7 ∷ vote 2 0 1 7 ∷ vote 1 2 1 7 ∷ [])) ∷ [])
+    ([] ∷ [] ∷ (2 ∷ 2 ∷ 9 ∷ []) ∷ (2 ∷ 2 ∷ 9 ∷ []) ∷ [])
 
 -- A timeout in slot 3 skips the window; so D falls back in slot 1, whose block is the parent of the one that slot 6 waits with.
 abbrev onATimeout : Bool
 onATimeout =
-    let l = stored (putArmed (ring (2 ∷ 4 ∷ 4 ∷ []) []) 1) (ownSkips (5 ∷ 6 ∷ 7 ∷ 8 ∷ []) ++ (block 6 9 1 7 ∷ vote 1 1 6 9 ∷ vote 1 1 1 7 ∷ [])) in
+    let l = stored (allArmed (ring (2 ∷ 4 ∷ 4 ∷ []) [])) (ownSkips (5 ∷ 6 ∷ 7 ∷ 8 ∷ []) ++ (block 6 9 1 7 ∷ vote 1 1 6 9 ∷ vote 1 1 1 7 ∷ [])) in
     equals (answers l (look ∷ timeout 3 ∷ []))
     (nothing ∷ (0 ∷ 3 ∷ 1 ∷ 0 ∷ 3 ∷ 2 ∷ 0 ∷ 3 ∷ 3 ∷ 0 ∷ 3 ∷ 4 ∷ 0 ∷ 2 ∷ 1 ∷ 7 ∷ 2 ∷ 6 ∷ 9 ∷ []) ∷ [])
 
 -- The parent stands in any lower slot; its own slot and number are asked for, not those next door.
 abbrev thatParent : Bool
 thatParent =
-    let own : ℕ → ℕ → ℕ → ℕ → List ℕ = (λ p x q y. told (stored (skipped (1 ∷ 4 ∷ 5 ∷ [])) (block 4 9 p x ∷ vote 1 1 4 9 ∷ votes 2 (1 ∷ 2 ∷ []) q y))) in
+    let own : ℕ → ℕ → ℕ → ℕ → List ℕ = (λ p x q y. toldBy ruleD 4 (stored (skipped (1 ∷ 4 ∷ 5 ∷ [])) (block 4 9 p x ∷ vote 1 1 4 9 ∷ votes 2 (1 ∷ 2 ∷ []) q y))) in
     equals (own 3 7 3 7 ∷ own 1 7 1 7 ∷ own 1 7 3 7 ∷ own 3 7 1 7 ∷ own 3 7 3 8 ∷ own 1 7 1 9 ∷ [])
     ((2 ∷ 4 ∷ 9 ∷ []) ∷ (2 ∷ 4 ∷ 9 ∷ []) ∷ [] ∷ [] ∷ [] ∷ [] ∷ [])
 
 -- Genesis has no certificate: its child outside a first slot never, also where blocks of genesis's number are certified.
 abbrev genesisChild : Bool
 genesisChild =
-    equals (told (stored voted (block 2 9 0 1 ∷ [])) ∷ told (stored voted (block 2 9 0 1 ∷ (votes 2 (1 ∷ 2 ∷ []) 1 1 ++ certified))) ∷ []) ([] ∷ [] ∷ [])
+    equals (toldBy ruleD 2 (stored voted (block 2 9 0 1 ∷ [])) ∷ toldBy ruleD 2 (stored voted (block 2 9 0 1 ∷ (votes 2 (1 ∷ 2 ∷ []) 1 1 ++ certified))) ∷ []) ([] ∷ [] ∷ [])
 
 -- First slots are as before, without block and certificate; the slots beside them wait.
 abbrev firstSlots : Bool
 firstSlots =
-    let own : ℕ → List ℕ = (λ s. told (stored (skipped (1 ∷ 4 ∷ 5 ∷ [])) (ownSkips (5 ∷ 6 ∷ 7 ∷ 8 ∷ 9 ∷ 10 ∷ 11 ∷ 12 ∷ 13 ∷ 14 ∷ 15 ∷ 16 ∷ []) ++ (vote 1 1 s 9 ∷ [])))) in
+    let own : ℕ → List ℕ = (λ s. toldBy ruleD s (stored (skipped (1 ∷ 4 ∷ 5 ∷ [])) (ownSkips (5 ∷ 6 ∷ 7 ∷ 8 ∷ 9 ∷ 10 ∷ 11 ∷ 12 ∷ 13 ∷ 14 ∷ 15 ∷ 16 ∷ []) ++ (vote 1 1 s 9 ∷ [])))) in
     equals (own 1 ∷ own 5 ∷ own 9 ∷ own 13 ∷ []) ((2 ∷ 1 ∷ 9 ∷ []) ∷ (2 ∷ 5 ∷ 9 ∷ []) ∷ (2 ∷ 9 ∷ 9 ∷ []) ∷ (2 ∷ 13 ∷ 9 ∷ []) ∷ [])
     && equals (own 2 ∷ own 4 ∷ own 6 ∷ own 12 ∷ own 14 ∷ own 16 ∷ []) ([] ∷ [] ∷ [] ∷ [] ∷ [] ∷ [] ∷ [])
 
@@ -78,33 +81,35 @@ firstSlots =
 abbrev eachPlace : Bool
 eachPlace =
     let l = stored voted certified in
-    equals (told (stored l (block 2 9 1 7 ∷ block 2 21 1 7 ∷ [])) ∷ told (stored l (block 2 21 1 7 ∷ block 2 9 1 7 ∷ [])) ∷ told (stored l (block 2 21 1 7 ∷ block 2 22 1 7 ∷ block 2 9 1 7 ∷ []))
-    ∷ told (stored l (block 2 21 1 7 ∷ block 2 22 1 7 ∷ block 2 23 1 7 ∷ block 2 9 1 7 ∷ [])) ∷ [])
+    equals (toldBy ruleD 2 (stored l (block 2 9 1 7 ∷ block 2 21 1 7 ∷ [])) ∷ toldBy ruleD 2 (stored l (block 2 21 1 7 ∷ block 2 9 1 7 ∷ [])) ∷ toldBy ruleD 2 (stored l (block 2 21 1 7 ∷ block 2 22 1 7 ∷ block 2 9 1 7 ∷ []))
+    ∷ toldBy ruleD 2 (stored l (block 2 21 1 7 ∷ block 2 22 1 7 ∷ block 2 23 1 7 ∷ block 2 9 1 7 ∷ [])) ∷ [])
     ((2 ∷ 2 ∷ 9 ∷ []) ∷ (2 ∷ 2 ∷ 9 ∷ []) ∷ (2 ∷ 2 ∷ 9 ∷ []) ∷ (2 ∷ 2 ∷ 9 ∷ []) ∷ [])
 
 -- D's skips wait too: in an open window, and beside an own final, where they are all that D casts.
 abbrev skipsWait : Bool
 skipsWait =
-    let early = stored (putArmed (ring (1 ∷ 4 ∷ 5 ∷ []) []) 1) (vote 3 0 2 0 ∷ vote 1 1 2 9 ∷ certified) in
-    equals (answers early (look ∷ block 2 9 1 7 ∷ []) ++ answers (stored early (vote 5 0 2 0 ∷ [])) (look ∷ block 2 9 1 7 ∷ []))
-    (nothing ∷ (0 ∷ 3 ∷ 1 ∷ 0 ∷ 3 ∷ 3 ∷ 0 ∷ 3 ∷ 4 ∷ 0 ∷ 2 ∷ 2 ∷ 9 ∷ []) ∷ nothing ∷ (0 ∷ 3 ∷ 1 ∷ 0 ∷ 3 ∷ 3 ∷ 0 ∷ 3 ∷ 4 ∷ 0 ∷ []) ∷ [])
+    let early = stored (allArmed (ring (1 ∷ 4 ∷ 5 ∷ []) [])) (vote 3 0 2 0 ∷ vote 1 1 2 9 ∷ certified) in
+    let final = stored early (vote 5 0 2 0 ∷ []) in
+    equals (toldBy ruleD 2 early ∷ toldBy ruleD 2 final ∷ []) ([] ∷ [] ∷ [])
+    && equals (answers early (block 2 9 1 7 ∷ []) ++ answers final (block 2 9 1 7 ∷ []))
+    ((0 ∷ 3 ∷ 1 ∷ 0 ∷ 3 ∷ 3 ∷ 0 ∷ 3 ∷ 4 ∷ 0 ∷ 2 ∷ 2 ∷ 9 ∷ []) ∷ (0 ∷ 3 ∷ 1 ∷ 0 ∷ 3 ∷ 3 ∷ 0 ∷ 3 ∷ 4 ∷ 0 ∷ []) ∷ [])
 
 -- A lower block that waits holds back neither a higher one nor E.
 abbrev othersGoOn : Bool
 othersGoOn =
     let l = stored (skipped (2 ∷ 4 ∷ 4 ∷ [])) (vote 1 1 2 9 ∷ vote 1 2 2 8 ∷ certified) in
-    let own = stored (putArmed (ring (2 ∷ 4 ∷ 4 ∷ []) []) 1) (ownSkips (1 ∷ 3 ∷ 4 ∷ []) ++ (vote 1 0 2 10 ∷ vote 1 1 2 9 ∷ vote 1 2 2 8 ∷ certified)) in
+    let own = stored (allArmed (ring (2 ∷ 4 ∷ 4 ∷ []) [])) (ownSkips (1 ∷ 3 ∷ 4 ∷ []) ++ (vote 1 0 2 10 ∷ vote 1 1 2 9 ∷ vote 1 2 2 8 ∷ certified)) in
     equals (answers l (block 2 9 1 7 ∷ block 2 8 1 7 ∷ [])) (falls ∷ (0 ∷ 2 ∷ 2 ∷ 8 ∷ []) ∷ [])
     && equals (answers own (look ∷ block 2 9 1 7 ∷ [])) ((0 ∷ 4 ∷ 2 ∷ 0 ∷ []) ∷ falls ∷ [])
 
 -- B looks at the first block alone, in a first slot and in another: a later one with a parent that fits gets no notar vote.
 abbrev firstBlockAlone : Bool
 firstBlockAlone =
-    let l = ring (1 ∷ 9 ∷ []) [] in
+    let l = laterArmed (ring (1 ∷ 9 ∷ []) []) in
     equals (answers l (block 1 7 0 1 ∷ block 1 6 0 1 ∷ block 2 8 1 6 ∷ block 2 9 1 7 ∷ []))
     ((0 ∷ 7 ∷ 1 ∷ 0 ∷ 1 ∷ 1 ∷ 7 ∷ []) ∷ nothing ∷ nothing ∷ nothing ∷ [])
     && equals (answers l (block 2 9 1 7 ∷ block 2 8 1 6 ∷ block 1 7 0 1 ∷ [])) ((0 ∷ 7 ∷ 1 ∷ 0 ∷ []) ∷ nothing ∷ (0 ∷ 1 ∷ 1 ∷ 7 ∷ 1 ∷ 2 ∷ 9 ∷ []) ∷ [])
-    && equals (answers (stored l (votes 1 (1 ∷ []) 4 7)) (block 5 30 4 8 ∷ block 5 31 4 7 ∷ [])) ((0 ∷ 7 ∷ 1 ∷ 0 ∷ 6 ∷ 4 ∷ 7 ∷ 7 ∷ 5 ∷ 0 ∷ []) ∷ nothing ∷ [])
+    && equals (answers (stored (putArmed (putArmed (ring (1 ∷ 9 ∷ []) []) 9) 13) (votes 1 (1 ∷ []) 4 7)) (block 5 30 4 8 ∷ block 5 31 4 7 ∷ [])) ((0 ∷ 7 ∷ 1 ∷ 0 ∷ 6 ∷ 4 ∷ 7 ∷ 7 ∷ 5 ∷ 0 ∷ []) ∷ nothing ∷ [])
 
 cornersOfWaits : T (all (forTheBlock ∷ forTheParent ∷ onATimeout ∷ thatParent ∷ genesisChild ∷ firstSlots ∷ eachPlace ∷ skipsWait ∷ othersGoOn ∷ firstBlockAlone ∷ []))
 unfolding rules
