@@ -25,7 +25,7 @@ use Rattle.writers.specs.Writing.{unsound, kindOn, certificateOn, proofOn}
 use Rattle.readback.proofs.Words.{packet-is, certificate-length, proof-length}
 use Rattle.safety.specs.Slot.{Test, Ballot}
 use Rattle.safety.specs.Ballots.{has, recordFor}
-use Rattle.safety.specs.Ring.{afterAll, castBy, Signers, ballotA, ballotB, Ring, GenuinePacket}
+use Rattle.safety.specs.Ring.{afterAll, castBy, Signers, ballotA, ballotB, Ring, FedRing, GenuinePacket}
 use Rattle.safety.specs.Promises.{AcceptedAs}
 use Rattle.safety.proofs.Packets.{packet-more}
 use Rattle.safety.proofs.Promises.{packets-safe, proofs-agree, mail-is-enough}
@@ -33,7 +33,7 @@ use Rattle.safety.specs.Watchers.{HoldsGenuine}
 use Rattle.safety.proofs.Written.{count-is, certificate-written, proof-written}
 use Rattle.safety.proofs.Honest.{certificate-holds, proof-holds}
 use Rattle.histories.specs.Calls.{Life, Lived, leftBy, arrivalsOf}
-use Rattle.histories.specs.Ring.{toldBallot, CodeRing, CodeSafe, CodeProofsAgree, CodeMailIsEnough, CodeFedSafe, CertificateAccepted, ProofAccepted, CodeCertificateAccepted, CodeProofAccepted, CertificateGenuine, ProofGenuine}
+use Rattle.histories.specs.Ring.{toldBallot, CodeNodes, CodeRing, CodeFedRing, CodeSafe, CodeProofsAgree, CodeMailIsEnough, CodeFedSafe, CertificateAccepted, ProofAccepted, CodeCertificateAccepted, CodeProofAccepted, CertificateGenuine, ProofGenuine}
 use Rattle.histories.proofs.Lives.{started, begun, Begun, begun-did, lived}
 
 -- ---- the ring
@@ -86,29 +86,38 @@ ring-of-calls stakes genesis honest lives ring =
           (ring .kept n s j h (subst (λ (q : Kept). T (isKept q)) (sym e) t)));
     }
 
+module _ (stakes : List ℕ) (genesis : ℕ → ℕ) (honest : Test) (lives : ℕ → Life) where
+  -- Where what arrives with them is, the calls are a ring.
+  pub ring-in-words : CodeNodes stakes genesis honest lives → Ring stakes genesis honest (λ n. arrivalsOf (lives n .calls)) → CodeRing stakes genesis honest lives
+  ring-in-words nodes r =
+      let all = nodes .lived in
+      let told = cast-told stakes genesis honest lives all in
+      record {
+        nodes = nodes;
+        counted = λ n m s v h k ne t.
+            told m s v k (r .pools n m s v h k ne (subst (λ (l : Ledger). T (has (cellAt l s m) v)) (ledger-is stakes genesis honest lives all n h) t));
+        kept = λ n s j h t.
+            let e = ap (λ (l : Ledger). keptAt l s j) (ledger-is stakes genesis honest lives all n h) in
+            subst (λ (q : Kept). Signers honest (toldBallot lives) (placeKind j) (keptIn s q)) (sym e)
+            (signers-more honest (castBy stakes genesis honest (λ n. arrivalsOf (lives n .calls))) (toldBallot lives) told (placeKind j) _
+            (r .kept n s j h (subst (λ (q : Kept). T (isKept q)) e t)));
+      }
+
+  pub fed-ring-of-calls : CodeFedRing stakes genesis honest lives → FedRing stakes genesis honest (λ n. arrivalsOf (lives n .calls))
+  fed-ring-of-calls ring =
+      let cast = told-cast stakes genesis honest lives (ring .nodes .lived) in
+      record {
+        few = ring .nodes .few;
+        started = λ n h. started stakes n (genesis n) (lives n) (ring .nodes .lived n h) .0;
+        mail = λ n m s v h k ne t. cast m s v k (ring .mail n m s v h k ne t);
+        packets = λ n c h t f.
+            signers-more honest (toldBallot lives) (castBy stakes genesis honest (λ n. arrivalsOf (lives n .calls))) cast (kindIn (length stakes) (c .kind)) c (ring .packets n c h t f);
+      }
+
 pub code-mail-is-enough : CodeMailIsEnough
 code-mail-is-enough stakes genesis honest lives ring =
-    let r = mail-is-enough stakes genesis honest (λ n. arrivalsOf (lives n .calls))
-    (record {
-      few = ring .nodes .few;
-      started = λ n h. started stakes n (genesis n) (lives n) (ring .nodes .lived n h) .0;
-      mail = λ n m s v h k ne t. told-cast stakes genesis honest lives (ring .nodes .lived) m s v k (ring .mail n m s v h k ne t);
-      packets = λ n c h t f.
-          signers-more honest (toldBallot lives) (castBy stakes genesis honest (λ n. arrivalsOf (lives n .calls))) (told-cast stakes genesis honest lives (ring .nodes .lived))
-          (kindIn (length stakes) (c .kind)) c (ring .packets n c h t f);
-    })
-    in
-    record {
-      nodes = ring .nodes;
-      counted = λ n m s v h k ne t.
-          cast-told stakes genesis honest lives (ring .nodes .lived) m s v k
-          (r .pools n m s v h k ne (subst (λ (l : Ledger). T (has (cellAt l s m) v)) (ledger-is stakes genesis honest lives (ring .nodes .lived) n h) t));
-      kept = λ n s j h t.
-          let e = ap (λ (l : Ledger). keptAt l s j) (ledger-is stakes genesis honest lives (ring .nodes .lived) n h) in
-          subst (λ (q : Kept). Signers honest (toldBallot lives) (placeKind j) (keptIn s q)) (sym e)
-          (signers-more honest (castBy stakes genesis honest (λ n. arrivalsOf (lives n .calls))) (toldBallot lives) (cast-told stakes genesis honest lives (ring .nodes .lived)) (placeKind j) _
-          (r .kept n s j h (subst (λ (q : Kept). T (isKept q)) e t)));
-    }
+    ring-in-words stakes genesis honest lives (ring .nodes)
+    (mail-is-enough stakes genesis honest (λ n. arrivalsOf (lives n .calls)) (fed-ring-of-calls stakes genesis honest lives ring))
 
 -- ---- what is accepted
 

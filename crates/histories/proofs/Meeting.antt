@@ -64,7 +64,7 @@ callFor ws i =
       left = leavesWith ws out i .outbox;
     }
 
-callsFor : List ℕ → List Arrival → List Call
+pub callsFor : List ℕ → List Arrival → List Call
 callsFor ws [] = []
 callsFor ws (i ∷ is) = callFor ws i ∷ callsFor (callFor ws i .words) is
 
@@ -73,7 +73,7 @@ unfolding callFor operationWith leavesWith
 call-meets ws (ofInput i) = record { answered = refl; words = refl; outbox = refl }
 call-meets ws (ofPacket packet) = record { answered = refl; words = refl; outbox = refl }
 
-calls-meet : (ws : List ℕ) (is : List Arrival) → Calls ws (callsFor ws is)
+pub calls-meet : (ws : List ℕ) (is : List Arrival) → Calls ws (callsFor ws is)
 unfolding callsFor callFor
 calls-meet ws [] = noMore
 calls-meet ws (i ∷ is) = called {c = callFor ws i} (call-meets ws i) (calls-meet (callFor ws i .words) is)
@@ -91,7 +91,7 @@ unfolding fedBy operationWith
 call-brings (ofInput i) = one-arrives (ofInput i)
 call-brings (ofPacket packet) = one-arrives (ofPacket packet)
 
-calls-bring : (ws : List ℕ) (is : List Arrival) → arrivalsOf (callsFor ws is) ≡ is
+pub calls-bring : (ws : List ℕ) (is : List Arrival) → arrivalsOf (callsFor ws is) ≡ is
 unfolding callsFor callFor arrivalsOf
 calls-bring ws [] = refl
 calls-bring ws (i ∷ is) =

@@ -35,7 +35,7 @@ use Rattle.histories.proofs.Demand.{signers-more, code-safe, code-proofs-agree,
 use Rattle.histories.proofs.Lives.{Begun, begun}
 use Rattle.answers.specs.Face.{Beside, acceptedValues, Wrote, Checked}
 use Rattle.hosts.specs.Calls.{HostLife, HostLived, wordsLeft}
-use Rattle.hosts.specs.Ring.{toldBallot, countedBallot, keptBy, HostRing, HostSafe, HostProofsAgree, HostMailIsEnough, HostFedSafe, NamedAs, CertificateAccepted, ProofAccepted, HostCertificateAccepted, HostProofAccepted}
+use Rattle.hosts.specs.Ring.{toldBallot, countedBallot, keptBy, HostNodes, HostRing, HostFedRing, HostSafe, HostProofsAgree, HostMailIsEnough, HostFedSafe, NamedAs, CertificateAccepted, ProofAccepted, HostCertificateAccepted, HostProofAccepted}
 use Rattle.hosts.proofs.Lives.{refusal-above, last-is, arrivals-are, told-is, lifeOf, lived-is}
 
 -- ---- the ring
@@ -63,7 +63,7 @@ module _ (stakes : List ℕ) (genesis : ℕ → ℕ) (honest : Test) (lives : �
   pub genuine : (packet : List ℕ) → GenuinePacket (length stakes) honest (toldBallot lives) packet → GenuinePacket (length stakes) honest (code.toldBallot plain) packet
   genuine = packet-more (length stakes) honest (toldBallot lives) (code.toldBallot plain) (λ n s v h. subst T (sym (told-same n s v h)))
 
--- The C calls are a ring of the code.
+-- The C calls are a ring of the code,
 module _ (stakes : List ℕ) (genesis : ℕ → ℕ) (honest : Test) (lives : ℕ → HostLife) where
   pub ring-of-hosts : HostRing stakes genesis honest lives → code.CodeRing stakes genesis honest (λ n. lifeOf (lives n))
   ring-of-hosts ring =
@@ -79,30 +79,39 @@ module _ (stakes : List ℕ) (genesis : ℕ → ℕ) (honest : Test) (lives : �
             (signed stakes genesis honest lives all (placeKind j) _ (ring .kept n s j h (subst (λ (q : Kept). T (isKept q)) e t)));
       }
 
+  -- and where they are, the C calls are a ring.
+  pub ring-in-hosts : HostNodes stakes genesis honest lives → code.CodeRing stakes genesis honest (λ n. lifeOf (lives n)) → HostRing stakes genesis honest lives
+  ring-in-hosts nodes r =
+      let all = nodes .lived in
+      record {
+        nodes = nodes;
+        counted = λ n m s v h k ne t.
+            subst T (told-same stakes genesis honest lives all m s v k)
+            (r .counted n m s v h k ne (subst T (sym (counted-same stakes genesis honest lives all n m s v)) t));
+        kept = λ n s j h t.
+            let e = kept-same stakes genesis honest lives all n s j in
+            subst (λ (q : Kept). Signers honest (toldBallot lives) (placeKind j) (keptIn s q)) e
+            (signed-back stakes genesis honest lives all (placeKind j) _ (r .kept n s j h (subst (λ (q : Kept). T (isKept q)) (sym e) t)));
+      }
+
+  -- The same with what arrives.
+  pub fed-ring-of-hosts : HostFedRing stakes genesis honest lives → code.CodeFedRing stakes genesis honest (λ n. lifeOf (lives n))
+  fed-ring-of-hosts ring =
+      let all = ring .nodes .lived in
+      record {
+        nodes = record { few = ring .nodes .few; lived = λ n h. lived-is stakes n (genesis n) (lives n) (all n h) };
+        mail = λ n m s v h k ne t.
+            subst T (sym (told-same stakes genesis honest lives all m s v k))
+            (ring .mail n m s v h k ne (subst (λ (is : List Arrival). T (broughtBy is s m v)) (arrivals-are (lives n .words) (lives n .calls)) t));
+        packets = λ n c h t f.
+            signed stakes genesis honest lives all (kindIn (length stakes) (c .kind)) c
+            (ring .packets n c h (subst (λ (is : List Arrival). HandedBy is c) (arrivals-are (lives n .words) (lives n .calls)) t) f);
+      }
+
 pub host-mail-is-enough : HostMailIsEnough
 host-mail-is-enough stakes genesis honest lives ring =
-    let all = ring .nodes .lived in
-    let r = code-mail-is-enough stakes genesis honest (λ n. lifeOf (lives n))
-    (record {
-      nodes = record { few = ring .nodes .few; lived = λ n h. lived-is stakes n (genesis n) (lives n) (all n h) };
-      mail = λ n m s v h k ne t.
-          subst T (sym (told-same stakes genesis honest lives all m s v k))
-          (ring .mail n m s v h k ne (subst (λ (is : List Arrival). T (broughtBy is s m v)) (arrivals-are (lives n .words) (lives n .calls)) t));
-      packets = λ n c h t f.
-          signed stakes genesis honest lives all (kindIn (length stakes) (c .kind)) c
-          (ring .packets n c h (subst (λ (is : List Arrival). HandedBy is c) (arrivals-are (lives n .words) (lives n .calls)) t) f);
-    })
-    in
-    record {
-      nodes = ring .nodes;
-      counted = λ n m s v h k ne t.
-          subst T (told-same stakes genesis honest lives all m s v k)
-          (r .counted n m s v h k ne (subst T (sym (counted-same stakes genesis honest lives all n m s v)) t));
-      kept = λ n s j h t.
-          let e = kept-same stakes genesis honest lives all n s j in
-          subst (λ (q : Kept). Signers honest (toldBallot lives) (placeKind j) (keptIn s q)) e
-          (signed-back stakes genesis honest lives all (placeKind j) _ (r .kept n s j h (subst (λ (q : Kept). T (isKept q)) (sym e) t)));
-    }
+    ring-in-hosts stakes genesis honest lives (ring .nodes)
+    (code-mail-is-enough stakes genesis honest (λ n. lifeOf (lives n)) (fed-ring-of-hosts stakes genesis honest lives ring))
 
 -- ---- what is accepted
 

@@ -95,7 +95,7 @@ callFor ws i =
       left = f .outbox;
     }
 
-callsFor : List ℕ → List Arrival → List HostCall
+pub callsFor : List ℕ → List Arrival → List HostCall
 callsFor ws [] = []
 callsFor ws (i ∷ is) = callFor ws i ∷ callsFor (callFor ws i .words) is
 
@@ -107,7 +107,7 @@ call-meets ws (ofInput i) =
 call-meets ws (ofPacket packet) =
     record { numbered = refl; counted = count-beside (takeLeaves ws (zeros outboxWords) packet .answer); words = refl; outbox = refl }
 
-calls-meet : (ws : List ℕ) (is : List Arrival) → HostCalls ws (callsFor ws is)
+pub calls-meet : (ws : List ℕ) (is : List Arrival) → HostCalls ws (callsFor ws is)
 unfolding callsFor callFor
 calls-meet ws [] = noMore
 calls-meet ws (i ∷ is) = called {c = callFor ws i} (call-meets ws i) (calls-meet (callFor ws i .words) is)
@@ -117,7 +117,7 @@ unfolding functionWith fedBy
 call-brings (ofInput i) = one-arrives (ofInput (inputFor (askedFor i))) ∙ ap (λ (j : Input). ofInput j ∷ []) (asked-is i)
 call-brings (ofPacket packet) = one-arrives (ofPacket packet)
 
-calls-bring : (ws : List ℕ) (is : List Arrival) → arrivalsIn (callsFor ws is) ≡ is
+pub calls-bring : (ws : List ℕ) (is : List Arrival) → arrivalsIn (callsFor ws is) ≡ is
 unfolding callsFor callFor arrivalsIn
 calls-bring ws [] = refl
 calls-bring ws (i ∷ is) = λ j. call-brings i j ++ calls-bring (callFor ws i .words) is j

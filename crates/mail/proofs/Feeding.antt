@@ -364,7 +364,7 @@ feeding-goes-on stakes genesis honest fed r once policy =
     record { rounds = rounds stakes genesis honest fed sane; begins = λ n. refl; feeds = rounds-feed stakes genesis honest fed sane }
 
 -- What came after the first of the rounds.
-later : (stakes : List ℕ) (genesis : ℕ → ℕ) (honest : Test) (fed : ℕ → ℕ → List Arrival) (u : ℕ) → Rounds stakes genesis honest fed u → (k n : ℕ)
+pub later : (stakes : List ℕ) (genesis : ℕ → ℕ) (honest : Test) (fed : ℕ → ℕ → List Arrival) (u : ℕ) → Rounds stakes genesis honest fed u → (k n : ℕ)
     → (js : List Arrival) × (fed k n ≡ fed 0 n ++ js)
 later stakes genesis honest fed u r zero n = ([], sym (append-nil (fed 0 n)))
 later stakes genesis honest fed u r (suc k) n =

@@ -102,11 +102,11 @@ module _ (stakes : List ℕ) (genesis : ℕ → ℕ) (honest : Test) (lives : �
   abbrev end : ℕ → Ledger
   end n = life stakes genesis honest fed n
 
-  ledger-is : (n : ℕ) → T (honest n) → ledgerOf (leftBy (lives n)) ≡ end n
+  pub ledger-is : (n : ℕ) → T (honest n) → ledgerOf (leftBy (lives n)) ≡ end n
   ledger-is n h = lived stakes n (genesis n) (lives n) (all n h) .ledger
 
   -- What an honest node cast it told, and so no less stake told a vote than cast it.
-  stake-told : (s b : ℕ) → book.honestStake stakes genesis honest fed s b ≤ toldStake stakes honest lives s b
+  pub stake-told : (s b : ℕ) → book.honestStake stakes genesis honest fed s b ≤ toldStake stakes honest lives s b
   stake-told s b =
       weight-mono stakes (length stakes) (λ n. honest n && castBy stakes genesis honest fed n s (notar b)) (λ n. honest n && toldBallot lives n s (notar b))
       (λ n t. let a = and-T (honest n) (castBy stakes genesis honest fed n s (notar b)) t in

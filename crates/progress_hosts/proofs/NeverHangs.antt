@@ -56,10 +56,10 @@ module _ (stakes : List ℕ) (genesis : ℕ → ℕ) (honest : Test) (lives : �
   plain n = lifeOf (lives n)
 
   -- What the calls of the operations told the C calls told.
-  told : (n s : ℕ) (v : Ballot) → T (honest n) → T (calls.toldBallot plain n s v) → T (toldBallot lives n s v)
+  pub told : (n s : ℕ) (v : Ballot) → T (honest n) → T (calls.toldBallot plain n s v) → T (toldBallot lives n s v)
   told n s v h t = subst T (told-same stakes genesis honest lives (ring .nodes .lived) n s v h) t
 
-  stake-told : (s b : ℕ) → code.toldStake stakes honest plain s b ≤ toldStake stakes honest lives s b
+  pub stake-told : (s b : ℕ) → code.toldStake stakes honest plain s b ≤ toldStake stakes honest lives s b
   stake-told s b =
       weight-mono stakes (length stakes) (λ n. honest n && calls.toldBallot plain n s (notar b)) (λ n. honest n && toldBallot lives n s (notar b))
       (λ n t. let a = and-T (honest n) (calls.toldBallot plain n s (notar b)) t in
