@@ -4,8 +4,8 @@ use mathlib.Core.Bool.{Bool, true, false, not, _&&_, _||_}
 use Prim.Native.Nat.{ℕ, _+_, _<_}
 use native.Mathlib.Omega.{arith}
 use lib.Dec.{eqb, ltb}
-use lib.Bits.{bitOr, or-comm, or-add-and, and-le-r}
-use borrow.Author.Tests.{eqb-true, eq-eqb, ne-eqb, lt-ltb, le-ltb}
+use lib.Bits.{bitOr}
+use borrow.Author.Tests.{eqb-true, ne-eqb, lt-ltb}
 use Rattle.rulebook.specs.declared.Cell.{Cell}
 use Rattle.rulebook.specs.declared.Tally.{Tally}
 use Rattle.rulebook.specs.declared.Who.the-variants as who
@@ -15,10 +15,12 @@ use Rattle.rulebook.specs.Ledger.{Ledger, none, noCell, noCard, places, rowAt, 
 use Rattle.rulebook.specs.Pool.{counts, weigh}
 use Rattle.rulebook.specs.Cards.{most, leader, recount, sameCard}
 use Rattle.rulebook.specs.WellFormed.{inOrder, cellFits, cellBlank, cellsFit, cardFits}
-use Rattle.rulebook.proofs.ToolLaws.{given-on, given-off, and-both, both-and, by-test, same-test, all-none, all-more, all-same, all-at, all-each}
+use Rattle.rulebook.proofs.ToolLaws.{given-on, and-both, by-test, all-none, all-more, all-same, all-at, all-each}
 use Rattle.rulebook.proofs.WeightLaws.{weight-none, weight-same, weight-more, weight-room}
 use Rattle.recounting.proofs.Using.{same-card}
 use Rattle.record.specs.Tabled.{Tabled}
+use Rattle.blank_rows.proofs.Words.{or-none}
+use Rattle.blank_rows.proofs.Rows.{unused-blank}
 use Rattle.audit.specs.declared.Sums.{Sums}
 use Rattle.audit.specs.Summing.{fallbacksFit, votesFor, sumsOf, noSums, withCell, sumsTo, Room}
 use Rattle.audit.proofs.Fitting.{fits-none}
@@ -148,13 +150,6 @@ blank-adds x c d w b e t = sym (ap (λ (k : Cell). withCell x k w b) (sym e ∙ 
 
 -- ---- a row without votes
 
--- Where no place is used, every cell is to be blank.
-pub unused-blank : (l : Ledger) (s : ℕ) → allTo (places l) (λ n. cellBlank (cellAt l s n)) ≡ cellsFit l s 0
-unfolding cellsFit
-unused-blank l s =
-    all-same (places l) (λ n. cellBlank (cellAt l s n)) (λ n. given (ltb n 0) (cellBlank (cellAt l s n)) (λ _. cellFits (cellAt l s n)))
-    (λ n h. sym (given-off (ltb n 0) (cellBlank (cellAt l s n)) (λ _. cellFits (cellAt l s n)) (le-ltb n 0 (omega arith))))
-
 module _ (l : Ledger) (s b : ℕ) (blank : (i : ℕ) → i < l .count → cellAt l s i ≡ noCell) where
   uncounted : (p : Cell → Bool) → p noCell ≡ false → weight (l .stakes) (l .count) (λ i. p (cellAt l s i)) ≡ 0
   uncounted p f = weight-none (l .stakes) (l .count) (λ i. p (cellAt l s i)) (λ i h. ap p (blank i h) ∙ f)
@@ -201,23 +196,12 @@ votes-blank l s full c ec e f =
 
 -- ---- words or-ed together
 
-or-zero : (a b : ℕ) → bitOr a b ≡ 0 → a ≡ 0
-or-zero a b e = omega (arith, or-add-and a b, and-le-r a b)
-
-pub or-blank : (a b : ℕ) → none (bitOr a b) ≡ (none a && none b)
-or-blank a b =
-    same-test (none (bitOr a b)) (none a && none b)
-    (λ t.
-    let e = eqb-true (bitOr a b) 0 t in
-    both-and (none a) (none b) (eq-eqb a 0 (or-zero a b e)) (eq-eqb b 0 (or-zero b a (or-comm b a ∙ e))))
-    (λ t. let h = and-both (none a) (none b) t in eq-eqb (bitOr a b) 0 (ap₂ bitOr (eqb-true a 0 (h .0)) (eqb-true b 0 (h .1))))
-
 pub words-blank : (c : Cell) → none (bitOr (bitOr (c .notar) (c .skip)) (bitOr (bitOr (c .fallback1) (bitOr (c .fallback2) (c .fallback3))) (bitOr (c .skipfallback) (c .finalvote)))) ≡ cellBlank c
 unfolding cellBlank
 words-blank c =
-    or-blank (bitOr (c .notar) (c .skip)) (bitOr (bitOr (c .fallback1) (bitOr (c .fallback2) (c .fallback3))) (bitOr (c .skipfallback) (c .finalvote)))
-    ∙ ap₂ (λ (x y : Bool). x && y) (or-blank (c .notar) (c .skip))
-    (or-blank (bitOr (c .fallback1) (bitOr (c .fallback2) (c .fallback3))) (bitOr (c .skipfallback) (c .finalvote))
+    or-none (bitOr (c .notar) (c .skip)) (bitOr (bitOr (c .fallback1) (bitOr (c .fallback2) (c .fallback3))) (bitOr (c .skipfallback) (c .finalvote)))
+    ∙ ap₂ (λ (x y : Bool). x && y) (or-none (c .notar) (c .skip))
+    (or-none (bitOr (c .fallback1) (bitOr (c .fallback2) (c .fallback3))) (bitOr (c .skipfallback) (c .finalvote))
     ∙ ap₂ (λ (x y : Bool). x && y)
-    (or-blank (c .fallback1) (bitOr (c .fallback2) (c .fallback3)) ∙ ap (λ (x : Bool). none (c .fallback1) && x) (or-blank (c .fallback2) (c .fallback3)))
-    (or-blank (c .skipfallback) (c .finalvote)))
+    (or-none (c .fallback1) (bitOr (c .fallback2) (c .fallback3)) ∙ ap (λ (x : Bool). none (c .fallback1) && x) (or-none (c .fallback2) (c .fallback3)))
+    (or-none (c .skipfallback) (c .finalvote)))

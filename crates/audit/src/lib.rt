@@ -290,7 +290,7 @@ fn cell_words(c: Cell) -> u64
 }
 
 // No cell of a row has anything in it: all words are or-ed together, with no test between them.
-pub fn cells_blank(rec: &[u64], s: Slot) -> bool
+fn cells_blank(rec: &[u64], s: Slot) -> bool
     requires { ⌜ InSlot (now rec) (s .0) ⌝ }
     ensures { λ r. ⌜ r ≡ cellsFit (ledgerOf (now (rec .entry))) (s .0) 0 ⌝ }
 {

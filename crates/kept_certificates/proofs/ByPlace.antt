@@ -126,7 +126,7 @@ blank-fits stakes s qs e =
 
 -- ---- the words of such places
 
-all-split : (a b : ℕ) (f : ℕ → Bool) → allTo (a + b) f ≡ (allTo a f && allTo b (λ j. f (a + j)))
+pub all-split : (a b : ℕ) (f : ℕ → Bool) → allTo (a + b) f ≡ (allTo a f && allTo b (λ j. f (a + j)))
 unfolding allTo
 all-split a zero f = rw (add-zero a) (and-true (allTo a f))
   where
@@ -142,7 +142,7 @@ all-split a (suc b) f =
     and-more false y z = refl
 
 -- Tests of n parts of k.
-all-parts : (n k : ℕ) (f : ℕ → Bool) → allTo (n * k) f ≡ allTo n (λ i. allTo k (λ j. f (k * i + j)))
+pub all-parts : (n k : ℕ) (f : ℕ → Bool) → allTo (n * k) f ≡ allTo n (λ i. allTo k (λ j. f (k * i + j)))
 unfolding allTo
 all-parts zero k f = rw zero-mul refl
 all-parts (suc n) k f =
@@ -151,7 +151,7 @@ all-parts (suc n) k f =
     ∙ all-split (n * k) k f
     ∙ ap₂ (λ (x y : Bool). x && y) (all-parts n k f) (all-same k (λ j. f (n * k + j)) (λ j. f (k * n + j)) (λ j l. let m : n * k + j ≡ k * n + j = omega arith in ap f m))
 
-none-table : (n : ℕ) (f : ℕ → ℕ) → allNone (tabulate n f) ≡ allTo n (λ j. none (f j))
+pub none-table : (n : ℕ) (f : ℕ → ℕ) → allNone (tabulate n f) ≡ allTo n (λ j. none (f j))
 unfolding allNone
 none-table n f =
     ap (λ (m : ℕ). allTo m (λ i. none (wordAt (tabulate n f) i))) (length-tabulate n f)

@@ -16,12 +16,11 @@ ghost use Rattle.pool.specs.Weighing.{Carded};
 ghost use Rattle.soundness.specs.Sound.{rowStands, soundWords, Headed, Standing, Backing};
 ghost use Rattle.soundness.specs.Starting.{BegunOf, SetUp, StartOf, WatchOf};
 use audit::card_blank;
-use audit::cells_blank;
 use audit::in_order;
 use audit::votes_fit;
+use blank_rows::nothing_in;
 use candidates::fallback_weights;
 use kept_audit::certificates_fit;
-use kept_certificates::nothing_kept;
 use record::LAST_SLOT;
 use record::MOST_BLOCKS;
 use record::WINDOWS;
@@ -29,7 +28,6 @@ use record::armed_word;
 use record::clash_word;
 use record::clear;
 use record::count;
-use record::final_block;
 use record::genesis;
 use record::is_long;
 use record::load_block;
@@ -111,7 +109,7 @@ fn blocks_fit(rec: &[u64], s: Slot) -> bool
     ok
 }
 
-// The row of one of the slots 1 to 16, but for what its own fallbacks lean on.
+// The parts of the row of one of the slots 1 to 16, but for what its own fallbacks lean on.
 fn row_fits(rec: &[u64], s: Slot) -> bool
     requires { ⌜ Judging (now rec) (s .0) ⌝ }
     ensures { λ r. ⌜ r ≡ rowStands (ledgerOf (now (rec .entry))) (s .0) ⌝ }
@@ -153,13 +151,22 @@ fn row_blank(rec: &[u64]) -> bool
     requires { ⌜ Long (now rec) ⌝ }
     ensures { λ r. ⌜ r ≡ rowBlank (ledgerOf (now (rec .entry))) ⌝ }
 {
-    let kept = blocks_blank(rec, Slot(0));
-    let told = (final_block(rec, Slot(0)) == 0) & (clash_word(rec, Slot(0)) == 0);
-    let marks = (timeout_word(rec, Slot(0)) == 0) & told;
-    let card = card_blank(load_card(rec, Slot(0)));
-    let certificates = nothing_kept(rec, Slot(0));
-    let cells = cells_blank(rec, Slot(0));
-    kept & (marks & (card & (certificates & cells)))
+    nothing_in(rec, Slot(0))
+}
+
+// The row of one of the slots 1 to 16: one with nothing in it stands. Most rows with something in them have something on the card, so
+// that all their words are looked at only where the card is blank.
+fn row_stands(rec: &[u64], s: Slot) -> bool
+    requires { ⌜ Judging (now rec) (s .0) ⌝ }
+    ensures { λ r. ⌜ r ≡ rowStands (ledgerOf (now (rec .entry))) (s .0) ⌝ }
+{
+    let t = load_card(rec, s);
+    if card_blank(t) {
+        if nothing_in(rec, s) {
+            return true;
+        }
+    }
+    row_fits(rec, s)
 }
 
 // The rows of slots 1 to 16, each by itself.
@@ -168,7 +175,7 @@ fn rows_fit(rec: &[u64]) -> bool
     ensures { λ r. ⌜ r ≡ allTo lastSlot (λ i. rowStands (ledgerOf (now (rec .entry))) (suc i)) ⌝ }
 {
     for i in 0..LAST_SLOT {
-        if !row_fits(rec, Slot(i + 1)) {
+        if !row_stands(rec, Slot(i + 1)) {
             return false;
         }
     }

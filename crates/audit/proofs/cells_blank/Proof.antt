@@ -9,7 +9,8 @@ use Rattle.rulebook.specs.Ledger.{none, places, cellAt}
 use Rattle.rulebook.specs.Tools.{allTo}
 use Rattle.record.specs.Layout.{ledgerOf}
 use Rattle.rulebook.proofs.ToolLaws.{all-none, all-more}
-use Rattle.audit.proofs.Summing.{unused-blank, or-blank}
+use Rattle.blank_rows.proofs.Words.{or-none}
+use Rattle.blank_rows.proofs.Rows.{unused-blank}
 use Rattle.audit.proofs.cells_blank.Statement.{statement}
 use Rattle.audit.proofs.cells_blank.Tie as tie
 
@@ -44,7 +45,7 @@ loop-less c = search needs
 loop-again : tie.Need-loop-again Inv-loop μ-loop
 loop-again c =
     let k = c .before .before .before .loop in
-    (omega arith, or-blank (k .all) (c .cell-words .result) ∙ (λ i. k .inv .1 i && (c .cell-words .ensures ∙ ap cellBlank (c .before .load-cell .ensures)) i) ∙ sym (all-more (k .n) _))
+    (omega arith, or-none (k .all) (c .cell-words .result) ∙ (λ i. k .inv .1 i && (c .cell-words .ensures ∙ ap cellBlank (c .before .load-cell .ensures)) i) ∙ sym (all-more (k .n) _))
 
 returns : tie.Need-returns Inv-loop μ-loop
 returns c =

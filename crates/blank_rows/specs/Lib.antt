@@ -1,0 +1,3 @@
+-- A row with nothing in it.
+pub mod Blank
+pub mod CornersOfBlank
