@@ -15,7 +15,7 @@ use Rattle.rulebook.proofs.ToolLaws.{and-both, both-and, or-cases, or-none, by-
 use Rattle.rulebook.proofs.WeightLaws.{weight-none}
 use Rattle.recounting.proofs.Leading.{Lead, lead-recount, leads-on, leads-off}
 use Rattle.recounting.proofs.Using.{lead-quick, lead-none, recount-leader}
-use Rattle.audit.specs.Rivals.{rivals, hasRival}
+use Rattle.rivals.specs.Rivals.{rivals, hasRival}
 
 module _ (l : Ledger) (s : ℕ) where
   -- ---- rivals

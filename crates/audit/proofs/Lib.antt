@@ -1,4 +1,2 @@
 pub mod Summing
-pub mod Rivals
 pub mod Fitting
-pub mod Groups

@@ -1,11 +1,12 @@
--- The sums of one pass: none, one node more, a blank cell, no wrapping; and what they say of a slot's cells and card. Assumes nothing.
-use mathlib.Core.Path.{_≡_, refl, sym, ap, ap₂, _∙_}
+-- The sums of one pass: none, one node more, a blank cell, a plain one, no wrapping; and what they say of a slot's cells and card.
+-- Assumes nothing.
+use mathlib.Core.Path.{_≡_, refl, sym, ap, _∙_}
 use mathlib.Core.Bool.{Bool, true, false, not, _&&_, _||_}
 use Prim.Native.Nat.{ℕ, _+_, _<_}
 use native.Mathlib.Omega.{arith}
 use lib.Dec.{eqb, ltb}
 use lib.Bits.{bitOr}
-use borrow.Author.Tests.{eqb-true, ne-eqb, lt-ltb}
+use borrow.Author.Tests.{eq-eqb, eqb-true, ne-eqb, lt-ltb}
 use Rattle.rulebook.specs.declared.Cell.{Cell}
 use Rattle.rulebook.specs.declared.Tally.{Tally}
 use Rattle.rulebook.specs.declared.Who.the-variants as who
@@ -14,20 +15,24 @@ use Rattle.rulebook.specs.Weights.{stakeIn, weight}
 use Rattle.rulebook.specs.Ledger.{Ledger, none, noCell, noCard, places, rowAt, cellAt}
 use Rattle.rulebook.specs.Pool.{counts, weigh}
 use Rattle.rulebook.specs.Cards.{most, leader, recount, sameCard}
-use Rattle.rulebook.specs.WellFormed.{inOrder, cellFits, cellBlank, cellsFit, cardFits}
-use Rattle.rulebook.proofs.ToolLaws.{given-on, and-both, by-test, all-none, all-more, all-same, all-at, all-each}
+use Rattle.rulebook.specs.WellFormed.{flag, inOrder, cellFits, cellBlank, cellsFit, cardFits}
+use Rattle.rulebook.proofs.ToolLaws.{given-on, and-both, by-test, part-on, part-off, all-none, all-more, all-same, all-at, all-each}
 use Rattle.rulebook.proofs.WeightLaws.{weight-none, weight-same, weight-more, weight-room}
 use Rattle.recounting.proofs.Using.{same-card}
 use Rattle.record.specs.Tabled.{Tabled}
 use Rattle.blank_rows.proofs.Words.{or-none}
 use Rattle.blank_rows.proofs.Rows.{unused-blank}
 use Rattle.audit.specs.declared.Sums.{Sums}
-use Rattle.audit.specs.Summing.{fallbacksFit, votesFor, sumsOf, noSums, withCell, sumsTo, Room}
+use Rattle.audit.specs.Summing.{plain, votesFor, sumsOf, noSums, withCell, sumsTo, Room}
 use Rattle.audit.proofs.Fitting.{fits-none}
 
 and-true : (a : Bool) → (a && true) ≡ a
 and-true true = refl
 and-true false = refl
+
+or-true : (a : Bool) → (a || true) ≡ true
+or-true true = refl
+or-true false = refl
 
 and-false : (a : Bool) → (a && false) ≡ false
 and-false true = refl
@@ -40,19 +45,8 @@ and-more false b c = refl
 plus-none : (x : ℕ) → x + 0 ≡ x
 plus-none x = omega arith
 
--- ---- a cell's fallback blocks, by the third
-
-module _ (c : Cell) where
-  pub third-none : (r : Bool) → r ≡ inOrder (c .fallback1) (c .fallback2) → c .fallback3 ≡ 0 → r ≡ fallbacksFit c
-  unfolding fallbacksFit inOrder
-  third-none r e z =
-      e ∙ sym (ap (λ (x : ℕ). inOrder (c .fallback1) (c .fallback2) && (inOrder (c .fallback2) x && (none x || not (eqb (c .fallback1) x)))) z ∙ and-true (inOrder (c .fallback1) (c .fallback2)))
-
-  pub third-some : (r t : Bool) → r ≡ inOrder (c .fallback1) (c .fallback2) → t ≡ inOrder (c .fallback2) (c .fallback3) → (c .fallback3 ≡ 0 → ⊥)
-      → (r && (t && not (eqb (c .fallback1) (c .fallback3)))) ≡ fallbacksFit c
-  unfolding fallbacksFit
-  third-some r t e d ne =
-      λ i. e i && (d i && (sym (ne-eqb (c .fallback3) 0 ne) i || not (eqb (c .fallback1) (c .fallback3))))
+none-more : (n w : ℕ) (t : Bool) → t ≡ false → n ≡ n + part t w
+none-more n w t e = omega (arith, part-off t w e)
 
 -- ---- the loop
 
@@ -148,6 +142,60 @@ none-adds x w b =
 pub blank-adds : (x : Sums) (c d : Cell) (w b : ℕ) → c ≡ d → cellBlank c ≡ true → x ≡ withCell x d w b
 blank-adds x c d w b e t = sym (ap (λ (k : Cell). withCell x k w b) (sym e ∙ blank-cell c t) ∙ none-adds x w b)
 
+-- ---- a plain cell
+
+-- by its notar vote, and three words or-ed together
+pub words-plain : (c : Cell) → (c .notar ≡ 0 → ⊥) → bitOr (c .skip) (bitOr (c .skipfallback) (c .fallback3)) ≡ 0 → plain c ≡ true
+unfolding plain
+words-plain c ne e =
+    (λ i. not (ne-eqb (c .notar) 0 ne i) && sym (or-none (c .skip) (bitOr (c .skipfallback) (c .fallback3)) ∙ ap (λ (t : Bool). none (c .skip) && t) (or-none (c .skipfallback) (c .fallback3))) i)
+    ∙ eq-eqb (bitOr (c .skip) (bitOr (c .skipfallback) (c .fallback3))) 0 e
+
+module _ (c : Cell) (is : plain c ≡ true) where
+  plain-words : (not (none (c .notar)) ≡ true) × (c .skip ≡ 0) × (c .skipfallback ≡ 0) × (c .fallback3 ≡ 0)
+  unfolding plain
+  plain-words =
+      let o = and-both (not (none (c .notar))) _ is in
+      let p = and-both (none (c .skip)) _ (o .1) in
+      let q = and-both (none (c .skipfallback)) (none (c .fallback3)) (p .1) in
+      (o .0, eqb-true (c .skip) 0 (p .0), eqb-true (c .skipfallback) 0 (q .0), eqb-true (c .fallback3) 0 (q .1))
+
+  plain-fits : cellFits c ≡ (flag (c .finalvote) && inOrder (c .fallback1) (c .fallback2))
+  unfolding cellFits inOrder
+  plain-fits =
+      let z = plain-words in
+      (λ i. (flag (z .1 i) && (flag (z .2 i) && flag (c .finalvote)))
+      && ((none (c .notar) || none (z .1 i))
+      && (inOrder (c .fallback1) (c .fallback2)
+      && (inOrder (c .fallback2) (z .3 i) && (none (z .3 i) || not (eqb (c .fallback1) (z .3 i)))))))
+      ∙ (λ i. flag (c .finalvote) && (or-true (none (c .notar)) i && and-true (inOrder (c .fallback1) (c .fallback2)) i))
+
+  -- neither a skip nor a skip-fallback
+  plain-skip : counts who.Skip c ≡ false
+  unfolding counts
+  plain-skip = ap (λ (k : ℕ). not (none k)) (plain-words .1)
+
+  plain-skipcert : counts who.SkipOrFallback c ≡ false
+  unfolding counts
+  plain-skipcert = λ i. not (none (plain-words .1 i)) || not (none (plain-words .2 i))
+
+  -- a notar vote, for b where b is its block
+  plain-any : counts who.AnyNotar c ≡ true
+  unfolding counts
+  plain-any = plain-words .0
+
+  plain-lead : (b : ℕ) → votesFor b c ≡ eqb (c .notar) b
+  unfolding votesFor
+  plain-lead b = ap (λ (t : Bool). t && eqb (c .notar) b) (plain-words .0)
+
+  pub plain-adds : (x : Sums) (w b : ℕ) (second : Bool) (finals lead : ℕ) → second ≡ inOrder (c .fallback1) (c .fallback2) → finals ≡ x .finals .0 + part (counts who.Final c) w
+      → lead ≡ x .lead .0 + part (eqb (c .notar) b) w
+      → sumsOf (x .fits && (flag (c .finalvote) && second)) (x .skip .0) finals (x .skipcert .0) (x .any .0 + w) lead ≡ withCell x c w b
+  unfolding withCell
+  plain-adds x w b second finals lead e f l =
+      λ i. sumsOf (x .fits && (ap (λ (t : Bool). flag (c .finalvote) && t) e ∙ sym plain-fits) i) (none-more (x .skip .0) w (counts who.Skip c) plain-skip i) (f i)
+      (none-more (x .skipcert .0) w (counts who.SkipOrFallback c) plain-skipcert i) (x .any .0 + sym (part-on (counts who.AnyNotar c) w plain-any) i) ((l ∙ ap (λ (t : Bool). x .lead .0 + part t w) (sym (plain-lead b))) i)
+
 -- ---- a row without votes
 
 module _ (l : Ledger) (s b : ℕ) (blank : (i : ℕ) → i < l .count → cellAt l s i ≡ noCell) where
@@ -193,15 +241,3 @@ votes-blank l s full c ec e f =
     (λ i h. blank-cell (cellAt l s i) (all-at (places l) i (λ n. cellBlank (cellAt l s n)) (unused-blank l s ∙ f) (omega arith))) in
     let b = sym (blank-sums l s 0 each) in
     fits-none l s 0 0 0 (summed-any l s 0 noSums b) refl ∙ votes-on l s full noCard noSums (sym (same-card c noCard e) ∙ ec) b refl
-
--- ---- words or-ed together
-
-pub words-blank : (c : Cell) → none (bitOr (bitOr (c .notar) (c .skip)) (bitOr (bitOr (c .fallback1) (bitOr (c .fallback2) (c .fallback3))) (bitOr (c .skipfallback) (c .finalvote)))) ≡ cellBlank c
-unfolding cellBlank
-words-blank c =
-    or-none (bitOr (c .notar) (c .skip)) (bitOr (bitOr (c .fallback1) (bitOr (c .fallback2) (c .fallback3))) (bitOr (c .skipfallback) (c .finalvote)))
-    ∙ ap₂ (λ (x y : Bool). x && y) (or-none (c .notar) (c .skip))
-    (or-none (bitOr (c .fallback1) (bitOr (c .fallback2) (c .fallback3))) (bitOr (c .skipfallback) (c .finalvote))
-    ∙ ap₂ (λ (x y : Bool). x && y)
-    (or-none (c .fallback1) (bitOr (c .fallback2) (c .fallback3)) ∙ ap (λ (x : Bool). none (c .fallback1) && x) (or-none (c .fallback2) (c .fallback3)))
-    (or-none (c .skipfallback) (c .finalvote)))

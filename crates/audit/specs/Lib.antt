@@ -1,3 +1,2 @@
--- The sums of one pass over a slot's cells, and a block that leads a claimed leader.
+-- The sums of one pass over a slot's cells.
 pub mod Summing
-pub mod Rivals

@@ -5,11 +5,10 @@ use mathlib.Core.List.{List}
 use Prim.Native.Nat.{ℕ, _+_, _<_, _≤_, _^_}
 use lib.Dec.{eqb}
 use Rattle.rulebook.specs.declared.Cell.{Cell}
-use Rattle.rulebook.specs.declared.Tally.{Tally}
 use Rattle.rulebook.specs.declared.Who.the-variants as who
 use Rattle.rulebook.specs.Tools.{part, allTo}
 use Rattle.rulebook.specs.Weights.{stakeIn, weight}
-use Rattle.rulebook.specs.Ledger.{Ledger, none, places, rowAt, cellAt}
+use Rattle.rulebook.specs.Ledger.{Ledger, none, places, cellAt}
 use Rattle.rulebook.specs.Pool.{counts}
 use Rattle.rulebook.specs.WellFormed.{inOrder, cellFits}
 use Rattle.record.specs.Layout.{ledgerOf}
@@ -21,6 +20,10 @@ unfoldable pub fallbacksFit : Cell → Bool
 fallbacksFit c =
     inOrder (c .fallback1) (c .fallback2)
     && (inOrder (c .fallback2) (c .fallback3) && (none (c .fallback3) || not (eqb (c .fallback1) (c .fallback3))))
+
+-- A notar vote, no skip, no skip-fallback and no third fallback: most cells that are not blank.
+unfoldable pub plain : Cell → Bool
+plain c = not (none (c .notar)) && (none (c .skip) && (none (c .skipfallback) && none (c .fallback3)))
 
 -- The cell has a notar vote for b; there is none for no block.
 unfoldable pub votesFor : ℕ → Cell → Bool
@@ -79,8 +82,3 @@ pub record Summed (ws : List ℕ) (s b : ℕ) (x : Sums) : Type 0 where
 pub record Auditing (ws : List ℕ) (s : ℕ) : Type 0 where
   pub weighing : Weighing ws s
   pub full : places (ledgerOf ws) ≡ ledgerOf ws .count
-
--- Likewise, and this is the slot's card.
-pub record Recounting (ws : List ℕ) (s : ℕ) (t : Tally) : Type 0 where
-  pub auditing : Auditing ws s
-  pub card : t ≡ rowAt (ledgerOf ws) s .card

@@ -1,33 +1,27 @@
 // The 17 test of a slot's votes: every cell in range, and the tally card what a recount gives. One pass over the cells tests them
-// and sums all that the card is held to. Only where no block has more than all the others together are others weighed, each once.
+// and sums all that the card is held to. Only where no block has more than all the others together are others looked at.
 ghost use mathlib.Core.Path.{_≡_};
-ghost use mathlib.Core.Bool.{false, _&&_};
+ghost use mathlib.Core.Bool.{true, _&&_};
 ghost use Prim.Native.Nat.{_+_, _≤_, _^_};
 ghost use lib.Dec.{eqb};
 ghost use Rattle.rulebook.specs.Tools.{part};
 ghost use Rattle.rulebook.specs.Weights.{stakeIn};
-ghost use Rattle.rulebook.specs.Ledger.{none, noCard, cellAt};
+ghost use Rattle.rulebook.specs.Ledger.{noCard, cellAt};
 ghost use Rattle.rulebook.specs.Cards.{most, leader, sameCard};
 ghost use Rattle.rulebook.specs.WellFormed.{inOrder, cellFits, cellBlank, cellsFit, cardFits};
-ghost use Rattle.record.specs.Layout.{InSlot, ledgerOf};
+ghost use Rattle.record.specs.Layout.{ledgerOf};
 ghost use Rattle.pool.specs.Weighing.{Weighing};
-ghost use Rattle.audit.specs.Summing.{fallbacksFit, noSums, withCell, sumsTo, Room, Adding, Summed, Auditing, Recounting};
-ghost use Rattle.audit.specs.Rivals.{Trying, Leading, Claimed, firstWeight, hasRival};
-use candidates::is_new;
-use pool::weigh;
+ghost use Rattle.audit.specs.Summing.{fallbacksFit, plain, noSums, withCell, sumsTo, Room, Adding, Summed, Auditing};
 use record::count;
 use record::load_card;
 use record::load_cell;
-use record::notar_of;
-use record::places_in;
 use record::stake;
+use rivals::is_led;
 use rulebook::Cell;
 use rulebook::Node;
 use rulebook::Slot;
 use rulebook::Tally;
 use rulebook::Weight;
-use rulebook::Who;
-use tally::leads;
 
 // What one pass over cells finds: whether all fit, and the stake of skip, of final, of a skip certificate, of any notar vote and
 // of the notar votes for the block that the card names.
@@ -40,9 +34,6 @@ pub struct Sums {
     pub lead: Weight,
 }
 
-// How many groups the votes for other blocks than the leader are summed in.
-const GROUPS: usize = 64;
-
 // Two places for blocks: the later is filled only after the earlier, and not with the same number.
 pub fn in_order(x: u64, y: u64) -> bool
     ensures { λ r. ⌜ r ≡ inOrder x y ⌝ }
@@ -50,16 +41,13 @@ pub fn in_order(x: u64, y: u64) -> bool
     (y == 0) | ((x != 0) & (x != y))
 }
 
-// Fallback blocks from the front and none twice. Where there is no third, only two are compared.
+// Fallback blocks from the front and none twice.
 fn fallbacks_fit(c: Cell) -> bool
     ensures { λ r. ⌜ r ≡ fallbacksFit c ⌝ }
 {
     let second = in_order(c.fallback1, c.fallback2);
-    if c.fallback3 == 0 {
-        return second;
-    }
     let third = in_order(c.fallback2, c.fallback3);
-    second & (third & (c.fallback1 != c.fallback3))
+    second & (third & ((c.fallback3 == 0) | (c.fallback1 != c.fallback3)))
 }
 
 // Flags, one initial vote, fallback blocks that fit.
@@ -73,7 +61,7 @@ fn cell_fits(c: Cell) -> bool
 }
 
 // Nothing in it.
-pub fn cell_blank(c: Cell) -> bool
+fn cell_blank(c: Cell) -> bool
     ensures { λ r. ⌜ r ≡ cellBlank c ⌝ }
 {
     let initial = (c.notar == 0) & (c.skip == 0);
@@ -118,18 +106,46 @@ fn with_cell(sums: Sums, c: Cell, w: Weight, b: u64) -> Sums
     }
 }
 
-// The sums with a node's cell in a slot. A blank cell changes nothing; one with an initial vote need not be asked.
+// Likewise of a plain cell: it adds nothing to skip and a skip certificate, and less is to be asked of it.
+fn with_plain(sums: Sums, c: Cell, w: Weight, b: u64) -> Sums
+    requires { ⌜ Room sums (w .0) × (plain c ≡ true) ⌝ }
+    ensures { λ r. ⌜ r ≡ withCell sums c (w .0) b ⌝ }
+{
+    let skip = sums.skip;
+    let finals = sums.finals;
+    let skipcert = sums.skipcert;
+    let any = sums.any;
+    let lead = sums.lead;
+    let second = in_order(c.fallback1, c.fallback2);
+    let more_finals = added(finals, c.finalvote != 0, w);
+    let more_any = Weight(any.0 + w.0);
+    let more_lead = added(lead, c.notar == b, w);
+    Sums {
+        fits: sums.fits & ((c.finalvote <= 1) & second),
+        skip,
+        finals: more_finals,
+        skipcert,
+        any: more_any,
+        lead: more_lead,
+    }
+}
+
+// The sums with a node's cell in a slot. Most are plain, and a blank one changes nothing.
 fn with_node(rec: &[u64], s: Slot, n: Node, b: u64, sums: Sums) -> Sums
     requires { ⌜ Adding (now rec) (s .0) (n .0) sums ⌝ }
     ensures { λ r. ⌜ r ≡ withCell sums (cellAt (ledgerOf (now (rec .entry))) (s .0) (n .0)) (stakeIn (ledgerOf (now (rec .entry)) .stakes) (n .0)) b ⌝ }
 {
     let c = load_cell(rec, s, n);
-    if (c.notar == 0) & (c.skip == 0) {
-        if cell_blank(c) {
-            return sums;
+    let w = stake(rec, n);
+    if c.notar != 0 {
+        if (c.skip | (c.skipfallback | c.fallback3)) == 0 {
+            return with_plain(sums, c, w, b);
         }
     }
-    with_cell(sums, c, stake(rec, n), b)
+    if cell_blank(c) {
+        return sums;
+    }
+    with_cell(sums, c, w, b)
 }
 
 // The sums of no cell.
@@ -159,76 +175,6 @@ fn sums_of(rec: &[u64], s: Slot, b: u64) -> Sums
     sums
 }
 
-// The weight of node n's block m where n is the first that votes for it; 0 where it is no block, or b.
-fn first_weight(rec: &[u64], s: Slot, n: Node, m: u64, b: u64) -> Weight
-    requires { ⌜ Trying (now rec) (s .0) (n .0) ⌝ }
-    ensures { λ r. ⌜ r .0 ≡ firstWeight (ledgerOf (now (rec .entry))) (s .0) (n .0) m b ⌝ }
-{
-    if m == b {
-        return Weight(0);
-    }
-    if !is_new(rec, s, n, m) {
-        return Weight(0);
-    }
-    weigh(rec, s, Who::Notar(m))
-}
-
-// Whether some block of the slot leads b at weight v. Each other block is weighed once, and none any more as soon as all that are
-// left have less than b together.
-fn has_rival(rec: &[u64], s: Slot, b: u64, v: Weight, any: Weight) -> bool
-    requires { ⌜ Claimed (now rec) (s .0) b (v .0) (any .0) ⌝ }
-    ensures { λ r. ⌜ r ≡ hasRival (ledgerOf (now (rec .entry))) (s .0) b (v .0) (ledgerOf (now (rec .entry)) .count) ⌝ }
-{
-    let nodes = count(rec);
-    let mut rest = any.0 - v.0;
-    for n in 0..nodes {
-        if rest < v.0 {
-            return false;
-        }
-        let c = load_cell(rec, s, Node(n));
-        let w = first_weight(rec, s, Node(n), c.notar, b);
-        if leads(c.notar, w, b, v) {
-            return true;
-        }
-        rest -= w.0;
-    }
-    false
-}
-
-// Whether some block other than b may lead b at weight v. The notar votes for others are summed in groups by the last bits of
-// their blocks' numbers: no block has more than its group.
-fn may_be_led(rec: &[u64], s: Slot, b: u64, v: Weight) -> bool
-    requires { ⌜ Leading (now rec) (s .0) b (v .0) ⌝ }
-    ensures { λ r. ⌜ (r ≡ false → hasRival (ledgerOf (now (rec .entry))) (s .0) b (v .0) (ledgerOf (now (rec .entry)) .count) ≡ false) ⌝ }
-{
-    let nodes = count(rec);
-    let mut groups = [0u64; GROUPS];
-    for n in 0..nodes {
-        let m = notar_of(rec, s, Node(n));
-        if (m != 0) & (m != b) {
-            let w = stake(rec, Node(n));
-            let g = (m % 64) as usize;
-            let sum = groups[g] + w.0;
-            if leads(m, Weight(sum), b, v) {
-                return true;
-            }
-            groups[g] = sum;
-        }
-    }
-    false
-}
-
-// Whether some block of the slot leads b at weight v. Blocks are weighed only where a group has enough.
-fn is_led(rec: &[u64], s: Slot, b: u64, v: Weight, any: Weight) -> bool
-    requires { ⌜ Claimed (now rec) (s .0) b (v .0) (any .0) ⌝ }
-    ensures { λ r. ⌜ r ≡ hasRival (ledgerOf (now (rec .entry))) (s .0) b (v .0) (ledgerOf (now (rec .entry)) .count) ⌝ }
-{
-    if !may_be_led(rec, s, b, v) {
-        return false;
-    }
-    has_rival(rec, s, b, v, any)
-}
-
 // Whether the card's leader leads the slot at the card's weight.
 fn leader_fits(rec: &[u64], s: Slot, t: Tally, sums: Sums) -> bool
     requires { ⌜ Summed (now rec) (s .0) (t .leader) sums ⌝ }
@@ -250,25 +196,6 @@ fn leader_fits(rec: &[u64], s: Slot, t: Tally, sums: Sums) -> bool
     !is_led(rec, s, b, v, any)
 }
 
-// Whether a slot's cells fit, and its card t is what a recount of its votes gives.
-fn recount_fits(rec: &[u64], s: Slot, t: Tally) -> bool
-    requires { ⌜ Recounting (now rec) (s .0) t ⌝ }
-    ensures { λ r. ⌜ r ≡ (cellsFit (ledgerOf (now (rec .entry))) (s .0) (ledgerOf (now (rec .entry)) .count) && cardFits (ledgerOf (now (rec .entry))) (s .0)) ⌝ }
-{
-    let skip = t.skip;
-    let finals = t.finals;
-    let skipcert = t.skipcert;
-    let sums = sums_of(rec, s, t.leader);
-    let x = sums.skip;
-    let y = sums.finals;
-    let z = sums.skipcert;
-    let same = (skip.0 == x.0) & ((finals.0 == y.0) & (skipcert.0 == z.0));
-    if !(sums.fits & same) {
-        return false;
-    }
-    leader_fits(rec, s, t, sums)
-}
-
 // A card with nothing on it.
 pub fn card_blank(t: Tally) -> bool
     ensures { λ r. ⌜ r ≡ sameCard t noCard ⌝ }
@@ -281,37 +208,22 @@ pub fn card_blank(t: Tally) -> bool
     sums & ((t.leader == 0) & (weight.0 == 0))
 }
 
-// All words of a cell or-ed together.
-fn cell_words(c: Cell) -> u64
-    ensures { λ r. ⌜ none r ≡ cellBlank c ⌝ }
-{
-    let fallbacks = c.fallback1 | (c.fallback2 | c.fallback3);
-    (c.notar | c.skip) | (fallbacks | (c.skipfallback | c.finalvote))
-}
-
-// No cell of a row has anything in it: all words are or-ed together, with no test between them.
-fn cells_blank(rec: &[u64], s: Slot) -> bool
-    requires { ⌜ InSlot (now rec) (s .0) ⌝ }
-    ensures { λ r. ⌜ r ≡ cellsFit (ledgerOf (now (rec .entry))) (s .0) 0 ⌝ }
-{
-    let places = places_in(rec);
-    let mut all: u64 = 0;
-    for n in 0..places {
-        all = all | cell_words(load_cell(rec, s, Node(n)));
-    }
-    all == 0
-}
-
-// Whether a slot's cells fit, and its card is what a recount of its votes gives. Nothing is summed where nothing stands.
+// Whether a slot's cells fit, and its card is what a recount of its votes gives.
 pub fn votes_fit(rec: &[u64], s: Slot) -> bool
     requires { ⌜ Auditing (now rec) (s .0) ⌝ }
     ensures { λ r. ⌜ r ≡ (cellsFit (ledgerOf (now (rec .entry))) (s .0) (ledgerOf (now (rec .entry)) .count) && cardFits (ledgerOf (now (rec .entry))) (s .0)) ⌝ }
 {
     let t = load_card(rec, s);
-    if card_blank(t) {
-        if cells_blank(rec, s) {
-            return true;
-        }
+    let skip = t.skip;
+    let finals = t.finals;
+    let skipcert = t.skipcert;
+    let sums = sums_of(rec, s, t.leader);
+    let x = sums.skip;
+    let y = sums.finals;
+    let z = sums.skipcert;
+    let same = (skip.0 == x.0) & ((finals.0 == y.0) & (skipcert.0 == z.0));
+    if !(sums.fits & same) {
+        return false;
     }
-    recount_fits(rec, s, t)
+    leader_fits(rec, s, t, sums)
 }

@@ -2,8 +2,8 @@
 use mathlib.Core.Path.{sym}
 use borrow.Author.Needs.{needs}
 use borrow.Author.Tests.{not-true}
-use Rattle.audit.proofs.is_led.Statement.{statement}
-use Rattle.audit.proofs.is_led.Tie as tie
+use Rattle.rivals.proofs.is_led.Statement.{statement}
+use Rattle.rivals.proofs.is_led.Tie as tie
 
 may-be-led-requires : tie.Need-may-be-led-requires
 may-be-led-requires c κs = c .before .pre .leading

@@ -1,28 +1,38 @@
 -- Votes for other blocks than a claimed leader, summed in groups by their blocks' numbers: no block weighs more than its group, so
 -- that none leads where no group does. Assumes nothing.
 use mathlib.Core.Path.{_≡_, refl, sym, ap, _∙_}
-use mathlib.Core.Bool.{Bool, true, false, not, _&&_}
+use mathlib.Core.Bool.{true, false, not, _&&_}
 use mathlib.Core.List.{List}
-use Prim.Native.Nat.{ℕ, _+_, _≤_, _<_, _%_}
+use Prim.Native.Nat.{ℕ, _+_, _≤_, _<_, _-_}
 use native.Mathlib.Omega.{arith}
-use native.Mathlib.Nat.{mod-lt}
+use lib.Bits.{bitAnd, and-le-r}
 use lib.ListN.{length, getD, set, replicate, length-set, length-replicate, getD-replicate}
 use lib.Seq.{getD-set-same, getD-set-other}
-use lib.Dec.{eqb}
-use borrow.Author.Tests.{eq-eqb, ne-eqb, eqb-true, eqb-false, not-true}
+use lib.Dec.{eqb, ltb}
+use borrow.Author.Tests.{eq-eqb, eqb-true, eqb-false, not-true, lt-ltb, le-ltb}
 use Rattle.rulebook.specs.declared.Who.the-variants as who
 use Rattle.rulebook.specs.Weights.{stakeIn}
 use Rattle.rulebook.specs.Ledger.{Ledger, none, cellAt}
 use Rattle.rulebook.specs.Cards.{leads}
-use Rattle.rulebook.specs.Pool.{weigh, counts}
+use Rattle.rulebook.specs.Pool.{weigh}
 use Rattle.rulebook.proofs.ToolLaws.{and-both, by-test, true-not-false, part-on, part-off, some-find}
 use Rattle.recounting.proofs.Leading.{leads-on, leads-off}
 use Rattle.pool.proofs.HeldLaws.{notar-counts, weighTo, weigh-none, weigh-done, weigh-more}
-use Rattle.audit.specs.Rivals.{rivals, hasRival}
-use Rattle.audit.proofs.Rivals.{rival-self}
+use Rattle.rivals.specs.Rivals.{rivals, hasRival, Leading, Grouping}
+use Rattle.rivals.proofs.Rivals.{rival-self}
 
-pub group-in : (m : ℕ) → m % 64 < 64
-group-in m = mod-lt m (omega arith)
+-- Of k groups that of block m, told by the last bits of its number, those of k - 1.
+abbrev groupOf : ℕ → ℕ → ℕ
+groupOf k m = bitAnd m (k - 1)
+
+pub group-in : (m k : ℕ) → 1 ≤ k → groupOf k m < k
+group-in m k h = omega (arith, and-le-r m (k - 1))
+
+-- k new groups
+pub groups-empty : {ws : List ℕ} {s b v : ℕ} → (k : ℕ) → 1 ≤ k → Leading ws s b v → Grouping ws s b v (replicate k 0)
+groups-empty k h g =
+    let e = length-replicate {A = ℕ} k 0 in
+    record { leading = g; groups = omega arith; empty = λ j i. getD-replicate {A = ℕ} k j 0 0 (omega arith) }
 
 -- what weighs no more than what does not lead does not lead
 leads-less : (m w x b v : ℕ) → w ≤ x → leads m x b v ≡ false → leads m w b v ≡ false
@@ -32,10 +42,24 @@ leads-less m w x b v h e =
     (λ i d. leads-on m w b v t (λ j. absurd (omega arith)) (λ j k. absurd (omega arith))))
     (λ t. t)
 
+-- a lower number counts as one unit more
+pub ahead-lower : (m w b v : ℕ) → m < b → ltb v (w + 1) ≡ leads m w b v
+ahead-lower m w b v h =
+    by-test (leads m w b v)
+    (λ t. leads-on m w b v t (λ i. lt-ltb v (w + 1) (omega arith)) (λ i j. lt-ltb v (w + 1) (omega arith)) ∙ sym t)
+    (λ t. leads-off m w b v t (λ i. le-ltb v (w + 1) (omega arith)) (λ i d. absurd (omega arith)) ∙ sym t)
+
+pub ahead-higher : (m w b v : ℕ) → b ≤ m → ltb v w ≡ leads m w b v
+ahead-higher m w b v h =
+    by-test (leads m w b v)
+    (λ t. leads-on m w b v t (λ i. lt-ltb v w i) (λ i j. absurd (omega arith)) ∙ sym t)
+    (λ t. leads-off m w b v t (λ i. le-ltb v w (omega arith)) (λ i d. le-ltb v w (omega arith)) ∙ sym t)
+
 pub leads-most : (m w b v : ℕ) → leads m w b v ≡ false → w ≤ v
 leads-most m w b v e = leads-off m w b v e (λ i. omega arith) (λ i d. omega arith)
 
-module _ (l : Ledger) (s b v : ℕ) where
+-- k groups
+module _ (l : Ledger) (s b v k : ℕ) where
   -- The stake for block m of the first n nodes.
   abbrev votesTo : ℕ → ℕ → ℕ
   votesTo m n = weighTo l s (who.Notar m) n
@@ -46,16 +70,18 @@ module _ (l : Ledger) (s b v : ℕ) where
 
   -- The groups after n nodes.
   pub record Grouped (gs : List ℕ) (n : ℕ) : Type 0 where
-    pub long : length gs ≡ 64
-    pub light : (j : ℕ) → j < 64 → getD gs j 0 ≤ v
-    pub covers : (m : ℕ) → Other m → votesTo m n ≤ getD gs (m % 64) 0
+    pub some : 1 ≤ k
+    pub long : length gs ≡ k
+    pub light : (j : ℕ) → j < k → getD gs j 0 ≤ v
+    pub covers : (m : ℕ) → Other m → votesTo m n ≤ getD gs (groupOf k m) 0
     pub unled : (m : ℕ) → Other m → leads m (votesTo m n) b v ≡ false
 
-  pub grouped-none : 1 ≤ v → Grouped (replicate 64 0) 0
-  grouped-none h =
+  pub grouped-none : 1 ≤ v → 1 ≤ k → (gs : List ℕ) → length gs ≡ k → ((j : ℕ) → j < k → getD gs j 0 ≡ 0) → Grouped gs 0
+  grouped-none h i gs e f =
       record {
-        long = length-replicate {A = ℕ} 64 0;
-        light = λ j i. omega (arith, getD-replicate {A = ℕ} 64 j 0 0 i);
+        some = i;
+        long = e;
+        light = λ j d. omega (arith, f j d);
         covers = λ m o. omega (arith, weigh-none l s (who.Notar m));
         unled = λ m o. by-test (leads m (votesTo m 0) b v)
             (λ t. let z = weigh-none l s (who.Notar m) in leads-on m (votesTo m 0) b v t (λ i. absurd (omega arith)) (λ i j. absurd (omega arith)))
@@ -75,6 +101,7 @@ module _ (l : Ledger) (s b v : ℕ) where
     pub grouped-same : (gs : List ℕ) → (not (none x) && not (eqb x b)) ≡ false → Grouped gs n → Grouped gs (n + 1)
     grouped-same gs off g =
         record {
+          some = g .some;
           long = g .long;
           light = g .light;
           covers = λ m o. omega (arith, votes-same m (apart m o), g .covers m o);
@@ -88,34 +115,35 @@ module _ (l : Ledger) (s b v : ℕ) where
             (λ t. t)
 
     -- a vote for another block, whose group does not lead
-    module _ (gs : List ℕ) (sum : ℕ) (is : sum ≡ getD gs (x % 64) 0 + stakeIn (l .stakes) n) (off : leads x sum b v ≡ false) (g : Grouped gs n) where
-      in-groups : x % 64 < length gs
-      in-groups = omega (arith, g .long, group-in x)
+    module _ (gs : List ℕ) (sum : ℕ) (is : sum ≡ getD gs (groupOf k x) 0 + stakeIn (l .stakes) n) (off : leads x sum b v ≡ false) (g : Grouped gs n) where
+      in-groups : groupOf k x < length gs
+      in-groups = omega (arith, g .long, group-in x k (g .some))
 
-      after-same : (j : ℕ) → eqb j (x % 64) ≡ true → getD (set gs (x % 64) sum) j 0 ≡ sum
-      after-same j e = ap (λ (i : ℕ). getD (set gs (x % 64) sum) i 0) (eqb-true j (x % 64) e) ∙ getD-set-same gs (x % 64) sum 0 in-groups
+      after-same : (j : ℕ) → eqb j (groupOf k x) ≡ true → getD (set gs (groupOf k x) sum) j 0 ≡ sum
+      after-same j e = ap (λ (i : ℕ). getD (set gs (groupOf k x) sum) i 0) (eqb-true j (groupOf k x) e) ∙ getD-set-same gs (groupOf k x) sum 0 in-groups
 
-      after-other : (j : ℕ) → eqb j (x % 64) ≡ false → getD (set gs (x % 64) sum) j 0 ≡ getD gs j 0
-      after-other j e = getD-set-other gs (x % 64) j sum 0 (eqb-false j (x % 64) e)
+      after-other : (j : ℕ) → eqb j (groupOf k x) ≡ false → getD (set gs (groupOf k x) sum) j 0 ≡ getD gs j 0
+      after-other j e = getD-set-other gs (groupOf k x) j sum 0 (eqb-false j (groupOf k x) e)
 
-      grows : (j : ℕ) → getD gs j 0 ≤ getD (set gs (x % 64) sum) j 0
+      grows : (j : ℕ) → getD gs j 0 ≤ getD (set gs (groupOf k x) sum) j 0
       grows j =
-          by-test (eqb j (x % 64))
-          (λ e. omega (arith, after-same j e, is, ap (λ (i : ℕ). getD gs i 0) (eqb-true j (x % 64) e))) (λ e. omega (arith, after-other j e))
+          by-test (eqb j (groupOf k x))
+          (λ e. omega (arith, after-same j e, is, ap (λ (i : ℕ). getD gs i 0) (eqb-true j (groupOf k x) e))) (λ e. omega (arith, after-other j e))
 
       covered : (m : ℕ) → Other m → eqb x m ≡ true → votesTo m (n + 1) ≤ sum
       covered m o e =
-          omega (arith, votes-here m e, g .covers m o, is, ap (λ (y : ℕ). getD gs (y % 64) 0) (eqb-true x m e))
+          omega (arith, votes-here m e, g .covers m o, is, ap (λ (y : ℕ). getD gs (groupOf k y) 0) (eqb-true x m e))
 
-      pub grouped-more : Grouped (set gs (x % 64) sum) (n + 1)
+      pub grouped-more : Grouped (set gs (groupOf k x) sum) (n + 1)
       grouped-more =
           record {
-            long = length-set gs (x % 64) sum ∙ g .long;
-            light = λ j h. by-test (eqb j (x % 64)) (λ e. omega (arith, after-same j e, leads-most x sum b v off)) (λ e. omega (arith, after-other j e, g .light j h));
+            some = g .some;
+            long = length-set gs (groupOf k x) sum ∙ g .long;
+            light = λ j h. by-test (eqb j (groupOf k x)) (λ e. omega (arith, after-same j e, leads-most x sum b v off)) (λ e. omega (arith, after-other j e, g .light j h));
             covers = λ m o. by-test (eqb x m)
-                (λ e. let q : m % 64 ≡ x % 64 = ap (λ (y : ℕ). y % 64) (sym (eqb-true x m e)) in
-                omega (arith, covered m o e, after-same (m % 64) (eq-eqb (m % 64) (x % 64) q)))
-                (λ e. omega (arith, votes-same m e, g .covers m o, grows (m % 64)));
+                (λ e. let q : groupOf k m ≡ groupOf k x = ap (λ (y : ℕ). groupOf k y) (sym (eqb-true x m e)) in
+                omega (arith, covered m o e, after-same (groupOf k m) (eq-eqb (groupOf k m) (groupOf k x) q)))
+                (λ e. omega (arith, votes-same m e, g .covers m o, grows (groupOf k m)));
             unled = λ m o. by-test (eqb x m)
                 (λ e. leads-less m (votesTo m (n + 1)) sum b v (covered m o e) (ap (λ (y : ℕ). leads y sum b v) (sym (eqb-true x m e)) ∙ off))
                 (λ e. ap (λ (w : ℕ). leads m w b v) (votes-same m e) ∙ g .unled m o);

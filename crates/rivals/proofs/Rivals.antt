@@ -17,7 +17,7 @@ use Rattle.rulebook.proofs.WeightLaws.{weight-none, weight-mono, weight-both}
 use Rattle.recounting.proofs.Leading.{leads-on}
 use Rattle.pool.specs.Weighing.{countedBefore}
 use Rattle.candidates.specs.Judging.{isNew}
-use Rattle.audit.specs.Rivals.{rivals, firstWeight, hasRival}
+use Rattle.rivals.specs.Rivals.{rivals, firstWeight, hasRival}
 
 and-off : (a b : Bool) → b ≡ false → (a && b) ≡ false
 and-off true b e = e
