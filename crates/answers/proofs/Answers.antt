@@ -13,7 +13,7 @@ use Rattle.rulebook.specs.Writers as writer
 use Rattle.rulebook.specs.Writers.{Writes}
 use Rattle.node.specs.Stepping.{StepOf, stepLeaves}
 use Rattle.taking.specs.Taking.{TakeOf}
-use Rattle.soundness.specs.Starting.{StartOf, WatchOf}
+use Rattle.starts.specs.Starting.{StartOf, WatchOf}
 use Rattle.trays.specs.Lent.{TrayOf}
 use Rattle.cards.specs.declared.CardAnswer.{CardAnswer}
 use Rattle.cards.specs.Asked.{cardPanel}

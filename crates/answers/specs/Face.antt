@@ -17,9 +17,9 @@ use Rattle.taking.specs.Taking.{takeLeaves}
 use Rattle.trays.specs.Lent.{trayLeaves}
 use Rattle.cards.specs.declared.CardAnswer.{CardAnswer}
 use Rattle.cards.specs.Asked.{cardPanel}
-use Rattle.differences.specs.Lines.{spellLines}
+use Rattle.difference_lines.specs.Lines.{spellLines}
 use Rattle.differences.specs.Lent.{differ, differPanel}
-use Rattle.soundness.specs.Starting.{startJudged, startAnswer, startLeft, watchJudged}
+use Rattle.starts.specs.Starting.{startJudged, startAnswer, startLeft, watchJudged}
 use Rattle.pieces.specs.Pieces.{piecePanel}
 use Rattle.pieces.specs.State.{nodes, pieceLeaves, endLeaves}
 use Rattle.readers.specs.declared.FinalAnswer.{FinalAnswer}

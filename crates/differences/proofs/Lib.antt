@@ -1,8 +1,5 @@
--- Laws of the lines of two ledgers, and what is promised of them.
+-- Laws of the lines in a lent list.
 pub mod LineLaws
 pub mod TableLaws
 pub mod ListLaws
-pub mod Ascending
-pub mod Exactly
-pub mod Ordered
 pub mod Theorems

@@ -19,9 +19,9 @@ use Rattle.rulebook.specs.PaperNumbers.{voteNumber}
 use Rattle.rulebook.specs.Ledger.{Ledger, none, cellAt}
 use Rattle.rulebook.proofs.ToolLaws.{given-on, given-off, by-test, and-both, true-not-false}
 use Rattle.numbers.proofs.Stores.{stores-append}
-use Rattle.differences.specs.declared.Side.{Side}
-use Rattle.differences.specs.declared.Side.the-variants as side
-use Rattle.differences.specs.Lines.{Line, lineFor, sideNumber, spellLine, spellLines, voteAt, keeps, lineOf, voteLine, blocksOf, mostNamed, ascending, linesOver, blockLines, cellLines, linesTo, nodeLines, slotLines, voteLines}
+use Rattle.difference_lines.specs.declared.Side.{Side}
+use Rattle.difference_lines.specs.declared.Side.the-variants as side
+use Rattle.difference_lines.specs.Lines.{Line, lineFor, sideNumber, spellLine, spellLines, voteAt, keeps, lineOf, voteLine, blocksOf, mostNamed, ascending, linesOver, blockLines, cellLines, linesTo, nodeLines, slotLines, voteLines}
 use Rattle.differences.specs.Lent.{Laid, mostLines}
 
 -- ---- one run of lines after another

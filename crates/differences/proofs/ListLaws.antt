@@ -14,11 +14,11 @@ use Rattle.rulebook.proofs.ToolLaws.{given-on, given-off}
 use Rattle.numbers.proofs.Stores.{stores-lay, laid-front}
 use Rattle.record.specs.Layout.{ledgerOf}
 use Rattle.soundness.specs.Sound.{soundWords}
-use Rattle.differences.specs.declared.Side.{Side}
-use Rattle.differences.specs.declared.Side.the-variants as side
+use Rattle.difference_lines.specs.declared.Side.{Side}
+use Rattle.difference_lines.specs.declared.Side.the-variants as side
 use Rattle.differences.specs.declared.DifferAnswer.{DifferAnswer}
 use Rattle.differences.specs.declared.DifferAnswer.the-variants as answer
-use Rattle.differences.specs.Lines.{Line, spellLines, tablesLine, voteLines, sameTables, differences}
+use Rattle.difference_lines.specs.Lines.{Line, spellLines, tablesLine, voteLines, sameTables, differences}
 use Rattle.differences.specs.Lent.{Differed, refusedBy, listedIn, differ, DifferOf, Laid, Sounds, Alike, ListedIn}
 use Rattle.differences.proofs.LineLaws.{spell-length}
 

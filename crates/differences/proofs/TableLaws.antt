@@ -12,7 +12,7 @@ use Rattle.rulebook.specs.Ledger.{Ledger, places}
 use Rattle.rulebook.proofs.ToolLaws.{and-both}
 use Rattle.record.specs.Layout.{ledgerOf}
 use Rattle.soundness.proofs.Laws.{sound-head, sound-placed}
-use Rattle.differences.specs.Lines.{sameTables}
+use Rattle.difference_lines.specs.Lines.{sameTables}
 use Rattle.differences.specs.Lent.{Alike}
 
 module _ (l m : Ledger) {a b : ℕ} (p : a ≡ l .count) (q : b ≡ m .count) where

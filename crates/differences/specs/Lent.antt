@@ -14,11 +14,10 @@ use Rattle.rulebook.specs.PaperNumbers.{Panel, refusalNumber}
 use Rattle.rulebook.specs.Writers.{over}
 use Rattle.record.specs.Layout.{ledgerOf}
 use Rattle.soundness.specs.Sound.{soundWords}
-use Rattle.differences.specs.declared.Side.{Side}
-use Rattle.differences.specs.declared.Side.the-variants as side
+use Rattle.difference_lines.specs.declared.Side.the-variants as side
 use Rattle.differences.specs.declared.DifferAnswer.{DifferAnswer}
 use Rattle.differences.specs.declared.DifferAnswer.the-variants as answer
-use Rattle.differences.specs.Lines.{Line, sideNumber, spellLines, sameTables, differences}
+use Rattle.difference_lines.specs.Lines.{Line, sideNumber, spellLines, sameTables, differences}
 
 -- The answer, and the lines that stand from the list's front.
 pub record Differed : Type 0 where

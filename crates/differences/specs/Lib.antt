@@ -1,5 +1,2 @@
--- Which votes differ: the lines of two ledgers, what is answered and left in a lent list, and cases computed.
-pub mod Lines
+-- Which votes differ: what is answered and left in a lent list.
 pub mod Lent
-pub mod Promises
-pub mod CornersOfLines

@@ -6,10 +6,11 @@ ghost use lib.ListN.{set};
 ghost use lib.Dec.{ltb};
 ghost use Rattle.rulebook.specs.Tools.{lower, lowest};
 ghost use Rattle.record.specs.Layout.{ledgerOf};
-ghost use Rattle.differences.specs.Lines.{lineFor, voteLine, blocksOf, blockLines, cellLines, slotLines, voteLines, tablesLine};
-ghost use Rattle.differences.specs.Lines.{sideNumber as sideNumberOf, keeps as keepsVote, sameTables as sameTablesOf};
+ghost use Rattle.difference_lines.specs.Lines.{lineFor, voteLine, blocksOf, blockLines, cellLines, slotLines, voteLines, tablesLine};
+ghost use Rattle.difference_lines.specs.Lines.{sideNumber as sideNumberOf, keeps as keepsVote, sameTables as sameTablesOf};
 ghost use Rattle.differences.specs.Lent.{Laid, mostLines, SameCell, Sounds, Alike, InRow, ListedIn, DifferOf};
 use cells::place_of;
+use difference_lines::Side;
 use kinds::vote_number;
 use record::LAST_SLOT;
 use record::count;
@@ -28,13 +29,6 @@ const LINE_WORDS: usize = 5;
 
 // How many blocks two cells name at most in votes of one kind.
 const MOST_NAMED: usize = 6;
-
-// Which of two records has a vote.
-pub enum Side {
-    First,
-    Second,
-    Neither,
-}
 
 // The number of lines in the list, the side whose record is bad, or the number of lines needed.
 pub enum DifferAnswer {

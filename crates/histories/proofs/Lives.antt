@@ -38,12 +38,12 @@ use Rattle.settling.proofs.Start.{fresh-sound, watching-sound}
 use Rattle.record.specs.Layout.{recordWords, ledgerOf}
 use Rattle.record.specs.Spelling.{wordsOf}
 use Rattle.soundness.specs.Sound.{soundWords}
-use Rattle.soundness.specs.Starting.{startJudged, watchJudged, startAnswer, startLeft}
+use Rattle.starts.specs.Starting.{startJudged, watchJudged, startAnswer, startLeft}
 use Rattle.soundness.proofs.Laws.{words-spelled, sound-formed, sound-ledger}
 use Rattle.soundness.proofs.InStep.{spelled-sound, spelled-back}
 use Rattle.node.specs.Stepping.{spelled, asFed, Leaves, stepLeaves, StepOf}
 use Rattle.taking.specs.Taking.{takeLeaves}
-use Rattle.trays.specs.Trays.{votesIn, wholeVotes, serve, Tray, trayRefused, trayServed, tray}
+use Rattle.tray_rules.specs.Trays.{votesIn, wholeVotes, serve, Tray, trayRefused, trayServed, tray}
 use Rattle.trays.specs.Lent.{asServed, trayLeaves, TrayOf}
 use Rattle.trays.specs.Lent as trays
 use Rattle.trays.proofs.Theorems.{serve-life, serve-sound}

@@ -21,7 +21,7 @@ use Rattle.rulebook.specs.WellFormed.{outboxWords, keptIn}
 use Rattle.rulebook.proofs.ToolLaws.{given-on}
 use Rattle.record.specs.Layout.{recordWords, ledgerOf}
 use Rattle.record.specs.Spelling.{wordsOf}
-use Rattle.soundness.specs.Starting.{startJudged, startAnswer, startLeft}
+use Rattle.starts.specs.Starting.{startJudged, startAnswer, startLeft}
 use Rattle.node.specs.Stepping.{Leaves, stepLeaves}
 use Rattle.taking.specs.Taking.{takeLeaves}
 use Rattle.safety.specs.Slot.{Ballot}

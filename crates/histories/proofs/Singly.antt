@@ -24,7 +24,7 @@ use Rattle.record.specs.Spelling.{wordsOf, isSpelled}
 use Rattle.soundness.specs.Sound.{soundWords}
 use Rattle.soundness.proofs.Laws.{sound-ledger}
 use Rattle.soundness.proofs.InStep.{sound-spelled, spelled-sound, spelled-back}
-use Rattle.trays.specs.Trays.{votesIn, wholeVotes, Served, serve, Tray, trayRefused, trayServed, tray}
+use Rattle.tray_rules.specs.Trays.{votesIn, wholeVotes, Served, serve, Tray, trayRefused, trayServed, tray}
 use Rattle.trays.specs.Lent as trays
 use Rattle.trays.specs.Lent.{asServed, trayLeaves, TrayOf}
 use Rattle.histories.specs.Calls.{Operation, Call, Meets, Calls, noMore, called, lastOf, firstRecords}

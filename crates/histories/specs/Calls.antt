@@ -14,10 +14,10 @@ use Rattle.rulebook.specs.Tools.{given}
 use Rattle.rulebook.specs.Rules.{Record, recordOf}
 use Rattle.rulebook.specs.Taking.{Arrival, ofInput, ofPacket}
 use Rattle.rulebook.specs.WellFormed.{outboxWords}
-use Rattle.soundness.specs.Starting.{StartOf, WatchOf}
+use Rattle.starts.specs.Starting.{StartOf, WatchOf}
 use Rattle.node.specs.Stepping.{StepOf}
 use Rattle.taking.specs.Taking.{TakeOf}
-use Rattle.trays.specs.Trays.{votesIn, wholeVotes}
+use Rattle.tray_rules.specs.Trays.{votesIn, wholeVotes}
 use Rattle.trays.specs.Lent.{TrayOf}
 use Rattle.safety.specs.Ballots.{among}
 

@@ -10,7 +10,7 @@ use Rattle.rulebook.specs.PaperNumbers.{stepPanel}
 use Rattle.rulebook.specs.Rules.{Record}
 use Rattle.rulebook.specs.WellFormed.{outboxWords}
 use Rattle.rulebook.specs.Writers.{over}
-use Rattle.trays.specs.Trays.{votesIn}
+use Rattle.tray_rules.specs.Trays.{votesIn}
 use Rattle.trays.specs.Lent.{TrayOf}
 use Rattle.histories.specs.Calls.{oneInput, Call, Calls, lastOf, firstRecords, toldIn}
 

@@ -13,7 +13,7 @@ use Rattle.rulebook.specs.declared.StepAnswer.the-variants.{Done, Refused}
 use Rattle.rulebook.specs.PaperNumbers.{refusalNumber, startPanel, stepPanel}
 use Rattle.rulebook.specs.Rules.{Record}
 use Rattle.rulebook.specs.Taking.{Arrival}
-use Rattle.soundness.specs.Starting.{startJudged, watchJudged, startAnswer}
+use Rattle.starts.specs.Starting.{startJudged, watchJudged, startAnswer}
 use Rattle.node.specs.Stepping.{stepLeaves}
 use Rattle.taking.specs.Taking.{takeLeaves}
 use Rattle.trays.specs.Lent.{trayLeaves}

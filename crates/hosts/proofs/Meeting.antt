@@ -23,7 +23,7 @@ use Rattle.rulebook.specs.Taking.{Arrival, ofInput, ofPacket}
 use Rattle.rulebook.specs.WellFormed.{outboxWords, keptIn}
 use Rattle.record.specs.Layout.{ledgerOf}
 use Rattle.record.specs.Spelling.{wordsOf}
-use Rattle.soundness.specs.Starting.{startAnswer, startLeft}
+use Rattle.starts.specs.Starting.{startAnswer, startLeft}
 use Rattle.node.specs.Stepping.{Leaves, stepLeaves}
 use Rattle.taking.specs.Taking.{takeLeaves}
 use Rattle.safety.specs.Slot.{Ballot}

@@ -11,7 +11,7 @@ use Rattle.rulebook.specs.declared.StepAnswer.{StepAnswer}
 use Rattle.rulebook.specs.declared.StepAnswer.the-variants.{Done}
 use Rattle.rulebook.specs.Rules.{Record}
 use Rattle.rulebook.specs.Taking.{Arrival}
-use Rattle.soundness.specs.Starting.{StartOf}
+use Rattle.starts.specs.Starting.{StartOf}
 use Rattle.safety.specs.Ballots.{among}
 use Rattle.histories.specs.Calls.{Operation, oneInput, aTray, aPacket, Meets, fedBy, firstRecords, toldIn}
 use Rattle.inputs.specs.Inputs.{voteInput, blockInput, timeoutInput}

@@ -1,7 +1,7 @@
 -- What a slot's card shows, where it is the recount. Assumes nothing.
 use mathlib.Core.Path.{_≡_, refl, sym, ap, _∙_}
 use mathlib.Core.Bool.{Bool, true, false, not, _&&_}
-use mathlib.Core.List.{List, [], _∷_}
+use mathlib.Core.List.{List}
 use Prim.Native.Nat.{ℕ, _≤_}
 use native.Mathlib.Omega.{arith}
 use lib.Dec.{eqb, leb}
@@ -11,21 +11,20 @@ use Rattle.rulebook.specs.declared.Who.{Who}
 use Rattle.rulebook.specs.declared.Who.the-variants as who
 use Rattle.rulebook.specs.declared.CertificateKind.{CertificateKind}
 use Rattle.rulebook.specs.declared.CertificateKind.the-variants as certificate
-use Rattle.rulebook.specs.Tools.{anyOf, part}
+use Rattle.rulebook.specs.Tools.{part}
 use Rattle.rulebook.specs.Weights.{reaches, missing}
 use Rattle.rulebook.specs.Ledger.{Ledger, none, rowAt}
-use Rattle.rulebook.specs.Pool.{weigh, weighs, reached, held, missingTo, names, signersOf, fifthsOf}
+use Rattle.rulebook.specs.Pool.{weigh, weighs, reached, missingTo, signersOf, fifthsOf}
 use Rattle.rulebook.specs.Cards.{recount, leader, most}
-use Rattle.rulebook.proofs.ToolLaws.{by-test, and-both, or-cases, or-left, or-right, part-on, part-off, part-le, true-not-false}
-use Rattle.rulebook.proofs.WeightLaws.{reaches-more, reaches-missing, reaches-found, none-missing}
-use Rattle.rulebook.proofs.LowestLaws.{Among, heavy-named}
+use Rattle.rulebook.proofs.ToolLaws.{by-test, and-both, part-on, part-off, part-le, true-not-false}
+use Rattle.rulebook.proofs.WeightLaws.{reaches-more, reaches-missing, none-missing}
 use Rattle.record.specs.Layout.{ledgerOf}
 use Rattle.record.specs.Tabled.{Tabled}
 use Rattle.recounting.proofs.Leading.{lead-recount}
-use Rattle.recounting.proofs.Using.{notar-card, reached-some}
+use Rattle.recounting.proofs.Using.{notar-card}
 use Rattle.pool.specs.Weighing.{Carded}
 use Rattle.pool.specs.OnCard.{leadWeight, onCard, isOnCard, isBehind}
-use Rattle.pool.proofs.HeldLaws.{weigh-mono, counts-fallback, reached-held, reached-fallback}
+use Rattle.pool.proofs.HeldLaws.{weigh-mono, counts-fallback}
 
 module _ (l : Ledger) (s : ℕ) where
   -- the leader's weight is the card's
@@ -120,33 +119,3 @@ module _ (l : Ledger) (s : ℕ) (t : Tally) (card : t ≡ recount l s) where
   card-behind h k b w d e =
       ap (λ (x : Who). reaches (fifthsOf k) (l .total) (weigh l s x)) (sym d)
       ∙ shown-behind l s h (fifthsOf k) (fifths-most k) w (ap (λ (x : Tally). isBehind x w) (sym card) ∙ e)
-
-  -- what is missing to 60 of the leader's weight
-  pub card-sixty : (all m : ℕ) → all ≡ l .total → m ≡ missing 3 all (t .weight .0) → eqb m 0 ≡ reaches 3 (l .total) (most l s)
-  unfolding recount
-  card-sixty all m a e =
-      sym (reaches-found 3 all (t .weight .0) m e) ∙ (λ i. reaches 3 (a i) (card i .weight .0))
-
--- ---- a leader that reaches 60 is a name that holds kind 3
-
-any-among : (p : ℕ → Bool) (b : ℕ) (bs : List ℕ) → Among b bs → p b ≡ true → anyOf p bs ≡ true
-unfolding anyOf
-any-among p b [] h e = true-not-false false h refl
-any-among p b (x ∷ bs) h e =
-    or-cases (eqb b x) (anyOf (eqb b) bs) h (λ t. or-left (p x) (anyOf p bs) (ap p (sym (eqb-true b x t)) ∙ e))
-    (λ t. or-right (p x) (anyOf p bs) (any-among p b bs t e))
-
-module _ (l : Ledger) (s : ℕ) (k : Tabled l) where
-  pub leader-held : reaches 3 (l .total) (most l s) ≡ true → anyOf (held l certificate.NotarFallback s) (names l s) ≡ true
-  unfolding reached weighs signersOf fifthsOf
-  leader-held e = any-among (held l certificate.NotarFallback s) (leader l s) (names l s) (heavy-named l s (leader l s) b (omega (arith, w, m)))
-      (reached-held l certificate.NotarFallback s (leader l s) (reached-fallback l s (leader l s) (ap (reaches 3 (l .total)) w ∙ e)))
-    where
-      m : 1 ≤ most l s
-      m = reached-some l s (k .sum) (k .some) 3 (most l s) (omega arith) e
-
-      b : 1 ≤ leader l s
-      b = lead-recount l s .block m
-
-      w : weigh l s (who.Notar (leader l s)) ≡ most l s
-      w = lead-recount l s .weight m

@@ -15,11 +15,11 @@ use Rattle.record.specs.Layout.{ledgerOf}
 use Rattle.soundness.specs.Sound.{soundWords}
 use Rattle.differences.specs.declared.DifferAnswer.{DifferAnswer}
 use Rattle.differences.specs.declared.DifferAnswer.the-variants as answer
-use Rattle.differences.specs.declared.Side.the-variants as side
-use Rattle.differences.specs.Lines.{Line, sideNumber, stores, spellLines, sameTables, differences}
+use Rattle.difference_lines.specs.declared.Side.the-variants as side
+use Rattle.difference_lines.specs.Lines.{Line, sideNumber, stores, spellLines, sameTables, differences}
 use Rattle.differences.specs.Lent.{Differed, refusedBy, listedIn, differ, DifferOf, differPanel}
 use Rattle.differences.proofs.ListLaws.{over-nothing, cramped, roomy}
-use Rattle.differences.proofs.Theorems.{none-exactly}
+use Rattle.difference_lines.proofs.Theorems.{none-exactly}
 use Rattle.answers.specs.Face.{Compared}
 use Rattle.promises.specs.Differs.{shownAs, linesOf, Told, DifferShown, FaceDiffer, FaceDifferRefused, FaceEqual}
 

@@ -6,7 +6,7 @@ use lib.ListN.{take}
 use Rattle.rulebook.proofs.RuleLaws.{over-front}
 use Rattle.lines.specs.Answers.{numberLine, startLine, stepLine, trayLine, packetLine, messageLine, checkLine}
 use Rattle.lines.proofs.Putting.{stands-whole}
-use Rattle.trays.specs.Trays.{wholeVotes}
+use Rattle.tray_rules.specs.Trays.{wholeVotes}
 use Rattle.promises.specs.Printed.{Sends, StartPrinted, WatchPrinted, StepPrinted, TakePrinted, TrayPrinted, PacketPrinted, MessagePrinted, CheckPrinted}
 
 -- A text in other words is sent as it stands.

@@ -30,10 +30,10 @@ use Rattle.record.specs.Layout.{ledgerOf}
 use Rattle.record.specs.Spelling.{wordsOf, isSpelled}
 use Rattle.record.proofs.Spelled.{spelled-words}
 use Rattle.soundness.specs.Sound.{soundWords}
-use Rattle.soundness.specs.Starting.{startJudged, startAnswer, startLeft, watchJudged}
+use Rattle.starts.specs.Starting.{startJudged, startAnswer, startLeft, watchJudged}
 use Rattle.node.specs.Stepping.{Leaves, spelled, asFound, asFed, stepLeaves}
 use Rattle.taking.specs.Taking.{takeLeaves}
-use Rattle.trays.specs.Trays.{votesIn, wholeVotes, Served, serve, Tray, trayRefused, trayServed, tray}
+use Rattle.tray_rules.specs.Trays.{votesIn, wholeVotes, Served, serve, Tray, trayRefused, trayServed, tray}
 use Rattle.trays.specs.Lent as trays
 use Rattle.trays.specs.Lent.{asServed, trayLeaves}
 use Rattle.writers.specs.Writing.{unsound, kindOn, certificateOn, proofOn}

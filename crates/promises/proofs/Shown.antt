@@ -35,10 +35,10 @@ use Rattle.packets.proofs.Table.{table-of-record}
 use Rattle.record.specs.Layout.{ledgerOf}
 use Rattle.record.specs.Spelling.{isSpelled}
 use Rattle.soundness.specs.Sound.{soundWords}
-use Rattle.soundness.specs.Starting.{startJudged, startAnswer, watchJudged}
+use Rattle.starts.specs.Starting.{startJudged, startAnswer, watchJudged}
 use Rattle.node.specs.Stepping.{asFound, asFed, stepLeaves}
 use Rattle.taking.specs.Taking.{takeLeaves}
-use Rattle.trays.specs.Trays.{votesIn, wholeVotes, serve, Tray, trayRefused, trayServed, tray}
+use Rattle.tray_rules.specs.Trays.{votesIn, wholeVotes, serve, Tray, trayRefused, trayServed, tray}
 use Rattle.trays.specs.Lent as trays
 use Rattle.trays.specs.Lent.{trayLeaves}
 use Rattle.writers.specs.Writing.{unsound, kindOn, certificateOn, proofOn}

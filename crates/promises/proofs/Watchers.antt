@@ -36,13 +36,13 @@ use Rattle.settling.specs.Facts.{Sound}
 use Rattle.settling.specs.Steps.{life}
 use Rattle.settling.proofs.Start.{watching-sound}
 use Rattle.record.specs.Layout.{recordWords, ledgerOf}
-use Rattle.soundness.specs.Starting.{startAnswer, startLeft, watchJudged}
+use Rattle.starts.specs.Starting.{startAnswer, startLeft, watchJudged}
 use Rattle.soundness.proofs.Laws.{words-spelled, sound-ledger}
 use Rattle.soundness.proofs.InStep.{spelled-back}
-use Rattle.soundness.proofs.Starts.{watch-leaves-sound}
+use Rattle.starts.proofs.Starts.{watch-leaves-sound}
 use Rattle.node.specs.Stepping.{spelled, asFed, Leaves, stepLeaves}
 use Rattle.taking.specs.Taking.{takeLeaves}
-use Rattle.trays.specs.Trays.{votesIn, wholeVotes, serve, Tray, trayRefused, trayServed, tray}
+use Rattle.tray_rules.specs.Trays.{votesIn, wholeVotes, serve, Tray, trayRefused, trayServed, tray}
 use Rattle.trays.specs.Lent as trays
 use Rattle.trays.specs.Lent.{asServed, trayLeaves}
 use Rattle.trays.proofs.Theorems.{arrivals, serve-life}

@@ -10,7 +10,7 @@ use Rattle.rulebook.specs.Writers.{over}
 use Rattle.record.specs.Layout.{ledgerOf}
 use Rattle.soundness.specs.Sound.{soundWords}
 use Rattle.differences.specs.declared.DifferAnswer.{DifferAnswer}
-use Rattle.differences.specs.Lines.{Line, stores, spellLines, sameTables, differences}
+use Rattle.difference_lines.specs.Lines.{Line, stores, spellLines, sameTables, differences}
 use Rattle.differences.specs.Lent.{DifferOf, differPanel}
 use Rattle.answers.specs.Face.{Compared}
 

@@ -32,10 +32,10 @@ use Rattle.rulebook.specs.Checker.{signed, signedWeight, judge, checkCertificat
 use Rattle.rulebook.specs.Writers.{certificateFor, certificateVerdict, proofVerdict, proofBytes, Writes}
 use Rattle.record.specs.Layout.{ledgerOf}
 use Rattle.soundness.specs.Sound.{soundWords}
-use Rattle.soundness.specs.Starting.{startJudged, StartOf, watchJudged, WatchOf}
+use Rattle.starts.specs.Starting.{startJudged, StartOf, watchJudged, WatchOf}
 use Rattle.node.specs.Stepping.{StepOf}
 use Rattle.taking.specs.Taking.{TakeOf}
-use Rattle.trays.specs.Trays.{votesIn, wholeVotes, serve}
+use Rattle.tray_rules.specs.Trays.{votesIn, wholeVotes, serve}
 use Rattle.trays.specs.Lent.{TrayOf}
 use Rattle.writers.specs.Writing.{kindOn, certificateOn, proofOn}
 

@@ -11,10 +11,10 @@ use Rattle.rulebook.specs.PaperNumbers.{startPanel, stepPanel, writePanel, read
 use Rattle.rulebook.specs.Writers as written
 use Rattle.lines.specs.Put.{Put}
 use Rattle.lines.specs.Answers.{numberLine, startLine, stepLine, trayLine, packetLine, messageLine, checkLine}
-use Rattle.soundness.specs.Starting.{startJudged, startAnswer, watchJudged}
+use Rattle.starts.specs.Starting.{startJudged, startAnswer, watchJudged}
 use Rattle.node.specs.Stepping.{stepLeaves}
 use Rattle.taking.specs.Taking.{takeLeaves}
-use Rattle.trays.specs.Trays.{wholeVotes}
+use Rattle.tray_rules.specs.Trays.{wholeVotes}
 use Rattle.trays.specs.Lent.{trayLeaves}
 use Rattle.answers.specs.Face.{Started, Watched, Stepped, Taken, Trayed, Wrote, MessageRead, Checked}
 

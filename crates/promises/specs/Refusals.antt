@@ -14,7 +14,7 @@ use Rattle.rulebook.specs.declared.Vote.{Vote}
 use Rattle.rulebook.specs.declared.WriteAnswer.the-variants as write
 use Rattle.rulebook.specs.Writers.{Writes}
 use Rattle.rulebook.specs.Messages.{writeVote}
-use Rattle.soundness.specs.Starting.{StartOf, WatchOf}
+use Rattle.starts.specs.Starting.{StartOf, WatchOf}
 use Rattle.node.specs.Stepping.{StepOf}
 use Rattle.taking.specs.Taking.{TakeOf}
 use Rattle.trays.specs.Lent.{TrayOf}

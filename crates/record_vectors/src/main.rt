@@ -15,8 +15,8 @@ use rulebook::WriteAnswer;
 use script::read_numbers;
 use slices::copy_words;
 use slices::put_word;
-use soundness::start;
-use soundness::watch;
+use starts::start;
+use starts::watch;
 use writers::write_certificate;
 use writers::write_proof;
 

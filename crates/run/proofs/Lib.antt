@@ -1,4 +1,2 @@
 -- Laws of the search and of the run, as code goes through them.
-pub mod SlotLaws
-pub mod DormantLaws
 pub mod ScanLaws

@@ -21,8 +21,9 @@ use Rattle.voter.specs.Voting.{Live, LiveAt, Onward}
 use Rattle.voter.proofs.OutboxLaws.{made-in}
 use Rattle.voter.proofs.LiveLaws.{votes-on, onward-none, onward-is, onward-then}
 use Rattle.fallbacks.specs.UnderWay.{UnderWay, UnderWayAt, VotingAt}
-use Rattle.run.specs.Idle.{isIdle}
-use Rattle.run.proofs.SlotLaws.{rules-on, rules-off, busy-votes}
+use Rattle.fallbacks.proofs.UnderLaws.{under-carded, under-staked}
+use Rattle.dormancy.specs.Idle.{Looking, isIdle}
+use Rattle.dormancy.proofs.SlotLaws.{rules-on, rules-off, busy-votes}
 
 -- The stakes stay a table.
 pub under-way : {ws out ws' left : List ℕ} {at now : ℕ} {q : State} → Tabled (ledgerOf ws) → Onward ws out at ws' left now q → UnderWay ws' left now
@@ -41,6 +42,10 @@ under-way h a =
 
 pub under-way-at : {ws out : List ℕ} {at s : ℕ} → UnderWay ws out at → 1 ≤ s → s ≤ lastSlot → UnderWayAt ws out at s
 under-way-at v a b = record { live = record { live = v .live; low = a; high = b }; table = v .table }
+
+-- A call that is under way at a slot can look at it.
+pub under-looking : {ws out : List ℕ} {at s : ℕ} → UnderWayAt ws out at s → Looking ws s
+under-looking v = record { carded = under-carded v; staked = under-staked v }
 
 -- A part of the call was run at slot s: it can go on there.
 pub still-under-way : {ws out ws' left : List ℕ} {at now s : ℕ} {q : State} → UnderWayAt ws out at s → Onward ws out at ws' left now q → UnderWayAt ws' left now s

@@ -1,12 +1,12 @@
-// The 17 test, and the starts of a node and of a watcher.
+// The 17 test.
 ghost use mathlib.Core.Path.{_≡_};
 ghost use mathlib.Core.Bool.{_&&_, _||_};
 ghost use Prim.Native.Nat.{suc};
-ghost use lib.ListN.{length, getD};
+ghost use lib.ListN.{getD};
 ghost use lib.Dec.{eqb, ltb};
 ghost use Rattle.rulebook.specs.Tools.{allTo};
 ghost use Rattle.rulebook.specs.Weights.{lastSlot, windows, stakeIn, stakesFit, totalTo};
-ghost use Rattle.rulebook.specs.Ledger.{none, places, blocksAt, allBlocks, fresh};
+ghost use Rattle.rulebook.specs.Ledger.{none, places, blocksAt, allBlocks};
 ghost use Rattle.rulebook.specs.Inputs.{badParent};
 ghost use Rattle.rulebook.specs.WellFormed.{flag, keptFits, blocksFit, backs, ownFits, blockBlank, rowBlank, headFits};
 ghost use Rattle.record.specs.Layout.{Long, InSlot, InBlocks, ledgerOf};
@@ -14,7 +14,6 @@ ghost use Rattle.record.specs.BlockPlaces.{behind};
 ghost use Rattle.kept_audit.specs.Judging.{Judging};
 ghost use Rattle.pool.specs.Weighing.{Carded};
 ghost use Rattle.soundness.specs.Sound.{rowStands, soundWords, Headed, Standing, Backing};
-ghost use Rattle.soundness.specs.Starting.{BegunOf, SetUp, StartOf, WatchOf};
 use audit::card_blank;
 use audit::in_order;
 use audit::votes_fit;
@@ -26,7 +25,6 @@ use record::MOST_BLOCKS;
 use record::WINDOWS;
 use record::armed_word;
 use record::clash_word;
-use record::clear;
 use record::count;
 use record::genesis;
 use record::is_long;
@@ -36,19 +34,13 @@ use record::own;
 use record::own_cell;
 use record::places_for;
 use record::places_in;
-use record::record_words;
-use record::set_head;
-use record::set_stake;
 use record::stake;
 use record::stakes_of;
 use record::timeout_word;
 use record::total;
 use rulebook::Block;
 use rulebook::Node;
-use rulebook::Refusal;
 use rulebook::Slot;
-use rulebook::StartAnswer;
-use rulebook::Weight;
 use stakes::make_table;
 
 // 11: the parent's slot is not below the slot, or it is slot 0 and the parent is not genesis.
@@ -294,48 +286,4 @@ pub fn sound(rec: &[u64]) -> bool
         return false;
     }
     owns_fit(rec)
-}
-
-// A fresh node's words, whatever stood there.
-fn set_up(rec: &mut [u64], stakes: &[u64], total: Weight, own: Node, genesis: u64)
-    requires { ⌜ SetUp (now rec) (now stakes) (total .0) ⌝ }
-    ensures { λ _. ⌜ ledgerOf (now (rec .exit)) ≡ fresh (now (stakes .entry)) (own .0) genesis ⌝ }
-{
-    clear(rec);
-    set_head(rec, stakes.len(), total, own, genesis);
-    for n in 0..stakes.len() {
-        set_stake(rec, Node(n), Weight(stakes[n]));
-    }
-}
-
-// Makes lent words the record of a fresh node, whose own number may be odd: 17 for the length, then 1; a refusal leaves the
-// words.
-fn begin(rec: &mut [u64], stakes: &[u64], own: Node, odd: bool, genesis: u64) -> StartAnswer
-    ensures { λ r. ⌜ BegunOf (now (rec .entry)) (now (stakes .entry)) (own .0) odd genesis r (now (rec .exit)) ⌝ }
-{
-    if rec.len() != record_words(stakes.len()) {
-        return StartAnswer::Refused(Refusal::BadRecord);
-    }
-    let made = make_table(stakes);
-    if !made.fits | (odd | (genesis == 0)) {
-        return StartAnswer::Refused(Refusal::BadSizes);
-    }
-    let table = made.table;
-    let total = table.total;
-    set_up(rec, stakes, total, own, genesis);
-    StartAnswer::Started
-}
-
-// Makes lent words the record of a fresh node.
-pub fn start(rec: &mut [u64], stakes: &[u64], own: Node, genesis: u64) -> StartAnswer
-    ensures { λ r. ⌜ StartOf (now (rec .entry)) (now (stakes .entry)) (own .0) genesis r (now (rec .exit)) ⌝ }
-{
-    begin(rec, stakes, own, stakes.len() <= own.0, genesis)
-}
-
-// Makes lent words the record of a fresh watcher: the number after the last node's stands for no own number.
-pub fn watch(rec: &mut [u64], stakes: &[u64], genesis: u64) -> StartAnswer
-    ensures { λ r. ⌜ WatchOf (now (rec .entry)) (now (stakes .entry)) genesis r (now (rec .exit)) ⌝ }
-{
-    begin(rec, stakes, Node(stakes.len()), false, genesis)
 }

@@ -29,9 +29,9 @@ use Rattle.run.proofs.ScanLaws.{held-long}
 use Rattle.node.specs.Stepping.{spelled}
 use Rattle.node.proofs.SpelledLaws.{outbox-spelled}
 use Rattle.trays.specs.declared.Taken.{Taken}
-use Rattle.trays.specs.Trays.{votesIn, wholeVotes, Served, ahead, serve}
+use Rattle.tray_rules.specs.Trays.{votesIn, wholeVotes, Served, ahead, serve}
 use Rattle.trays.specs.Lent.{Serving, VoteServed, Ready, AllServed}
-use Rattle.trays.proofs.Words.{votes-end, votes-more, ahead-ahead, serve-more}
+use Rattle.tray_rules.proofs.Words.{votes-end, votes-more, ahead-ahead, serve-more}
 
 -- The first i votes are served: what they leave stands in front of what the others will leave.
 pub record Going (ws out votes places ws' out' places' : List ℕ) (made i : ℕ) : Type 0 where

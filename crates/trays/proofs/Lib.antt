@@ -1,6 +1,4 @@
 -- Laws of a tray.
-pub mod Behind
-pub mod Words
 pub mod OneVote
 pub mod AllVotes
 pub mod Ways

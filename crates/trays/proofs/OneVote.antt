@@ -30,7 +30,7 @@ use Rattle.voter.proofs.LiveLaws.{onward-none, onward-is, onward-then}
 use Rattle.fallbacks.specs.UnderWay.{UnderWay}
 use Rattle.run.proofs.ScanLaws.{under-way}
 use Rattle.trays.specs.Lent.{Serving, Taking, onTop, VoteServed}
-use Rattle.trays.proofs.Behind.{behind, run-behind}
+use Rattle.tray_rules.proofs.Behind.{behind, run-behind}
 
 -- The ledger with the vote stored.
 abbrev pub withVote : Ledger → Vote → Ledger

@@ -32,7 +32,7 @@ use Rattle.record.specs.Spelling.{isSpelled}
 use Rattle.soundness.specs.Sound.{soundWords}
 use Rattle.soundness.proofs.Laws.{words-spelled, sound-ledger}
 use Rattle.soundness.proofs.InStep.{spelled-sound}
-use Rattle.trays.specs.Trays.{votesIn, wholeVotes, Served, Tray, ahead, serve, singly, trayRefused, trayServed, tray}
+use Rattle.tray_rules.specs.Trays.{votesIn, wholeVotes, Served, Tray, ahead, serve, singly, trayRefused, trayServed, tray}
 use Rattle.trays.specs.Lent.{Leaves, asFound, asServed, trayLeaves, TrayOf}
 
 -- Any two results that a tray allows are equal: answer, record, outbox and answer buffer.

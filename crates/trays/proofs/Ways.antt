@@ -21,7 +21,7 @@ use Rattle.soundness.specs.Sound.{soundWords}
 use Rattle.soundness.proofs.Laws.{words-spelled, sound-formed}
 use Rattle.node.specs.Stepping.{spelled}
 use Rattle.node.proofs.StepLaws.{and-second}
-use Rattle.trays.specs.Trays.{votesIn, wholeVotes, Tray, serve, trayRefused, trayServed, tray}
+use Rattle.tray_rules.specs.Trays.{votesIn, wholeVotes, Tray, serve, trayRefused, trayServed, tray}
 use Rattle.trays.specs.Lent.{Leaves, asFound, asServed, trayLeaves, TrayOf, AllServed}
 
 second-off : (a b : Bool) → b ≡ false → (a && b) ≡ false

@@ -24,7 +24,7 @@ use Rattle.voter.specs.Outbox.{recordsIn}
 use Rattle.voter.specs.Voting.{Live, Onward}
 use Rattle.node.specs.Stepping.{spelled}
 use Rattle.trays.specs.declared.Taken.{Taken}
-use Rattle.trays.specs.Trays.{Tray, votesIn, wholeVotes, serve, tray}
+use Rattle.tray_rules.specs.Trays.{Tray, votesIn, wholeVotes, serve, tray}
 
 -- What a tray leaves: its answer, the record's words, the outbox's words, the answer buffer's words.
 pub record Leaves : Type 0 where

@@ -1,4 +1,2 @@
--- What a tray of votes does, on the ledger and in lent memory, and cases of it computed.
-pub mod Trays
+-- What a tray of votes does in lent memory.
 pub mod Lent
-pub mod CornersOfTrays

@@ -3,7 +3,7 @@ use mathlib.Core.Path.{_∙_, ap}
 use Prim.Native.Nat.{ℕ}
 use lib.Dec.{ltb}
 use Rattle.rulebook.specs.Tools.{lower, lowest}
-use Rattle.differences.specs.Lines.{blocksOf}
+use Rattle.difference_lines.specs.Lines.{blocksOf}
 use borrow.Author.Needs.{needs}
 use Rattle.differences.proofs.block_above.Statement.{statement}
 use Rattle.differences.proofs.block_above.Tie as tie

@@ -1,6 +1,6 @@
 -- What the vote finds at its place.
 use mathlib.Core.Path.{_∙_, ap, sym}
-use Rattle.differences.specs.Lines.{isSame, keeps}
+use Rattle.difference_lines.specs.Lines.{isSame, keeps}
 use borrow.Author.Needs.{needs}
 use Rattle.differences.proofs.keeps.Statement.{statement}
 use Rattle.differences.proofs.keeps.Tie as tie

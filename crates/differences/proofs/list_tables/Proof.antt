@@ -1,6 +1,6 @@
 -- Room for one line, or 9 with 1.
 use mathlib.Core.Path.{refl}
-use Rattle.differences.specs.Lines.{tablesLine}
+use Rattle.difference_lines.specs.Lines.{tablesLine}
 use mathlib.Core.List.{[], _∷_}
 use Rattle.differences.proofs.ListLaws.{list-cramped, list-whole}
 use borrow.Author.Needs.{needs}

@@ -1,7 +1,7 @@
 -- The loop over the blocks: what is put, and what is left above the last, are all lines.
 use Prim.Native.Nat.{_+_, _-_, _≤_}
 use native.Mathlib.Omega.{arith}
-use Rattle.differences.specs.Lines.{voteAt, keeps, voteLine, blocksOf, blockLines, mostNamed}
+use Rattle.difference_lines.specs.Lines.{voteAt, keeps, voteLine, blocksOf, blockLines, mostNamed}
 use Rattle.differences.proofs.LineLaws.{Going, over-start, over-next, over-early, over-last, line-most, laid-length}
 use borrow.Author.Needs.{needs}
 use Rattle.differences.proofs.put_blocks.Statement.{statement}

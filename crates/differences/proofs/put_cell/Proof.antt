@@ -1,7 +1,7 @@
 -- The five kinds one after the other.
 use native.Mathlib.Omega.{arith}
 use Rattle.rulebook.specs.declared.VoteKind.the-variants as vote
-use Rattle.differences.specs.Lines.{voteAt, keeps, cellLines}
+use Rattle.difference_lines.specs.Lines.{voteAt, keeps, cellLines}
 use Rattle.differences.proofs.LineLaws.{laid-then, block-most, line-most}
 use borrow.Author.Needs.{needs}
 use Rattle.differences.proofs.put_cell.Statement.{statement}

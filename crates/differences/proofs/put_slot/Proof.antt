@@ -3,7 +3,7 @@ use Prim.Native.Nat.{_-_, _≤_}
 use native.Mathlib.Omega.{arith}
 use Rattle.record.specs.Layout.{ledgerOf}
 use Rattle.soundness.proofs.Laws.{sound-long}
-use Rattle.differences.specs.Lines.{cellLines, linesTo, nodeLines, slotLines}
+use Rattle.difference_lines.specs.Lines.{cellLines, linesTo, nodeLines, slotLines}
 use Rattle.differences.specs.Lent.{Laid}
 use Rattle.differences.proofs.LineLaws.{laid-as, laid-length, first-put, next-put, next-last, row-most}
 use Rattle.differences.proofs.TableLaws.{alike-few, alike-here, alike-there}

@@ -5,7 +5,7 @@ use native.Mathlib.Omega.{arith}
 use Prim.Native.Nat.{suc}
 use Rattle.rulebook.specs.Weights.{lastSlot}
 use Rattle.record.specs.Layout.{ledgerOf}
-use Rattle.differences.specs.Lines.{linesTo, slotLines, voteLines}
+use Rattle.difference_lines.specs.Lines.{linesTo, slotLines, voteLines}
 use Rattle.differences.specs.Lent.{Laid}
 use Rattle.differences.proofs.LineLaws.{laid-as, laid-length, first-put, next-put, next-last, slots-most}
 use Rattle.differences.proofs.TableLaws.{alike-few}

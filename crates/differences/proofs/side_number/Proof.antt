@@ -1,5 +1,5 @@
 -- The number of each side.
-use Rattle.differences.specs.Lines.{sideNumber}
+use Rattle.difference_lines.specs.Lines.{sideNumber}
 use borrow.Author.Needs.{needs}
 use Rattle.differences.proofs.side_number.Statement.{statement}
 use Rattle.differences.proofs.side_number.Tie as tie

@@ -3,9 +3,9 @@ use mathlib.Core.Path.{_∙_, sym}
 use Prim.Native.Nat.{ℕ}
 use borrow.Author.Needs.{needs}
 use Rattle.voter.proofs.LiveLaws.{onward-none, onward-is}
-use Rattle.run.proofs.SlotLaws.{only-A}
-use Rattle.run.proofs.DormantLaws.{dormant-quiet, under-looking}
-use Rattle.run.proofs.ScanLaws.{still-under-way, going-start, going-more, going-found, going-last}
+use Rattle.dormancy.proofs.SlotLaws.{only-A}
+use Rattle.dormancy.proofs.DormantLaws.{dormant-quiet}
+use Rattle.run.proofs.ScanLaws.{under-looking, still-under-way, going-start, going-more, going-found, going-last}
 use Rattle.run.proofs.first_in_slot.Statement.{statement}
 use Rattle.run.proofs.first_in_slot.Tie as tie
 

@@ -3,7 +3,7 @@ use mathlib.Core.Path.{_∙_, sym}
 use Prim.Native.Nat.{ℕ}
 use borrow.Author.Needs.{needs}
 use Rattle.voter.proofs.LiveLaws.{onward-none, onward-is}
-use Rattle.run.proofs.SlotLaws.{only-B, only-C, only-D, only-E, idle-quiet}
+use Rattle.dormancy.proofs.SlotLaws.{only-B, only-C, only-D, only-E, idle-quiet}
 use Rattle.run.proofs.ScanLaws.{voting-begins, still-voting, going-start, going-more, going-found, going-last}
 use Rattle.run.proofs.first_of_b_to_e.Statement.{statement}
 use Rattle.run.proofs.first_of_b_to_e.Tie as tie

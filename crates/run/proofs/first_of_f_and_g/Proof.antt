@@ -2,7 +2,7 @@
 use Prim.Native.Nat.{ℕ}
 use borrow.Author.Needs.{needs}
 use Rattle.voter.proofs.LiveLaws.{onward-is}
-use Rattle.run.proofs.SlotLaws.{only-F, only-G}
+use Rattle.dormancy.proofs.SlotLaws.{only-F, only-G}
 use Rattle.run.proofs.ScanLaws.{still-under-way, going-start, going-more, going-found, going-last}
 use Rattle.run.proofs.first_of_f_and_g.Statement.{statement}
 use Rattle.run.proofs.first_of_f_and_g.Tie as tie

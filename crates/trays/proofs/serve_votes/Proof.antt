@@ -3,7 +3,7 @@ use mathlib.Core.Path.{_≡_, refl}
 use Prim.Native.Nat.{_-_}
 use native.Mathlib.Omega.{arith}
 use borrow.Author.Needs.{needs}
-use Rattle.trays.specs.Trays.{wholeVotes}
+use Rattle.tray_rules.specs.Trays.{wholeVotes}
 use Rattle.trays.proofs.AllVotes.{Going, going-start, going-vote, going-more, going-end}
 use Rattle.trays.proofs.serve_votes.Statement.{statement}
 use Rattle.trays.proofs.serve_votes.Tie as tie

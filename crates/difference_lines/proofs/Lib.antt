@@ -1,0 +1,5 @@
+-- The promises of the lines of two ledgers, kept.
+pub mod Ascending
+pub mod Exactly
+pub mod Ordered
+pub mod Theorems

@@ -1,2 +1,0 @@
--- What the contracts of the search cite beside the rule book.
-pub mod Idle

@@ -1,0 +1,2 @@
+-- Laws of start, for the crates that cite them.
+pub mod Starts

@@ -1,0 +1,2 @@
+-- What start does.
+pub mod Starting

@@ -1,0 +1,3 @@
+-- Laws of a tray.
+pub mod Behind
+pub mod Words
