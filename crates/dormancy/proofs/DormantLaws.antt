@@ -8,36 +8,40 @@ use native.Mathlib.Numerals.{add-one}
 use lib.ListN.{length, getD}
 use lib.Dec.{eqb}
 use borrow.Author.Tests.{eqb-true, eqb-false, eq-eqb, ne-eqb, not-true, not-false}
+use Rattle.rulebook.specs.declared.Block.{Block}
 use Rattle.rulebook.specs.declared.Cell.{Cell}
+use Rattle.rulebook.specs.declared.CertificateKind.{CertificateKind}
 use Rattle.rulebook.specs.declared.CertificateKind.the-variants as certificate
 use Rattle.rulebook.specs.declared.Tally.{Tally}
 use Rattle.rulebook.specs.declared.Who.{Who}
 use Rattle.rulebook.specs.declared.Who.the-variants as who
-use Rattle.rulebook.specs.Tools.{someTo, anyOf, lowest}
-use Rattle.rulebook.specs.Weights.{isFirst, stakeIn, reaches}
+use Rattle.rulebook.specs.Tools.{someTo, anyOf, lower, lowest}
+use Rattle.rulebook.specs.Weights.{isFirst, reaches}
 use Rattle.rulebook.specs.Certificates.{Kept}
-use Rattle.rulebook.specs.Ledger.{Ledger, none, noKept, rowAt, cellAt, isArmed, certificatesAt, keptAt, isKept}
+use Rattle.rulebook.specs.Ledger.{Ledger, none, noBlock, noKept, rowAt, cellAt, ownCell, noInitial, isArmed, blocksAt, firstBlock, allBlocks, isFree, hasNumber, certificatesAt, keptAt, isKept}
 use Rattle.rulebook.specs.Pool.{counts, weigh, weighs, signersOf, fifthsOf, reached, placeKind, servesAs, isFor, keptAs, held, named, namesTo, names, keptNames, certifiable, someReady}
-use Rattle.rulebook.specs.Rules.{State, ruleA, ruleF, isNewcomer}
-use Rattle.rulebook.specs.Cards.{leader, recount}
+use Rattle.rulebook.specs.Rules.{State, ruleA, ruleG, isFinal, isNewcomer, findBlock}
+use Rattle.rulebook.specs.Cards.{leader, most, recount}
 use Rattle.rulebook.specs.Run.{firstRule}
-use Rattle.rulebook.proofs.ToolLaws.{and-both, or-cases, or-none, or-left, by-test, true-not-false, some-more, some-at, some-each, some-find}
-use Rattle.rulebook.proofs.WeightLaws.{weight-none, reaches-nothing}
+use Rattle.rulebook.specs.WellFormed.{inOrder, keptFits, blocksApart, blocksFit, eachKept, keptBlank}
+use Rattle.rulebook.proofs.ToolLaws.{choose-off, and-both, both-and, or-cases, or-none, by-test, true-not-false, all-at, some-none, some-more, some-at, some-each, some-find}
+use Rattle.rulebook.proofs.WeightLaws.{weight-none, reaches-nothing, reaches-fewer}
+use Rattle.rulebook.proofs.LowestLaws.{named-off, lower-off, lowest-none, lowest-skip, lowest-take}
+use Rattle.rulebook.proofs.CertificateLaws.{some-place, kept-name}
 use Rattle.pool.specs.Weighing.{namedHolds}
 use Rattle.parents.specs.Naming.{someNamed}
 use Rattle.parents.proofs.AnyLaws.{any-start, any-next, any-end}
 use Rattle.parents.proofs.ReadyLaws.{any-later, none-more, cut-ready}
-use Rattle.rulebook.proofs.LowestLaws.{named-off, lowest-none, lowest-skip}
-use Rattle.rulebook.proofs.CertificateLaws.{some-place}
-use Rattle.recounting.proofs.Using.{newcomer-lead}
-use Rattle.recounting.proofs.Scanning.{weigh-some, leader-voted, leader-none}
+use Rattle.recounting.proofs.Using.{reached-one, reached-two, newcomer-lead}
+use Rattle.recounting.proofs.Scanning.{weigh-some, leader-voted}
 use Rattle.record.specs.Tabled.{Tabled}
 use Rattle.record.proofs.BlockPlaces.{some-first}
+use Rattle.kept_certificates.proofs.ByPlace.{each-places}
 use Rattle.kept_places.proofs.Laws.{skip-serves}
-use Rattle.finality.proofs.FinalLaws.{F-off, G-none}
+use Rattle.finality.proofs.FinalLaws.{F-off, G-halts}
 use Rattle.rules.proofs.RuleLaws.{A-off, A-none}
-use Rattle.dormancy.specs.Idle.{someNode, supports, namesKept, isSupported, seeksParent, isIdle, isNamed, isDormant}
-use Rattle.dormancy.proofs.SlotLaws.{pass, only-A, only-F, only-G, idle-quiet}
+use Rattle.dormancy.specs.Dormant.{someNode, supports, isSupported, seeksParent, isBare, namesKept, leadsAnew, isDormant}
+use Rattle.dormancy.proofs.SlotLaws.{pass, only-A, only-F, only-G, bare-quiet}
 
 -- ---- the nodes, looked at one by one with a test
 
@@ -110,12 +114,35 @@ no-kept-skip l q e =
     true-not-false (isKept (getD qs 2 noKept)) (ap (λ (i : ℕ). isKept (getD qs i noKept)) (sym is) ∙ r .1) e)
     (λ t. t)
 
+-- Where no certificate is kept no place names a block, and the third keeps nothing.
+nothing-kept : (l : Ledger) (q : ℕ) → eachKept (λ i k. keptBlank k) 0 (certificatesAt l q) ≡ true → (namesKept l q ≡ false) × (isKept (keptAt l q 2) ≡ false)
+unfolding namesKept keptBlank
+nothing-kept l q e =
+    let qs = certificatesAt l q in
+    let each : (n : ℕ) → n < length qs → (isKept (getD qs n noKept) ≡ false) × (none (getD qs n noKept .block) ≡ true) =
+    λ n h.
+    let r = and-both (not (isKept (getD qs n noKept))) (none (getD qs n noKept .block)) (all-at (length qs) n (λ j. not (isKept (getD qs j noKept)) && none (getD qs j noKept .block)) (sym (each-places (λ i k. not (isKept k) && none (k .block)) 0 qs) ∙ e) h) in
+    (not-true (isKept (getD qs n noKept)) (r .0), r .1) in (
+      by-test (someTo (length qs) (λ n. not (none (getD qs n noKept .block))))
+          (λ t.
+          let f = some-find (length qs) (λ n. not (none (getD qs n noKept .block))) t in
+          true-not-false (none (getD qs (f .0) noKept .block)) (each (f .0) (f .1) .1) (not-true (none (getD qs (f .0) noKept .block)) (f .2)))
+          (λ t. t),
+      third qs (each 2),
+    )
+  where
+    third : (qs : List Kept) → (2 < length qs → (isKept (getD qs 2 noKept) ≡ false) × (none (getD qs 2 noKept .block) ≡ true)) → isKept (getD qs 2 noKept) ≡ false
+    third [] f = refl
+    third (a ∷ []) f = refl
+    third (a ∷ b ∷ []) f = refl
+    third (a ∷ b ∷ c ∷ qs) f = f (omega arith) .0
+
 module _ (l : Ledger) (q : ℕ) (some : 1 ≤ l .total) (e : isSupported l q ≡ false) where
   nothing : (namesKept l q ≡ false) × (isKept (keptAt l q 2) ≡ false) × (someNode l q supports ≡ false)
   unfolding isSupported
   nothing =
-      let h = or-none (namesKept l q || isKept (keptAt l q 2)) (someNode l q supports) e in
-      let g = or-none (namesKept l q) (isKept (keptAt l q 2)) (h .0) in
+      let h = or-none (not (eachKept (λ i k. keptBlank k) 0 (certificatesAt l q))) (someNode l q supports) e in
+      let g = nothing-kept l q (not-false (eachKept (λ i k. keptBlank k) 0 (certificatesAt l q)) (h .0)) in
       (g .0, g .1, h .1)
 
   bare : (p : ℕ → Bool) (i : ℕ) → i < l .count → (someNamed p (cellAt l q i) ≡ false) × (counts who.SkipOrFallback (cellAt l q i) ≡ false)
@@ -148,18 +175,76 @@ module _ (l : Ledger) (q : ℕ) (some : 1 ≤ l .total) (e : isSupported l q ≡
       (none-more l s q (omega arith) (λ i a b. absurd (omega arith)) (any-later l q low ∙ no-blocks (held l certificate.NotarFallback q)) (λ i a b. absurd (omega arith)))
       no-skip
 
--- ---- a slot without a notar vote has no leader; where no kept certificate names a block either, there is no newcomer
+-- ---- where no kept certificate names a block, and the leader is the slot's final block or has less than 60, there is no newcomer
 
-nobody-new : (l : Ledger) (s : ℕ) → Tabled l → isNamed l s ≡ false → lowest (isNewcomer l s) (certifiable l s) ≡ 0
-unfolding isNamed someNode namesKept
-nobody-new l s k e =
-    let p = isNewcomer l s in
-    let qs = certificatesAt l s in
-    let h = or-none (someNode l s (counts who.AnyNotar)) (namesKept l s) e in
-    by-test (eqb (leader l s) 0)
-    (λ t.
-    newcomer-lead l s (k .sum) (k .some) ∙ ap (lowest p) (kept-nameless qs (named (leader l s) []) (h .1)) ∙ lowest-skip (leader l s) [] p (eqb-true (leader l s) 0 t) ∙ lowest-none p)
-    (λ t. true-not-false (someTo (l .count) (λ n. counts who.AnyNotar (cellAt l s n))) (leader-voted l s (k .sum) (k .some) (eqb-false (leader l s) 0 t)) (h .0))
+module _ (l : Ledger) (s : ℕ) (k : Tabled l) (nameless : namesKept l s ≡ false) where
+  -- no kept certificate serves for a block
+  unserved : (c : CertificateKind) (b : ℕ) → (b ≡ 0 → ⊥) → keptAs l c s b ≡ false
+  unfolding keptAs isFor namesKept anyOf
+  unserved c b ne =
+      let qs = certificatesAt l s in
+      by-test (keptAs l c s b)
+      (λ t.
+      let r = some-place (λ i q. servesAs (placeKind i) c && eqb (q .block) b) 0 qs t in
+      let named = kept-name qs [] (r .0) b (eqb-true (getD qs (r .0) noKept .block) b (and-both (servesAs (placeKind (0 + r .0)) c) (eqb (getD qs (r .0) noKept .block) b) (r .2) .1)) (ne-eqb b 0 ne) in
+      true-not-false (anyOf (eqb b) (keptNames qs [])) named (ap (anyOf (eqb b)) (kept-nameless qs [] nameless)))
+      (λ t. t)
+
+  -- a block that is final reaches 60 as the leader
+  final-reaches : (b : ℕ) → 1 ≤ b → isFinal l s b ≡ true → reaches 3 (l .total) (most l s) ≡ true
+  unfolding isFinal held
+  final-reaches b h e =
+      let ne : b ≡ 0 → ⊥ = λ z. omega arith in
+      or-cases (reached l certificate.FastFinal s b || keptAs l certificate.FastFinal s b) _ e
+      (λ t.
+      or-cases (reached l certificate.FastFinal s b) (keptAs l certificate.FastFinal s b) t
+      (λ u. reaches-fewer 3 4 (l .total) (most l s) (omega arith) (and-both (eqb (leader l s) b) _ (sym (reached-one l s (k .sum) (k .some) b h) ∙ u) .1))
+      (λ u. true-not-false (keptAs l certificate.FastFinal s b) u (unserved certificate.FastFinal b ne)))
+      (λ t.
+      or-cases (reached l certificate.Notar s b) (keptAs l certificate.Notar s b) (and-both (reached l certificate.Notar s b || keptAs l certificate.Notar s b) _ t .0)
+      (λ u. and-both (eqb (leader l s) b) _ (sym (reached-two l s (k .sum) (k .some) b h) ∙ u) .1)
+      (λ u. true-not-false (keptAs l certificate.Notar s b) u (unserved certificate.Notar b ne)))
+
+  nobody-new : leadsAnew l s ≡ false → lowest (isNewcomer l s) (certifiable l s) ≡ 0
+  unfolding leadsAnew isNewcomer namesKept
+  nobody-new e =
+      let p : ℕ → Bool = λ b. isFinal l s b && not (eqb b (rowAt l s .final)) in
+      let m = leader l s in
+      let few : lowest p (certifiable l s) ≡ lowest p (named m []) = newcomer-lead l s (k .sum) (k .some) ∙ ap (lowest p) (kept-nameless (certificatesAt l s) (named m []) nameless) in
+      by-test (eqb m 0) (λ t. few ∙ lowest-skip m [] p (eqb-true m 0 t) ∙ lowest-none p)
+      (λ t.
+      let ne = eqb-false m 0 t in
+      by-test (p m)
+      (λ u.
+      let h = and-both (isFinal l s m) (not (eqb m (rowAt l s .final))) u in
+      true-not-false (not (eqb m (rowAt l s .final)) && reaches 3 (l .total) (most l s))
+      (both-and (not (eqb m (rowAt l s .final))) (reaches 3 (l .total) (most l s)) (h .1) (final-reaches m (positive m ne) (h .0))) e)
+      (λ u. few ∙ lowest-take m [] p ne ∙ ap (λ (x : Bool). lower x m (lowest p [])) u ∙ lower-off m (lowest p []) ∙ lowest-none p))
+    where
+      positive : (x : ℕ) → (x ≡ 0 → ⊥) → 1 ≤ x
+      positive zero f = absurd (f refl)
+      positive (suc x) f = omega arith
+
+-- ---- where the first place for a block is empty, all are, since they are filled from the front: the walk finds no block
+
+behind-free : (y : ℕ) → inOrder 0 y ≡ true → none y ≡ true
+unfolding inOrder
+behind-free y e = or-cases (none y) false e (λ t. t) (λ t. true-not-false false t refl)
+
+find-behind : (b : ℕ) (ks : List Block) → allBlocks (λ j. inOrder 0 (j .number)) ks ≡ true → findBlock b ks ≡ noBlock
+unfolding allBlocks findBlock
+find-behind b [] e = refl
+find-behind b (j ∷ js) e =
+    let h = and-both (inOrder 0 (j .number)) (allBlocks (λ i. inOrder 0 (i .number)) js) e in
+    choose-off (not (isFree j) && hasNumber b j) j (findBlock b js) (ap (λ (x : Bool). not x && hasNumber b j) (behind-free (j .number) (h .0))) ∙ find-behind b js (h .1)
+
+find-none : (b : ℕ) (ks : List Block) → blocksApart ks ≡ true → none (getD ks 0 noBlock .number) ≡ true → findBlock b ks ≡ noBlock
+unfolding blocksApart findBlock
+find-none b [] e f = refl
+find-none b (j ∷ js) e f =
+    let h = and-both (allBlocks (λ i. inOrder (j .number) (i .number)) js) (blocksApart js) e in
+    choose-off (not (isFree j) && hasNumber b j) j (findBlock b js) (ap (λ (x : Bool). not x && hasNumber b j) f)
+    ∙ find-behind b js (ap (λ (x : ℕ). allBlocks (λ i. inOrder x (i .number)) js) (sym (eqb-true (j .number) 0 f)) ∙ h .0)
 
 -- ---- what the card tells of a slot's votes
 
@@ -167,13 +252,6 @@ module _ (l : Ledger) (s : ℕ) (k : Tabled l) (t : Tally) (card : t ≡ recount
   leader-is : t .leader ≡ leader l s
   unfolding recount
   leader-is = ap (λ (x : Tally). x .leader) card
-
-  pub votes-by-card : ((n : ℕ) → n < l .count → 1 ≤ stakeIn (l .stakes) n) → not (eqb (t .leader) 0) ≡ someNode l s (counts who.AnyNotar)
-  unfolding someNode
-  votes-by-card staked =
-      by-test (eqb (t .leader) 0)
-      (λ e. ap not e ∙ sym (leader-none l s (k .sum) (k .some) staked (sym leader-is ∙ eqb-true (t .leader) 0 e)))
-      (λ e. ap not e ∙ sym (leader-voted l s (k .sum) (k .some) (λ z. eqb-false (t .leader) 0 e (leader-is ∙ z))))
 
   -- a vote that counts so is one of support
   by-votes : (w : Who) → ((c : Cell) → counts w c ≡ true → supports c ≡ true) → someTo (l .count) (λ n. counts w (cellAt l s n)) ≡ true → true ≡ someNode l s supports
@@ -202,35 +280,42 @@ module _ (l : Ledger) (s : ℕ) (k : Tabled l) (t : Tally) (card : t ≡ recount
       let q : t .skipcert .0 ≡ weigh l s who.SkipOrFallback = ap (λ (x : Tally). x .skipcert .0) card in
       by-votes who.SkipOrFallback skip-supports (weigh-some l s who.SkipOrFallback (omega (arith, q, eqb-false (t .skipcert .0) 0 (not-true (eqb (t .skipcert .0) 0) u)))))
 
--- ---- the places for certificates, looked at one by one, and what the look at them tells
+  -- the leader is not the slot's final block, and what it has is asked of the card
+  pub leads-final : (f : ℕ) → f ≡ rowAt l s .final → t .leader ≡ f → false ≡ leadsAnew l s
+  unfolding leadsAnew
+  leads-final f e z = sym (ap (λ (x : Bool). not x && reaches 3 (l .total) (most l s)) (eq-eqb (leader l s) (rowAt l s .final) (sym leader-is ∙ z ∙ e)))
+
+  pub leads-other : (f : ℕ) (x : Bool) → f ≡ rowAt l s .final → (t .leader ≡ f → ⊥) → x ≡ reaches 3 (l .total) (most l s) → x ≡ leadsAnew l s
+  unfolding leadsAnew
+  leads-other f x e ne h =
+      h ∙ sym (ap (λ (y : Bool). not y && reaches 3 (l .total) (most l s)) (ne-eqb (leader l s) (rowAt l s .final) (λ z. ne (leader-is ∙ z ∙ sym e))))
+
+-- ---- what the look at a slot before a window tells
+
+module _ (l : Ledger) (s : ℕ) (a : Bool) (none : a ≡ eachKept (λ i q. keptBlank q) 0 (certificatesAt l s)) where
+  pub supported-kept : a ≡ false → true ≡ isSupported l s
+  unfolding isSupported
+  supported-kept e = λ k. not ((sym e ∙ none) k) || someNode l s supports
+
+  pub supported-voted : (x : Bool) → a ≡ true → x ≡ someNode l s supports → x ≡ isSupported l s
+  unfolding isSupported
+  supported-voted x e h = h ∙ (λ k. not ((sym e ∙ none) k) || someNode l s supports)
+
+-- ---- the places for certificates, looked at one by one
+
+abbrev pub namedTo : Ledger → ℕ → ℕ → Bool
+namedTo l s n = someTo n (λ i. not (none (keptAt l s i .block)))
 
 module _ (l : Ledger) (s : ℕ) where
-  abbrev pub namedTo : ℕ → Bool
-  namedTo n = someTo n (λ i. not (none (keptAt l s i .block)))
+  pub named-start : false ≡ namedTo l s 0
+  named-start = sym (some-none (λ i. not (none (keptAt l s i .block))))
 
-  pub named-start : namedTo 0 ≡ false
-  unfolding someTo
-  named-start = refl
+  pub named-more : (n b : ℕ) (x : Bool) → b ≡ keptAt l s n .block → x ≡ namedTo l s n → (x || not (eqb b 0)) ≡ namedTo l s (n + 1)
+  named-more n b x e h = (λ k. h k || not (none (e k))) ∙ sym (some-more n (λ i. not (none (keptAt l s i .block))))
 
-  pub named-more : (n b : ℕ) → b ≡ keptAt l s n .block → b ≡ 0 → namedTo n ≡ false → namedTo (n + 1) ≡ false
-  named-more n b e z h = some-more n (λ i. not (none (keptAt l s i .block))) ∙ (λ k. h k || not ((ap none (sym e) ∙ eq-eqb b 0 z) k))
-
-  pub named-found : (n b : ℕ) → n < length (certificatesAt l s) → b ≡ keptAt l s n .block → (b ≡ 0 → ⊥) → true ≡ namesKept l s
+  pub named-end : (n : ℕ) (x : Bool) → n ≡ length (certificatesAt l s) → x ≡ namedTo l s n → x ≡ namesKept l s
   unfolding namesKept
-  named-found n b h e z = sym (some-at (length (certificatesAt l s)) n (λ i. not (none (keptAt l s i .block))) h (ap not (ap none (sym e) ∙ ne-eqb b 0 z)))
-
-  pub named-end : (n : ℕ) → n ≡ length (certificatesAt l s) → namedTo n ≡ false → false ≡ namesKept l s
-  unfolding namesKept
-  named-end n e h = sym h ∙ ap (λ (k : ℕ). namedTo k) e
-
-  module _ (a b : Bool) (named : a ≡ namesKept l s) (skip : b ≡ isKept (keptAt l s 2)) where
-    pub supported-kept : (a || b) ≡ true → true ≡ isSupported l s
-    unfolding isSupported
-    supported-kept e = sym (or-left (namesKept l s || isKept (keptAt l s 2)) (someNode l s supports) ((λ k. sym named k || sym skip k) ∙ e))
-
-    pub supported-voted : (x : Bool) → (a || b) ≡ false → x ≡ someNode l s supports → x ≡ isSupported l s
-    unfolding isSupported
-    supported-voted x e h = h ∙ ap (λ (y : Bool). y || someNode l s supports) (sym ((λ k. sym named k || sym skip k) ∙ e))
+  named-end n x e h = h ∙ ap (λ (k : ℕ). namedTo l s k) e
 
 -- ---- no rule applies in a dormant slot
 
@@ -247,26 +332,26 @@ module _ (o : State) (s : ℕ) (low : 1 ≤ s) (k : Tabled (o .ledger)) where
       A-none o s t (unsupported (o .ledger) (s - 1) (k .some) (h .1) s (omega (arith, eqb-false s 1 (h .0))) (omega arith)))
       (A-off o s)
 
-  abbrev untold : Bool
-  untold = none (rowAt (o .ledger) s .final)
+  module _ (fits : blocksFit (o .ledger) s (blocksAt (o .ledger) s) ≡ true) where
+    no-walk : none (firstBlock (o .ledger) s .number) ≡ true → ruleG o s ≡ o
+    unfolding blocksFit
+    no-walk e =
+        let bs = blocksAt (o .ledger) s in
+        G-halts o s low noBlock (sym (find-none (rowAt (o .ledger) s .final) bs (and-both (allBlocks (keptFits (o .ledger) s) bs) (blocksApart bs) fits .1) e)) refl
 
-  abbrev unnamed : Bool
-  unnamed = not (isNamed (o .ledger) s)
-
-  nothing-new : unnamed ≡ true → ruleF o s ≡ o
-  nothing-new h = F-off o s (eq-eqb _ 0 (nobody-new (o .ledger) s k (not-true (isNamed (o .ledger) s) h)))
-
-  pub dormant-quiet : isDormant (o .ledger) s ≡ true → firstRule 7 0 o s ≡ o
-  unfolding isDormant
-  dormant-quiet e =
-      let h = and-both (not (seeksParent (o .ledger) s)) (isIdle (o .ledger) s && (untold && unnamed)) e in
-      let i = and-both (isIdle (o .ledger) s) (untold && unnamed) (h .1) in
-      let f = and-both untold unnamed (i .1) in
-      pass o s 1 6 0 (sym (only-A o s) ∙ parentless (not-true (seeksParent (o .ledger) s) (h .0)))
-      ∙ pass o s 4 2 1 (idle-quiet o s (i .0))
-      ∙ pass o s 1 1 5 (sym (only-F o s) ∙ nothing-new (f .1))
-      ∙ sym (only-G o s)
-      ∙ G-none o s low (eqb-true (rowAt (o .ledger) s .final) 0 (f .0))
+    pub dormant-quiet : isDormant (o .ledger) s ≡ true → firstRule 7 0 o s ≡ o
+    unfolding isDormant isBare
+    dormant-quiet e =
+        let l = o .ledger in
+        let h = and-both (not (seeksParent l s)) ((not (namesKept l s) && isBare l s) && not (leadsAnew l s)) e in
+        let i = and-both (not (namesKept l s) && isBare l s) (not (leadsAnew l s)) (h .1) in
+        let f = and-both (not (namesKept l s)) (isBare l s) (i .0) in
+        let none-new = nobody-new l s k (not-true (namesKept l s) (f .0)) (not-true (leadsAnew l s) (i .1)) in
+        pass o s 1 6 0 (sym (only-A o s) ∙ parentless (not-true (seeksParent l s) (h .0)))
+        ∙ pass o s 4 2 1 (bare-quiet o s (f .1))
+        ∙ pass o s 1 1 5 (sym (only-F o s) ∙ F-off o s (eq-eqb _ 0 none-new))
+        ∙ sym (only-G o s)
+        ∙ no-walk (and-both (noInitial (ownCell l s)) (none (firstBlock l s .number)) (f .1) .1)
 
 -- ---- the look at a slot, as code goes through it
 
@@ -283,35 +368,37 @@ module _ (l : Ledger) (s : ℕ) (a : Bool) (arms : a ≡ (isFirst s && not (isAr
   unfolding seeksParent
   seeks-support e ne x h = h ∙ (λ k. (sym e ∙ arms) k && (sym (ne-eqb s 1 ne) k || isSupported l (s - 1)))
 
--- Something for A, or not idle: not dormant. Else the part of F and G decides.
-look-off : (a i f : Bool) → (a || not i) ≡ true → (not a && (i && f)) ≡ false
-look-off true i f e = refl
-look-off false true f e = true-not-false true refl (sym e)
-look-off false false f e = refl
+-- Something for A: not dormant. Else a kept name or something of the own: not dormant. Else the leader decides.
+module _ (l : Ledger) (s : ℕ) (a : Bool) (seeks : a ≡ seeksParent l s) where
+  abbrev rest : Bool
+  rest = (not (namesKept l s) && isBare l s) && not (leadsAnew l s)
 
-look-on : (a i f : Bool) → (a || not i) ≡ false → (not a && (i && f)) ≡ f
-look-on true i f e = true-not-false true refl e
-look-on false true f e = refl
-look-on false false f e = true-not-false true refl e
-
-module _ (l : Ledger) (s : ℕ) (a i : Bool) (seeks : a ≡ seeksParent l s) (idle : i ≡ isIdle l s) where
-  abbrev forF : Bool
-  forF = none (rowAt l s .final) && not (isNamed l s)
-
-  looked : (not a && (i && forF)) ≡ isDormant l s
+  looked : (not a && rest) ≡ isDormant l s
   unfolding isDormant
-  looked = λ k. not (seeks k) && (idle k && forF)
+  looked = λ k. not (seeks k) && rest
 
-  pub look-awake : (a || not i) ≡ true → false ≡ isDormant l s
-  look-awake e = sym (look-off a i forF e) ∙ looked
+  pub look-seeks : a ≡ true → false ≡ isDormant l s
+  look-seeks e = ap (λ (x : Bool). not x && rest) (sym e) ∙ looked
 
-  module _ (e : (a || not i) ≡ false) (f : ℕ) (final : f ≡ rowAt l s .final) where
-    settled : (x : Bool) → none f ≡ x → (x && not (isNamed l s)) ≡ isDormant l s
-    settled x t = (λ k. (sym t ∙ ap none final) k && not (isNamed l s)) ∙ sym (look-on a i forF e) ∙ looked
+  module _ (e : a ≡ false) (n b : Bool) (named : n ≡ namesKept l s) (bare : b ≡ isBare l s) where
+    passed : rest ≡ isDormant l s
+    passed = ap (λ (x : Bool). not x && rest) (sym e) ∙ looked
 
-    pub look-told : (f ≡ 0 → ⊥) → false ≡ isDormant l s
-    look-told ne = settled false (ne-eqb f 0 ne)
+    parts : ((not n && b) && not (leadsAnew l s)) ≡ rest
+    parts = λ k. (not (named k) && bare k) && not (leadsAnew l s)
 
-    pub look-named : f ≡ 0 → (x y : Bool) → x ≡ someNode l s (counts who.AnyNotar) → y ≡ namesKept l s → not (x || y) ≡ isDormant l s
-    unfolding isNamed
-    look-named z x y h g = (λ k. not (h k || g k)) ∙ settled true (eq-eqb f 0 z)
+    pub look-busy : (n || not b) ≡ true → false ≡ isDormant l s
+    look-busy t = ap (λ (x : Bool). x && not (leadsAnew l s)) (busy n b t) ∙ parts ∙ passed
+      where
+        busy : (x y : Bool) → (x || not y) ≡ true → false ≡ (not x && y)
+        busy true y u = refl
+        busy false true u = u
+        busy false false u = refl
+
+    pub look-led : (x : Bool) → (n || not b) ≡ false → x ≡ leadsAnew l s → not x ≡ isDormant l s
+    look-led x t h = ap not h ∙ ap (λ (y : Bool). y && not (leadsAnew l s)) (free n b t) ∙ parts ∙ passed
+      where
+        free : (y z : Bool) → (y || not z) ≡ false → true ≡ (not y && z)
+        free true z u = u
+        free false true u = refl
+        free false false u = u

@@ -1,3 +1,3 @@
--- Laws of the rules tried in one slot, of idle and of dormant ones.
+-- Laws of the rules tried in one slot, of bare and of dormant ones.
 pub mod SlotLaws
 pub mod DormantLaws

@@ -1,16 +1,16 @@
--- The first rule that applies in one slot: rules tried in two parts, and an idle slot. Assumes nothing.
+-- The first rule that applies in one slot: rules tried in two parts, and a bare slot. Assumes nothing.
 use mathlib.Core.Path.{_≡_, refl, sym, ap, _∙_}
-use mathlib.Core.Bool.{Bool, true, false, _&&_, _||_}
+use mathlib.Core.Bool.{Bool, true, false}
 use Prim.Native.Nat.{ℕ, zero, suc, _+_, _≤_}
 use native.Mathlib.Omega.{arith}
 use native.Mathlib.Numerals.{add-one}
-use Rattle.rulebook.specs.Ledger.{Ledger, none, firstBlock, isWatcher, ownCell, noInitial}
+use Rattle.rulebook.specs.Ledger.{none, firstBlock, isWatcher, ownCell, noInitial}
 use Rattle.rulebook.specs.Rules.{State, ruleA, ruleB, ruleC, ruleD, ruleE, ruleF, ruleG}
 use Rattle.rulebook.specs.Run.{made, quiet, ruleAt, firstRule}
-use Rattle.rulebook.proofs.ToolLaws.{given-off, by-test, and-both, or-none}
+use Rattle.rulebook.proofs.ToolLaws.{given-off, by-test, and-both}
 use Rattle.rulebook.proofs.RuleLaws.{C-needs-vote, D-needs-vote, E-needs-vote}
 use Rattle.settling.proofs.RunLaws.{quiet-true, quiet-false, rule-step, rule-stop, rule-end, passed-over, rule-A, rule-B, rule-C, rule-D, rule-E, rule-F, rule-G}
-use Rattle.dormancy.specs.Idle.{isIdle}
+use Rattle.dormancy.specs.Dormant.{isBare}
 
 -- ---- k rules and then n more
 
@@ -60,7 +60,7 @@ rules-off (suc k) n r o s e =
     (λ ne. rule-stop o p s r (suc k + n) (k + n) more refl ne ∙ sym (rule-stop o p s r (suc k) k (sym (add-one k)) refl ne))
 
 -- One rule alone gives what it gives.
-one-rule : (r : ℕ) (o : State) (s : ℕ) → firstRule 1 r o s ≡ ruleAt r o s
+pub one-rule : (r : ℕ) (o : State) (s : ℕ) → firstRule 1 r o s ≡ ruleAt r o s
 one-rule r o s =
     let p : State = ruleAt r o s in
     by-record o p (λ q. rule-step o p s r 1 0 refl refl q ∙ rule-end p s (r + 1) 0 refl) (λ ne. rule-stop o p s r 1 0 refl refl ne)
@@ -87,7 +87,7 @@ module _ (o : State) (s : ℕ) where
   pub only-G : ruleG o s ≡ firstRule 1 6 o s
   only-G = sym (one-rule 6 o s ∙ rule-G o s)
 
--- ---- an idle slot
+-- ---- a bare slot
 
 module _ (o : State) (s : ℕ) where
   -- A watcher passes over rules B to E.
@@ -105,8 +105,8 @@ module _ (o : State) (s : ℕ) where
     B-needs-block = given-off _ _ _ (rw (vote, block))
 
     -- Neither an own initial vote nor a kept block.
-    bare-quiet : firstRule 4 1 o s ≡ o
-    bare-quiet =
+    voting-quiet : firstRule 4 1 o s ≡ o
+    voting-quiet =
         pass o s 1 3 1 (sym (only-B o s v) ∙ B-needs-block)
         ∙ pass o s 1 2 2 (sym (only-C o s v) ∙ C-needs-vote o s vote)
         ∙ pass o s 1 1 3 (sym (only-D o s v) ∙ D-needs-vote o s vote)
@@ -114,15 +114,8 @@ module _ (o : State) (s : ℕ) where
         ∙ E-needs-vote o s vote
 
   -- None of rules B to E applies.
-  pub idle-quiet : isIdle (o .ledger) s ≡ true → firstRule 4 1 o s ≡ o
-  unfolding isIdle
-  idle-quiet e =
-      by-test (isWatcher (o .ledger)) watching-quiet
-      (λ v.
-      let h = and-both (noInitial (ownCell (o .ledger) s)) (none (firstBlock (o .ledger) s .number)) ((λ i. sym v i || (noInitial (ownCell (o .ledger) s) && none (firstBlock (o .ledger) s .number))) ∙ e) in
-      bare-quiet v (h .0) (h .1))
-
--- Where something is left for B to E the node is no watcher.
-pub busy-votes : (l : Ledger) (s : ℕ) → isIdle l s ≡ false → isWatcher l ≡ false
-unfolding isIdle
-busy-votes l s e = or-none (isWatcher l) (noInitial (ownCell l s) && none (firstBlock l s .number)) e .0
+  pub bare-quiet : isBare (o .ledger) s ≡ true → firstRule 4 1 o s ≡ o
+  unfolding isBare
+  bare-quiet e =
+      let h = and-both (noInitial (ownCell (o .ledger) s)) (none (firstBlock (o .ledger) s .number)) e in
+      by-test (isWatcher (o .ledger)) watching-quiet (λ v. voting-quiet v (h .0) (h .1))

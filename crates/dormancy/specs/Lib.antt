@@ -1,2 +1,2 @@
 -- What the contracts of the look at a slot cite beside the rule book.
-pub mod Idle
+pub mod Dormant

@@ -1,16 +1,14 @@
 // Whether a look that weighs nothing shows that no rule applies in a slot.
 ghost use mathlib.Core.Path.{_≡_};
-ghost use Rattle.rulebook.specs.declared.Who.the-variants as who;
-ghost use Rattle.rulebook.specs.Pool.{counts};
 ghost use Rattle.record.specs.Layout.{InSlot, ledgerOf};
 ghost use Rattle.pool.specs.Weighing.{Carded};
-ghost use Rattle.dormancy.specs.Idle.{Looking, someNode, supports, namesKept, isSupported, seeksParent, isIdle, isDormant};
+ghost use Rattle.dormancy.specs.Dormant.{someNode, supports, isSupported, seeksParent, isBare, namesKept, leadsAnew, isDormant};
 use kept_certificates::block_at;
-use kept_certificates::is_kept;
+use kept_certificates::nothing_kept;
+use parents::leader_held;
 use record::MOST_CERTIFICATES;
 use record::count;
 use record::final_block;
-use record::is_watcher;
 use record::load_block;
 use record::load_card;
 use record::load_cell;
@@ -20,26 +18,6 @@ use rulebook::Node;
 use rulebook::Slot;
 use rules::may_arm;
 use voter::no_initial;
-
-// Whether rules B to E have nothing to do in a slot: a watcher runs none of them, and each asks for a kept block or an own
-// initial vote.
-pub fn is_idle(rec: &[u64], s: Slot) -> bool
-    requires { ⌜ InSlot (now rec) (s .0) ⌝ }
-    ensures { λ r. ⌜ r ≡ isIdle (ledgerOf (now (rec .entry))) (s .0) ⌝ }
-{
-    let b = load_block(rec, s, 0);
-    let bare = no_initial(own_cell(rec, s)) & (b.number == 0);
-    is_watcher(rec) | bare
-}
-
-// Whether a node has a notar vote in a slot: then one of the blocks leads.
-fn has_notar(rec: &[u64], s: Slot) -> bool
-    requires { ⌜ Looking (now rec) (s .0) ⌝ }
-    ensures { λ r. ⌜ r ≡ someNode (ledgerOf (now (rec .entry))) (s .0) (counts who.AnyNotar) ⌝ }
-{
-    let card = load_card(rec, s);
-    card.leader != 0
-}
 
 // Whether a cell has a vote that helps to make a parent ready: every vote but a final.
 fn supports(c: Cell) -> bool
@@ -70,28 +48,12 @@ fn votes_support(rec: &[u64], s: Slot) -> bool
     false
 }
 
-// Whether a kept certificate of a slot names a block.
-fn names_kept(rec: &[u64], s: Slot) -> bool
-    requires { ⌜ InSlot (now rec) (s .0) ⌝ }
-    ensures { λ r. ⌜ r ≡ namesKept (ledgerOf (now (rec .entry))) (s .0) ⌝ }
-{
-    for n in 0..MOST_CERTIFICATES {
-        let b = block_at(rec, s, n);
-        if b != 0 {
-            return true;
-        }
-    }
-    false
-}
-
-// Whether a slot may make a parent ready: by a block that a kept certificate names, by a kept one of kind 4, which stands in the
-// third place, or by votes.
+// Whether a slot may make a parent ready: by a kept certificate, or by votes.
 fn has_support(rec: &[u64], s: Slot) -> bool
     requires { ⌜ Carded (now rec) (s .0) ⌝ }
     ensures { λ r. ⌜ r ≡ isSupported (ledgerOf (now (rec .entry))) (s .0) ⌝ }
 {
-    let kept = names_kept(rec, s) | is_kept(rec, s, 2);
-    if kept {
+    if !nothing_kept(rec, s) {
         return true;
     }
     votes_support(rec, s)
@@ -111,16 +73,51 @@ fn seeks_parent(rec: &[u64], s: Slot) -> bool
     has_support(rec, Slot(s.0 - 1))
 }
 
+// Whether a slot has no own initial vote and keeps no block: places are filled from the front.
+fn is_bare(rec: &[u64], s: Slot) -> bool
+    requires { ⌜ InSlot (now rec) (s .0) ⌝ }
+    ensures { λ r. ⌜ r ≡ isBare (ledgerOf (now (rec .entry))) (s .0) ⌝ }
+{
+    let b = load_block(rec, s, 0);
+    no_initial(own_cell(rec, s)) & (b.number == 0)
+}
+
+// Whether a kept certificate of a slot names a block: all places are asked, with no branch between them.
+fn names_kept(rec: &[u64], s: Slot) -> bool
+    requires { ⌜ InSlot (now rec) (s .0) ⌝ }
+    ensures { λ r. ⌜ r ≡ namesKept (ledgerOf (now (rec .entry))) (s .0) ⌝ }
+{
+    let mut named = false;
+    for n in 0..MOST_CERTIFICATES {
+        let b = block_at(rec, s, n);
+        named = named | (b != 0);
+    }
+    named
+}
+
+// Whether votes may make another block final than the slot's final one: the leader is another and reaches 60.
+fn leads_anew(rec: &[u64], s: Slot) -> bool
+    requires { ⌜ Carded (now rec) (s .0) ⌝ }
+    ensures { λ r. ⌜ r ≡ leadsAnew (ledgerOf (now (rec .entry))) (s .0) ⌝ }
+{
+    let card = load_card(rec, s);
+    if card.leader == final_block(rec, s) {
+        return false;
+    }
+    leader_held(rec, s)
+}
+
 // Whether a look that weighs nothing shows that no rule applies in a slot.
 pub fn is_dormant(rec: &[u64], s: Slot) -> bool
-    requires { ⌜ Looking (now rec) (s .0) ⌝ }
+    requires { ⌜ Carded (now rec) (s .0) ⌝ }
     ensures { λ r. ⌜ r ≡ isDormant (ledgerOf (now (rec .entry))) (s .0) ⌝ }
 {
-    if seeks_parent(rec, s) | !is_idle(rec, s) {
+    if seeks_parent(rec, s) {
         return false;
     }
-    if final_block(rec, s) != 0 {
+    let named = names_kept(rec, s);
+    if named | !is_bare(rec, s) {
         return false;
     }
-    !(has_notar(rec, s) | names_kept(rec, s))
+    !leads_anew(rec, s)
 }

@@ -1,8 +1,7 @@
--- What a call that is under way at a slot knows of its record: cards, initial votes and stakes. Assumes nothing.
+-- What a call that is under way at a slot knows of its record: cards and initial votes. Assumes nothing.
 use mathlib.Core.List.{List}
-use Prim.Native.Nat.{ℕ, _≤_, _<_}
+use Prim.Native.Nat.{ℕ}
 use native.Mathlib.Omega.{arith}
-use Rattle.rulebook.specs.Weights.{stakeIn}
 use Rattle.rulebook.specs.Ledger.{cellAt}
 use Rattle.record.specs.Layout.{ledgerOf}
 use Rattle.settling.proofs.FactLaws.{formed, cell-facts}
@@ -26,9 +25,6 @@ module _ {ws out : List ℕ} {at s : ℕ} (v : UnderWayAt ws out at s) where
         carded = under-carded;
         initial = λ n h. cell-facts (cellAt (ledgerOf ws) s n) (formed (ledgerOf ws) (v .live .live .sound .formed) .rows s (v .live .low) (v .live .high) .cells n (omega (arith, h, v .table .few)) h) .initial;
       }
-
-  pub under-staked : (n : ℕ) → n < ledgerOf ws .count → 1 ≤ stakeIn (ledgerOf ws .stakes) n
-  under-staked = formed (ledgerOf ws) (v .live .live .sound .formed) .head .staked
 
 pub under-casting : {ws out : List ℕ} {at s : ℕ} → VotingAt ws out at s → CastingAt ws out at s
 under-casting v = record { live = v .under .live; votes = v .votes }

@@ -100,7 +100,7 @@ fn cell_held(rec: &[u64], p: Slot, n: Node, c: Cell) -> bool
 }
 
 // Whether the notar votes of slot p's leading block reach 60.
-fn leader_held(rec: &[u64], p: Slot) -> bool
+pub fn leader_held(rec: &[u64], p: Slot) -> bool
     requires { ⌜ Carded (now rec) (p .0) ⌝ }
     ensures { λ r. ⌜ r ≡ reaches 3 (ledgerOf (now (rec .entry)) .total) (most (ledgerOf (now (rec .entry))) (p .0)) ⌝ }
 {

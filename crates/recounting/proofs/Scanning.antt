@@ -1,20 +1,20 @@
 -- What a scan of the rules learns from the card: where the others of the leader stay short of 40 no other block falls back; who has
 -- voted. Assumes nothing.
-use mathlib.Core.Path.{_≡_, refl}
+use mathlib.Core.Path.{_≡_}
 use mathlib.Core.Bool.{true, false, _&&_, _||_}
 use Prim.Native.Nat.{ℕ, _+_, _-_, _≤_, _<_}
 use native.Mathlib.Omega.{arith}
-use lib.Dec.{eqb, leb}
-use borrow.Author.Tests.{eq-eqb, eqb-false, leb-true, leb-false, not-true}
+use lib.Dec.{leb}
+use borrow.Author.Tests.{leb-true, leb-false}
 use Rattle.rulebook.specs.declared.Who.{Who}
 use Rattle.rulebook.specs.declared.Who.the-variants as who
-use Rattle.rulebook.specs.Tools.{part, someTo}
-use Rattle.rulebook.specs.Weights.{stakeIn, weight, totalTo, reaches, dWeights}
+use Rattle.rulebook.specs.Tools.{someTo}
+use Rattle.rulebook.specs.Weights.{totalTo, reaches, dWeights}
 use Rattle.rulebook.specs.Ledger.{Ledger, none, cellAt}
 use Rattle.rulebook.specs.Pool.{counts, weigh}
 use Rattle.rulebook.specs.Rules.{fallbackWeights}
 use Rattle.rulebook.specs.Cards.{most, leader}
-use Rattle.rulebook.proofs.ToolLaws.{by-test, and-both, or-cases, part-on, sum-term, some-find, some-each}
+use Rattle.rulebook.proofs.ToolLaws.{by-test, and-both, or-cases, some-each}
 use Rattle.rulebook.proofs.WeightLaws.{reaches-fact, short-fact, weight-none}
 use Rattle.recounting.proofs.Leading.{lead-recount}
 use Rattle.recounting.proofs.Using.{notar-apart, initial-within, most-any}
@@ -60,17 +60,3 @@ module _ (l : Ledger) (s : ℕ) (sum : totalTo (l .stakes) (l .count) ≡ l .tot
   leader-voted ne =
       by-test (leb 1 (most l s)) (λ t. weigh-some l s who.AnyNotar (omega (arith, leb-true 1 (most l s) t, most-any l s sum some)))
       (λ t. absurd (ne (lead-recount l s .empty (omega (arith, leb-false 1 (most l s) t)))))
-
-  -- and a vote makes one, since each node has stake
-  pub leader-none : ((n : ℕ) → n < l .count → 1 ≤ stakeIn (l .stakes) n) → leader l s ≡ 0 → someTo (l .count) (λ n. counts who.AnyNotar (cellAt l s n)) ≡ false
-  unfolding counts weigh weight
-  leader-none staked e =
-      by-test (someTo (l .count) (λ n. counts who.AnyNotar (cellAt l s n)))
-      (λ t.
-      let f = some-find (l .count) (λ n. counts who.AnyNotar (cellAt l s n)) t in
-      let b = cellAt l s (f .0) .notar in
-      let h : 1 ≤ b = omega (arith, eqb-false b 0 (not-true (none b) (f .2))) in
-      let w = sum-term (l .count) (f .0) (λ n. part (eqb (cellAt l s n .notar) b) (stakeIn (l .stakes) n)) (f .1) in
-      let p = part-on (eqb b b) (stakeIn (l .stakes) (f .0)) (eq-eqb b b refl) in
-      absurd (omega (arith, e, w, p, staked (f .0) (f .1), lead-recount l s .above b h, lead-recount l s .block (omega (arith, w, p, staked (f .0) (f .1), lead-recount l s .above b h)))))
-      (λ t. t)

@@ -1,29 +1,34 @@
 -- The search for the first rule that applies and the run, as the loops go through them over the lent memory. Assumes nothing.
 use mathlib.Core.Path.{_≡_, refl, sym, ap, _∙_, subst}
-use mathlib.Core.Bool.{Bool, false}
+use mathlib.Core.Bool.{Bool, true, false, _&&_}
 use mathlib.Core.List.{List}
-use Prim.Native.Nat.{ℕ, _+_, _-_, _≤_, _<_}
+use Prim.Native.Nat.{ℕ, zero, suc, _+_, _-_, _≤_, _<_}
 use native.Mathlib.Omega.{arith}
 use lib.ListN.{length}
+use lib.Dec.{leb}
+use borrow.Author.Tests.{leb-true, le-leb}
 use Rattle.rulebook.specs.Weights.{lastSlot, totalTo}
+use Rattle.rulebook.specs.Ledger.{isWatcher}
 use Rattle.rulebook.specs.Rules.{State}
-use Rattle.rulebook.specs.Run.{made, firstRule, firstSlot, scan, run}
+use Rattle.rulebook.specs.Run.{made, ruleAt, firstRule, firstSlot, scan, run}
+use Rattle.rulebook.proofs.ToolLaws.{and-both, both-and, true-not-false}
 use Rattle.record.specs.Layout.{recordWords, placesIn, ledgerOf}
 use Rattle.record.specs.Tabled.{Tabled}
 use Rattle.record.proofs.Places.{places-words}
 use Rattle.settling.specs.Spare.{spare}
 use Rattle.settling.specs.Steps.{Running}
-use Rattle.settling.proofs.RunLaws.{slot-step, slot-stop, slot-end, scan-is}
+use Rattle.settling.proofs.FactLaws.{formed}
+use Rattle.settling.proofs.RunLaws.{passed-over, rule-end, slot-step, slot-stop, slot-end, scan-is}
 use Rattle.settling.proofs.Spending.{rules-come, scan-comes}
 use Rattle.settling.proofs.Settling.{running-start, running-more, running-less, running-done}
 use Rattle.voter.specs.Outbox.{stateIn, Moved}
 use Rattle.voter.specs.Voting.{Live, LiveAt, Onward}
 use Rattle.voter.proofs.OutboxLaws.{made-in}
-use Rattle.voter.proofs.LiveLaws.{votes-on, onward-none, onward-is, onward-then}
+use Rattle.voter.proofs.LiveLaws.{onward-none, onward-is, onward-then}
 use Rattle.fallbacks.specs.UnderWay.{UnderWay, UnderWayAt, VotingAt}
-use Rattle.fallbacks.proofs.UnderLaws.{under-carded, under-staked}
-use Rattle.dormancy.specs.Idle.{Looking, isIdle}
-use Rattle.dormancy.proofs.SlotLaws.{rules-on, rules-off, busy-votes}
+use Rattle.dormancy.specs.Dormant.{isDormant}
+use Rattle.dormancy.proofs.SlotLaws.{rules-on, rules-off, one-rule}
+use Rattle.dormancy.proofs.DormantLaws.{dormant-quiet}
 
 -- The stakes stay a table.
 pub under-way : {ws out ws' left : List ℕ} {at now : ℕ} {q : State} → Tabled (ledgerOf ws) → Onward ws out at ws' left now q → UnderWay ws' left now
@@ -43,20 +48,33 @@ under-way h a =
 pub under-way-at : {ws out : List ℕ} {at s : ℕ} → UnderWay ws out at → 1 ≤ s → s ≤ lastSlot → UnderWayAt ws out at s
 under-way-at v a b = record { live = record { live = v .live; low = a; high = b }; table = v .table }
 
--- A call that is under way at a slot can look at it.
-pub under-looking : {ws out : List ℕ} {at s : ℕ} → UnderWayAt ws out at s → Looking ws s
-under-looking v = record { carded = under-carded v; staked = under-staked v }
+-- A rule that votes is tried: the node is no watcher.
+pub voting-at : {ws out : List ℕ} {at s : ℕ} → UnderWayAt ws out at s → (w : Bool) (r : ℕ) → w ≡ isWatcher (ledgerOf ws) → (w && (leb 1 r && leb r 4)) ≡ false → 1 ≤ r → r ≤ 4 → VotingAt ws out at s
+voting-at v w r e f low high = record { under = v; votes = sym e ∙ votes w f }
+  where
+    votes : (x : Bool) → (x && (leb 1 r && leb r 4)) ≡ false → x ≡ false
+    votes true t = true-not-false (leb 1 r && leb r 4) (both-and (leb 1 r) (leb r 4) (le-leb 1 r low) (le-leb r 4 high)) t
+    votes false t = refl
 
--- A part of the call was run at slot s: it can go on there.
-pub still-under-way : {ws out ws' left : List ℕ} {at now s : ℕ} {q : State} → UnderWayAt ws out at s → Onward ws out at ws' left now q → UnderWayAt ws' left now s
-still-under-way v a = under-way-at (under-way (v .table) a) (v .live .low) (v .live .high)
+-- A watcher passes over a rule that votes.
+pub watcher-passes : {ws out : List ℕ} {at : ℕ} (s : ℕ) → Live ws out at → (w : Bool) (r : ℕ) → w ≡ isWatcher (ledgerOf ws) → (w && (leb 1 r && leb r 4)) ≡ true
+    → Onward ws out at ws out at (ruleAt r (stateIn ws out at) s)
+watcher-passes {ws = ws} {out = out} {at = at} s v w r e f =
+    let h = and-both w (leb 1 r && leb r 4) f in
+    let g = and-both (leb 1 r) (leb r 4) (h .1) in
+    onward-none v (sym (passed-over (stateIn ws out at) s (sym e ∙ h .0) r (leb-true 1 r (g .0)) (leb-true r 4 (g .1))))
 
--- Likewise for the rules that vote; a slot where something is left for them lets them begin.
-pub voting-begins : {ws out : List ℕ} {at s : ℕ} → UnderWayAt ws out at s → (i : Bool) → i ≡ isIdle (ledgerOf ws) s → i ≡ false → VotingAt ws out at s
-voting-begins {ws = ws} {s = s} v i e f = record { under = v; votes = busy-votes (ledgerOf ws) s (sym e ∙ f) }
-
-pub still-voting : {ws out ws' left : List ℕ} {at now s : ℕ} {q : State} → VotingAt ws out at s → Onward ws out at ws' left now q → VotingAt ws' left now s
-still-voting v a = record { under = still-under-way (v .under) a; votes = votes-on (a .same) (v .votes) }
+-- There is no eighth rule.
+pub rule-beyond : (r : ℕ) (o : State) (s : ℕ) → (r ≡ 0 → ⊥) → (r ≡ 1 → ⊥) → (r ≡ 2 → ⊥) → (r ≡ 3 → ⊥) → (r ≡ 4 → ⊥) → (r ≡ 5 → ⊥) → (r ≡ 6 → ⊥) → o ≡ ruleAt r o s
+unfolding ruleAt
+rule-beyond zero o s a b c d e f g = absurd (a refl)
+rule-beyond (suc zero) o s a b c d e f g = absurd (b refl)
+rule-beyond (suc (suc zero)) o s a b c d e f g = absurd (c refl)
+rule-beyond (suc (suc (suc zero))) o s a b c d e f g = absurd (d refl)
+rule-beyond (suc (suc (suc (suc zero)))) o s a b c d e f g = absurd (e refl)
+rule-beyond (suc (suc (suc (suc (suc zero))))) o s a b c d e f g = absurd (f refl)
+rule-beyond (suc (suc (suc (suc (suc (suc zero)))))) o s a b c d e f g = absurd (g refl)
+rule-beyond (suc (suc (suc (suc (suc (suc (suc r))))))) o s a b c d e f g = refl
 
 -- The words of one node are as many as before: its stakes tell the places.
 pub held-long : {ws out ws' left : List ℕ} {at now : ℕ} {q : State} → Live ws out at → Onward ws out at ws' left now q → length ws' ≡ length ws
@@ -104,10 +122,45 @@ module _ {ws out ws' out' ws'' out'' : List ℕ} {at now now' : ℕ} {q : State}
       let o : State = stateIn ws out at in
       onward-is tried (sym (rules-off k n r o s (λ e. ne (sym (moved-made (tried .moved)) ∙ e ∙ made-in out at))) ∙ h .ends)
 
--- The last are tried.
-pub going-last : {ws out ws' out' ws'' out'' : List ℕ} {at now now' : ℕ} {q : State} (s k r : ℕ) → Going ws out at ws' out' now s k r q
-    → Onward ws' out' now ws'' out'' now' (firstRule k r (stateIn ws' out' now) s) → Onward ws out at ws'' out'' now' q
-going-last s k r h took = onward-is (onward-then (λ (x : State). firstRule k r x s) (h .held) took) (h .ends)
+-- ---- the invariant of the rules of one slot: those from r on are left
+
+pub record Trying (ws out : List ℕ) (at : ℕ) (ws' left : List ℕ) (now s r : ℕ) : Type 0 where
+  pub few : r ≤ 7
+  pub kept : length left ≡ length out
+  pub going : Going ws out at ws' left now s (7 - r) r (firstRule 7 0 (stateIn ws out at) s)
+
+pub trying-start : {ws out : List ℕ} {at : ℕ} (s : ℕ) → Live ws out at → Trying ws out at ws out at s 0
+trying-start s v = record { few = omega arith; kept = refl; going = going-start s 7 0 v }
+
+-- ---- rule r is tried
+
+module _ {ws out ws' out' ws'' out'' : List ℕ} {at now now' s r : ℕ} (h : Trying ws out at ws' out' now s r) (b : r < 7)
+    (took : Onward ws' out' now ws'' out'' now' (ruleAt r (stateIn ws' out' now) s)) where
+  one-left : 7 - r ≡ 1 + (7 - (r + 1))
+  one-left = omega arith
+
+  left-going : Going ws out at ws' out' now s (1 + (7 - (r + 1))) r (firstRule 7 0 (stateIn ws out at) s)
+  left-going = subst (λ (n : ℕ). Going ws out at ws' out' now s n r (firstRule 7 0 (stateIn ws out at) s)) one-left (h .going)
+
+  alone : Onward ws' out' now ws'' out'' now' (firstRule 1 r (stateIn ws' out' now) s)
+  alone = onward-is took (sym (one-rule r (stateIn ws' out' now) s))
+
+  pub trying-more : LiveAt ws out at s → length out'' ≡ length out' → now' ≡ at → Trying ws out at ws'' out'' now' s (r + 1)
+  trying-more v k e = record { few = omega arith; kept = k ∙ h .kept; going = going-more s 1 (7 - (r + 1)) r left-going alone v e }
+
+  pub trying-found : (now' ≡ at → ⊥) → Onward ws out at ws'' out'' now' (firstRule 7 0 (stateIn ws out at) s)
+  trying-found ne = going-found s 1 (7 - (r + 1)) r left-going alone ne
+
+-- All were tried.
+pub trying-end : {ws out ws' out' : List ℕ} {at now s r : ℕ} → Trying ws out at ws' out' now s r → 7 ≤ r → Onward ws out at ws' out' now (firstRule 7 0 (stateIn ws out at) s)
+trying-end {ws = ws} {out = out} {at = at} {s = s} {r = r} h b =
+    onward-is (h .going .held) (sym (rule-end (stateIn ws out at) s r (7 - r) (omega arith)) ∙ h .going .ends)
+
+-- A dormant slot is passed over: none of its rules applies.
+pub dormant-passes : {ws out : List ℕ} {at s : ℕ} → UnderWayAt ws out at s → (d : Bool) → d ≡ isDormant (ledgerOf ws) s → d ≡ true → Onward ws out at ws out at (firstRule 7 0 (stateIn ws out at) s)
+dormant-passes {ws = ws} {out = out} {at = at} {s = s} v d e t =
+    onward-none (v .live .live)
+    (sym (dormant-quiet (stateIn ws out at) s (v .live .low) (v .table) (formed (ledgerOf ws) (v .live .live .sound .formed) .rows s (v .live .low) (v .live .high) .blocks) (sym e ∙ t)))
 
 -- ---- the invariant of the search: the memory still holds the state of its start, and the slots from s on are left
 

@@ -1,6 +1,6 @@
 -- The places of votes but the final one.
 use borrow.Author.Needs.{needs}
-use Rattle.dormancy.specs.Idle.{supports}
+use Rattle.dormancy.specs.Dormant.{supports}
 use Rattle.dormancy.proofs.supports.Statement.{statement}
 use Rattle.dormancy.proofs.supports.Tie as tie
 

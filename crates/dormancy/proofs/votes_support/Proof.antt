@@ -4,7 +4,7 @@ use mathlib.Core.Bool.{false}
 use Prim.Native.Nat.{_-_, _≤_}
 use native.Mathlib.Omega.{arith}
 use borrow.Author.Needs.{needs}
-use Rattle.dormancy.specs.Idle.{supports}
+use Rattle.dormancy.specs.Dormant.{supports}
 use Rattle.record.specs.Layout.{ledgerOf}
 use Rattle.pool.proofs.CardLaws.{card-is}
 use Rattle.dormancy.proofs.DormantLaws.{support-by-card, passedTo, nodes-start, nodes-more, nodes-found, nodes-end}
