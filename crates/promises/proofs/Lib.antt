@@ -3,6 +3,7 @@ pub mod Numbered
 pub mod Refused
 pub mod Shown
 pub mod ShownChecks
+pub mod ShownMessages
 pub mod Spelled
 pub mod Held
 pub mod Figured

@@ -5,6 +5,8 @@ use native.Mathlib.Omega.{arith}
 use Rattle.rulebook.specs.declared.Accepted.{Accepted}
 use Rattle.rulebook.specs.declared.CheckAnswer.{CheckAnswer}
 use Rattle.rulebook.specs.declared.CheckAnswer.the-variants as check
+use Rattle.rulebook.specs.declared.ReadAnswer.{ReadAnswer}
+use Rattle.rulebook.specs.declared.ReadAnswer.the-variants as read
 use Rattle.rulebook.specs.declared.Refusal.{Refusal}
 use Rattle.rulebook.specs.declared.Refusal.the-variants as refusal
 use Rattle.rulebook.specs.declared.StartAnswer.{StartAnswer}
@@ -13,7 +15,7 @@ use Rattle.rulebook.specs.declared.StepAnswer.{StepAnswer}
 use Rattle.rulebook.specs.declared.StepAnswer.the-variants as step
 use Rattle.rulebook.specs.declared.WriteAnswer.{WriteAnswer}
 use Rattle.rulebook.specs.declared.WriteAnswer.the-variants as write
-use Rattle.rulebook.specs.PaperNumbers.{refusalNumber, startPanel, stepPanel, writePanel, checkNumber}
+use Rattle.rulebook.specs.PaperNumbers.{refusalNumber, startPanel, stepPanel, writePanel, readPanel, checkNumber}
 
 -- A number that is not 0 is a refusal's.
 pub start-refusal : (a : StartAnswer) → ¬ (startPanel a .number ≡ 0) → (r : Refusal) × (a ≡ start.Refused r)
@@ -30,6 +32,11 @@ pub write-refusal : (a : WriteAnswer) → ¬ (writePanel a .number ≡ 0) → (r
 unfolding writePanel
 write-refusal (write.Written n) h = absurd (h refl)
 write-refusal (write.Refused r) h = (r, refl)
+
+pub read-refusal : (a : ReadAnswer) → ¬ (readPanel a .number ≡ 0) → (r : Refusal) × (a ≡ read.Refused r)
+unfolding readPanel
+read-refusal (read.Read v) h = absurd (h refl)
+read-refusal (read.Refused r) h = (r, refl)
 
 pub check-refusal : (a : CheckAnswer) → ¬ (checkNumber a ≡ 0) → (r : Refusal) × (a ≡ check.Refused r)
 unfolding checkNumber

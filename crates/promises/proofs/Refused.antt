@@ -8,6 +8,7 @@ use lib.ListN.{length, drop}
 use lib.Dec.{eqb, leb}
 use Rattle.rulebook.specs.declared.CheckAnswer.{CheckAnswer}
 use Rattle.rulebook.specs.declared.Input.{Input}
+use Rattle.rulebook.specs.declared.ReadAnswer.{ReadAnswer}
 use Rattle.rulebook.specs.declared.Refusal.{Refusal}
 use Rattle.rulebook.specs.declared.Refusal.the-variants as refusal
 use Rattle.rulebook.specs.declared.StartAnswer.the-variants as start
@@ -18,7 +19,7 @@ use Rattle.rulebook.specs.declared.Verdict.the-variants.{Fine, Refused}
 use Rattle.rulebook.specs.declared.WriteAnswer.{WriteAnswer}
 use Rattle.rulebook.specs.declared.WriteAnswer.the-variants as write
 use Rattle.rulebook.specs.Ledger.{Ledger}
-use Rattle.rulebook.specs.PaperNumbers.{stepPanel, writePanel, checkValues}
+use Rattle.rulebook.specs.PaperNumbers.{stepPanel, writePanel, readPanel, checkValues}
 use Rattle.rulebook.specs.Inputs.{Fed, verdict, fedWith, refusedWith, fedOn, feed}
 use Rattle.rulebook.specs.WellFormed.{wellFormed, outboxWords, step, takeCertificate}
 use Rattle.rulebook.specs.Writers.{Wrote, wroteOn, writeCertificate, writeProof, certificateVerdict, proofVerdict, proofBytes, certificateFor, over, Writes}
@@ -38,8 +39,8 @@ use Rattle.trays.specs.Lent as trays
 use Rattle.trays.specs.Lent.{asServed, trayLeaves}
 use Rattle.writers.specs.Writing.{unsound, kindOn, certificateOn, proofOn}
 use Rattle.answers.specs.Face.{Beside}
-use Rattle.promises.specs.Refusals.{StartRefused, WatchRefused, StepRefused, TakeRefused, TrayRefused, CertificateRefused, ProofRefused, MessageRefused, FaceStartRefused, FaceWatchRefused, FaceStepRefused, FaceTakeRefused, FaceTrayRefused, FaceCertificateRefused, FaceProofRefused, FaceMessageRefused, FaceCheckRefused}
-use Rattle.promises.proofs.Numbered.{start-refusal, step-refusal, write-refusal, check-refusal}
+use Rattle.promises.specs.Refusals.{StartRefused, WatchRefused, StepRefused, TakeRefused, TrayRefused, CertificateRefused, ProofRefused, MessageRefused, FaceStartRefused, FaceWatchRefused, FaceStepRefused, FaceTakeRefused, FaceTrayRefused, FaceCertificateRefused, FaceProofRefused, FaceMessageRefused, FaceReadRefused, FaceCheckRefused}
+use Rattle.promises.proofs.Numbered.{start-refusal, step-refusal, write-refusal, read-refusal, check-refusal}
 
 -- ---- start
 
@@ -260,6 +261,12 @@ face-message-refused count v buffer number written after h ne =
       write-none a written (x .0) (x .1) (h .counted),
       message-refused count v buffer (x .0) after (record { answered = sym (x .1); bytes = h .bytes }),
     )
+
+pub face-read-refused : FaceReadRefused
+unfolding readPanel
+face-read-refused answer number values h ne =
+    let x = read-refusal answer (λ e. ne (h .numbered ∙ e)) in
+    h .valued ∙ ap (λ (a : ReadAnswer). readPanel a .values) (x .1)
 
 pub face-check-refused : FaceCheckRefused
 unfolding checkValues

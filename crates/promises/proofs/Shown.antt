@@ -151,20 +151,20 @@ module _ (l : Ledger) (packet : List ℕ) where
     judged-shown n Fine = after-shown (ltb n (length packet))
     judged-shown n (Refused r) = refl
 
-  read-shown : (x : Found)
+  found-shown : (x : Found)
       → stepPanel (takenFrom l packet (oneOf (tableOf l) x) .answer)
       ≡ shown (elseThen (wholeThen (tableOf l) x (λ c n. nothingAfter packet n)) (keptJudged l x)) (length (takenFrom l packet (oneOf (tableOf l) x) .records) ∷ [])
   unfolding takenFrom oneOf wholeThen keptJudged elseThen refusedWith stepPanel shown besideIt verdictNumber
-  read-shown (found.Whole c n) = judged-shown c n (judge (tableOf l) c)
-  read-shown found.Early = refl
-  read-shown found.Malformed = refl
+  found-shown (found.Whole c n) = judged-shown c n (judge (tableOf l) c)
+  found-shown found.Early = refl
+  found-shown found.Malformed = refl
 
   -- What the checker refuses, then 7 and 8.
   packet-shown : stakesFit (tableOf l) (length (tableOf l)) ≡ true
       → stepPanel (takePacket l packet .answer)
       ≡ shown (elseThen (certificateChecked (tableOf l) packet) (keptJudged l (certificateAt packet 0))) (length (takePacket l packet .records) ∷ [])
   unfolding takePacket oneAt certificateChecked refuseIf
-  packet-shown e = rw e (read-shown (certificateAt packet 0))
+  packet-shown e = rw e (found-shown (certificateAt packet 0))
 
 take-leaves-shown : (ws out packet : List ℕ)
     → stepPanel (takeLeaves ws out packet .answer) ≡ shown (takeJudged ws out packet) (length (takePacket (ledgerOf ws) packet .records) ∷ [])
@@ -219,7 +219,7 @@ tray-shown ws out votes places a ws' left answers h = ap stepPanel (h .answered)
 
 -- ---- the writers
 
-wrote-shown : (v : Verdict) (bytes : List ℕ) → writePanel (wroteOn v bytes .answer) ≡ shown v (length bytes ∷ [])
+pub wrote-shown : (v : Verdict) (bytes : List ℕ) → writePanel (wroteOn v bytes .answer) ≡ shown v (length bytes ∷ [])
 unfolding writePanel wroteOn shown besideIt verdictNumber
 wrote-shown Fine bytes = refl
 wrote-shown (Refused r) bytes = refl

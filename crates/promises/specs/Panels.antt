@@ -13,6 +13,10 @@ use Rattle.rulebook.specs.declared.CheckAnswer.{CheckAnswer}
 use Rattle.rulebook.specs.Certificates as found
 use Rattle.rulebook.specs.declared.Input.{Input}
 use Rattle.rulebook.specs.declared.Input.the-variants as input
+use Rattle.rulebook.specs.declared.ReadAnswer.{ReadAnswer}
+use Rattle.rulebook.specs.declared.Reading.{Reading}
+use Rattle.rulebook.specs.declared.Reading.the-variants as reading
+use Rattle.rulebook.specs.declared.Refusal.{Refusal}
 use Rattle.rulebook.specs.declared.Refusal.the-variants as refusal
 use Rattle.rulebook.specs.declared.StartAnswer.{StartAnswer}
 use Rattle.rulebook.specs.declared.StepAnswer.{StepAnswer}
@@ -20,16 +24,17 @@ use Rattle.rulebook.specs.declared.Verdict.{Verdict}
 use Rattle.rulebook.specs.declared.Verdict.the-variants.{Fine, Refused}
 use Rattle.rulebook.specs.declared.Vote.{Vote}
 use Rattle.rulebook.specs.declared.WriteAnswer.{WriteAnswer}
-use Rattle.rulebook.specs.PaperNumbers.{Panel, kindIn, numberIn, verdictNumber, placeNumber, foundPanel, startPanel, stepPanel, writePanel, checkNumber, checkPanel}
-use Rattle.rulebook.specs.Weights.{slotOk, stakesFit}
+use Rattle.rulebook.specs.PaperNumbers.{Panel, voteKind, kindIn, numberIn, verdictNumber, placeNumber, foundPanel, startPanel, stepPanel, writePanel, readPanel, checkNumber, checkPanel}
+use Rattle.rulebook.specs.Weights.{slotOk, countFits, stakesFit}
 use Rattle.rulebook.specs.Ledger.{Ledger, tableOf, cellAt, certificatesAt}
 use Rattle.rulebook.specs.Votes.{placeOf}
-use Rattle.rulebook.specs.Inputs.{refuseIf, isOther, misfits, verdict, feed}
+use Rattle.rulebook.specs.Inputs.{refuseIf, isOther, notInTable, misfits, verdict, feed}
 use Rattle.rulebook.specs.WellFormed.{outboxWords}
-use Rattle.rulebook.specs.Packets.{certificateAt, certificateBytes, countOf}
+use Rattle.rulebook.specs.Packets.{numberAt, certificateAt, certificateBytes, countOf}
 use Rattle.rulebook.specs.Taking.{keptVerdict, takePacket}
 use Rattle.rulebook.specs.Checker.{signed, signedWeight, judge, checkCertificate, checkProof}
 use Rattle.rulebook.specs.Writers.{certificateFor, certificateVerdict, proofVerdict, proofBytes, Writes}
+use Rattle.rulebook.specs.Messages.{messageBytes, messageVerdict, readVote, writeVote}
 use Rattle.record.specs.Layout.{ledgerOf}
 use Rattle.soundness.specs.Sound.{soundWords}
 use Rattle.starts.specs.Starting.{startJudged, StartOf, watchJudged, WatchOf}
@@ -118,6 +123,13 @@ ProofShown =
     (ws buffer : List ℕ) (s b : ℕ) (a : WriteAnswer) (after : List ℕ) → Writes (proofOn ws (length buffer) s b) buffer a after
     → writePanel a ≡ shown (soundFirst ws (proofVerdict (ledgerOf ws) (length buffer) s b)) (length (proofBytes (ledgerOf ws) s b) ∷ [])
 
+-- A node count outside 1 to 2,048 "is 1, tested first"; "The writer needs 16 bytes, or it gives 9; after that 4, 3, 2, 5". The writer of vote
+-- messages answers the number of its bytes.
+abbrev pub MessageShown : Type 0
+MessageShown =
+    (count : ℕ) (v : Vote) (buffer : List ℕ) (a : WriteAnswer) (after : List ℕ) → Writes (writeVote count (length buffer) v) buffer a after
+    → writePanel a ≡ shown (messageVerdict count (length buffer) v) (length (messageBytes v) ∷ [])
+
 -- The first refusal, else the later verdict.
 unfoldable pub elseThen : Verdict → Verdict → Verdict
 elseThen Fine v = v
@@ -200,3 +212,36 @@ CertificateCheckShown =
 abbrev pub ProofCheckShown : Type 0
 ProofCheckShown =
     (stakes packet : List ℕ) (a : CheckAnswer) → a ≡ checkProof stakes packet → ChecksAs stakes packet (proofChecked stakes packet) a
+
+-- "12 and 13 as met": what follows a number that was read, else what is made of its refusal.
+unfoldable pub numberThen : {A : Type 0} → Reading → (Refusal → A) → (ℕ → ℕ → A) → A
+numberThen (reading.Number n next) met f = f n next
+numberThen reading.Early met f = met refusal.BadLength
+numberThen reading.Malformed met f = met refusal.BadNumber
+
+-- "four numbers .. namely kind, node, slot, block", each read where the one before it ends: what follows them and the place after the last.
+unfoldable pub fourThen : {A : Type 0} → List ℕ → (Refusal → A) → (ℕ → ℕ → ℕ → ℕ → ℕ → A) → A
+fourThen bytes met f =
+    numberThen (numberAt bytes 0) met (λ kind p.
+    numberThen (numberAt bytes p) met (λ node q.
+    numberThen (numberAt bytes q) met (λ slot r.
+    numberThen (numberAt bytes r) met (λ block next. f kind node slot block next))))
+
+-- After the node count's 1, "The reader then gives 12 and 13 as met over the four numbers, then 4, 3, 2, 5, and 12 for leftovers last".
+unfoldable pub readJudged : ℕ → List ℕ → Verdict
+readJudged count bytes =
+    refuseIf (not (countFits count)) refusal.BadSizes
+    (fourThen bytes Refused (λ kind node slot block next.
+    refuseIf (isOther (voteKind kind)) refusal.BadKind
+    (refuseIf (not (slotOk slot)) refusal.BadSlot
+    (refuseIf (notInTable count node) refusal.BadNode
+    (refuseIf (misfits (voteKind kind) block) refusal.BadBlock (nothingAfter bytes next))))))
+
+-- The four numbers as they stand in a message; zeros where one cannot be read.
+unfoldable pub fourOf : List ℕ → List ℕ
+fourOf bytes = fourThen bytes (λ _. replicate 4 0) (λ kind node slot block next. kind ∷ node ∷ slot ∷ block ∷ [])
+
+-- The reader of vote messages answers the first of these that is due, else the message's own four numbers.
+abbrev pub ReadShown : Type 0
+ReadShown =
+    (count : ℕ) (bytes : List ℕ) (a : ReadAnswer) → a ≡ readVote count bytes → readPanel a ≡ shown (readJudged count bytes) (fourOf bytes)

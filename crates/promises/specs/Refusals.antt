@@ -7,6 +7,7 @@ use Prim.Native.Nat.{ℕ}
 use lib.ListN.{length}
 use Rattle.rulebook.specs.declared.CheckAnswer.{CheckAnswer}
 use Rattle.rulebook.specs.declared.Input.{Input}
+use Rattle.rulebook.specs.declared.ReadAnswer.{ReadAnswer}
 use Rattle.rulebook.specs.declared.Refusal.{Refusal}
 use Rattle.rulebook.specs.declared.StartAnswer.the-variants as start
 use Rattle.rulebook.specs.declared.StepAnswer.the-variants as step
@@ -19,7 +20,7 @@ use Rattle.node.specs.Stepping.{StepOf}
 use Rattle.taking.specs.Taking.{TakeOf}
 use Rattle.trays.specs.Lent.{TrayOf}
 use Rattle.writers.specs.Writing.{certificateOn, proofOn}
-use Rattle.answers.specs.Face.{Started, Watched, Stepped, Taken, Trayed, Wrote, Checked}
+use Rattle.answers.specs.Face.{Started, Watched, Stepped, Taken, Trayed, Wrote, MessageRead, Checked}
 
 -- ---- the public operations
 
@@ -114,6 +115,11 @@ abbrev pub FaceMessageRefused : Type 0
 FaceMessageRefused =
     (count : ℕ) (v : Vote) (buffer : List ℕ) (number written : ℕ) (after : List ℕ) → Wrote (writeVote count (length buffer) v) buffer number written after
     → ¬ (number ≡ 0) → (written ≡ 0) × (after ≡ buffer)
+
+-- qr_read_vote: four zeros.
+abbrev pub FaceReadRefused : Type 0
+FaceReadRefused =
+    (answer : ReadAnswer) (number : ℕ) (values : List ℕ) → MessageRead answer number values → ¬ (number ≡ 0) → values ≡ 0 ∷ 0 ∷ 0 ∷ 0 ∷ []
 
 -- qr_check_certificate, qr_check_proof: five zeros.
 abbrev pub FaceCheckRefused : Type 0
