@@ -16,6 +16,7 @@ use rulebook::Who;
 use shown::armed_in;
 use shown::cell_of;
 use shown::clash_in;
+use shown::final_child;
 use shown::final_of;
 use shown::genesis_of;
 use shown::has_certificates;
@@ -33,6 +34,7 @@ use shown_blocks::block_from;
 use shown_heavy::heavy_after;
 use shown_heavy::light_blocks;
 use shown_kept::kept_certificate;
+use shown_weights::certified;
 use shown_weights::held_in;
 use shown_weights::missing_in;
 use shown_weights::next_for;
@@ -351,44 +353,16 @@ fn kept_certificate_lines(page: &mut [u8], at: usize, rec: &[u64], s: Slot) -> u
     next
 }
 
-// Whether the block in one of slot t's places is its final block, a child of block b of slot s.
-fn leads_at(rec: &[u64], t: Slot, place: usize, s: Slot, b: u64) -> bool {
-    let k = kept_of(rec, t, place);
-    let p = k.parentslot;
-    let child = (k.number != 0) & (k.number == final_of(rec, t));
-    child & ((p.0 == s.0) & (k.parent == b))
-}
-
-// The first slot above s whose final block is a kept child of block b of slot s, 0 where there is none.
-fn final_child(rec: &[u64], s: Slot, b: u64) -> usize {
-    for t in 1..17 {
-        let first = leads_at(rec, Slot(t), 0, s, b) | leads_at(rec, Slot(t), 1, s, b);
-        let last = leads_at(rec, Slot(t), 2, s, b) | leads_at(rec, Slot(t), 3, s, b);
-        if first | last {
-            return t;
-        }
-    }
-    0
-}
-
-// Whether a block is final by certificates.
-fn certified(rec: &[u64], s: Slot, b: u64) -> bool {
-    let fast = held_in(rec, s, CertificateKind::FastFinal, b);
-    let notar = held_in(rec, s, CertificateKind::Notar, b);
-    let ended = held_in(rec, s, CertificateKind::Final, 0);
-    fast | (notar & ended)
-}
-
 // How a block came to be final: by certificates, or as the parent of another.
 fn put_cause(page: &mut [u8], at: usize, rec: &[u64], s: Slot, b: u64) -> usize {
     if certified(rec, s, b) {
         return put_text(page, at, b" by certificate");
     }
     let t = final_child(rec, s, b);
-    if t == 0 {
+    if t.0 == 0 {
         return at;
     }
-    put_named(page, at, b" through slot ", t as u64)
+    put_named(page, at, b" through slot ", t.0 as u64)
 }
 
 // The block reported final.

@@ -1,28 +1,30 @@
--- Laws of what a record shows: joint tests, the ledger of any words, places past the last, sums of what counts.
+-- Laws of what a record shows: joint tests, the ledger of any words, places past the last, the slot through which a block is final, sums
+-- of what counts.
 -- Assumes nothing.
-use mathlib.Core.Path.{_≡_, sym, ap, _∙_}
+use mathlib.Core.Path.{_≡_, refl, sym, ap, _∙_}
 use mathlib.Core.Bool.{Bool, true, false, not, _&&_, _||_}
 use mathlib.Core.List.{List}
 use Prim.Native.Nat.{ℕ, suc, _+_, _-_, _*_, _≤_, _<_}
 use native.Mathlib.Omega.{arith}
-use lib.ListN.{getD, replicate, length-replicate, List·getD-eq-default, getD-replicate}
+use lib.ListN.{length, getD, replicate, length-replicate, List·getD-eq-default, getD-replicate}
 use lib.Dec.{leb, ltb}
-use borrow.Author.Tests.{not-true, not-false, ltb-true, ltb-false, leb-true}
+use borrow.Author.Tests.{not-true, not-false, ltb-true, ltb-false, leb-true, leb-false}
 use Rattle.rulebook.specs.declared.Cell.{Cell}
-use Rattle.rulebook.specs.Tools.{given, part, sumTo, someTo}
+use Rattle.rulebook.specs.Tools.{choose, given, part, sumTo, someTo}
 use Rattle.rulebook.specs.Weights.{lastSlot, slotOk}
-use Rattle.rulebook.specs.Ledger.{Ledger, Row, none, blankRow, noRow, noCell, noBlock, mostBlocks, places, rowAt, cellAt, blocksAt}
+use Rattle.rulebook.specs.Ledger.{Ledger, Row, none, blankRow, noRow, noCell, noBlock, mostBlocks, places, rowAt, cellAt, blocksAt, isBlock, keepsBlock}
 use Rattle.rulebook.specs.WellFormed.{cellBlank}
-use Rattle.rulebook.proofs.ToolLaws.{by-test, given-on, given-off, and-both, both-and, part-le, sum-le, sum-const, some-none, some-more}
+use Rattle.rulebook.proofs.ToolLaws.{by-test, choose-on, choose-off, given-on, given-off, and-both, both-and, part-le, sum-le, sum-const, some-none, some-more}
 use Rattle.record.specs.Layout.{Long, ledgerOf}
 use Rattle.record.specs.Spelling.{isSpelled}
 use Rattle.record.specs.Setting.{noLedger}
 use Rattle.record.proofs.Spelled.{spelled-long}
 use Rattle.record.proofs.Reading.{ledger-shaped}
+use Rattle.record.proofs.BlockPlaces.{some-places}
 use Rattle.soundness.specs.Sound.{soundWords}
 use Rattle.soundness.proofs.Laws.{sound-head}
 use Rattle.writers.proofs.Laid.{weighing}
-use Rattle.shown.specs.Shown.{ledgerIn, voted, hasVotes, Counting}
+use Rattle.shown.specs.Shown.{ledgerIn, leadsAt, leadsTo, lowestSlot, finalChild, voted, hasVotes, Counting}
 
 -- ---- joint tests
 
@@ -113,6 +115,61 @@ module _ (ws : List ℕ) (long : Bool) (e : long ≡ isSpelled ws) where
     past-node s n h k =
         sym (ap (λ (l : Ledger). cellAt l s n) (sym (whole-ledger q))
         ∙ List·getD-eq-default (rowAt (ledgerOf ws) s .cells) noCell (omega (arith, ledger-shaped ws .cells s (omega arith))))
+
+-- ---- the slot through which a block is final
+
+row-four : (r : Row) → noRow ≡ r → length (r .blocks) ≡ mostBlocks
+unfolding noRow blankRow
+row-four r e = ap (λ (x : Row). length (x .blocks)) (sym e) ∙ length-replicate mostBlocks noBlock
+
+-- Every slot of any words has four places for blocks.
+four-places : (ws : List ℕ) (t : ℕ) → length (blocksAt (ledgerIn ws) t) ≡ mostBlocks
+four-places ws t =
+    by-test (isSpelled ws)
+    (λ e. by-test (leb t lastSlot)
+    (λ h. ap (λ (l : Ledger). length (blocksAt l t)) (sym (whole-ledger ws (isSpelled ws) refl (ap not e)))
+    ∙ ledger-shaped ws .blocks t (omega (arith, leb-true t lastSlot h)))
+    (λ h. row-four (rowAt (ledgerIn ws) t) (past-row ws (isSpelled ws) refl (ap not e) t (omega (arith, leb-false t lastSlot h)))))
+    (λ e. row-four (rowAt (ledgerIn ws) t) (short-row ws (isSpelled ws) refl (ap not e) t))
+
+module _ (ws : List ℕ) (s b t : ℕ) where
+  abbrev pub inPlace : ℕ → Bool
+  inPlace = leadsAt (ledgerIn ws) s b t
+
+  pub leads-four : (first second third fourth : Bool) → first ≡ inPlace 0 → second ≡ inPlace 1 → third ≡ inPlace 2 → fourth ≡ inPlace 3
+      → (((first || second) || third) || fourth) ≡ leadsTo (ledgerIn ws) s b t
+  unfolding leadsTo keepsBlock someTo
+  leads-four first second third fourth e f g h =
+      (λ i. ((e i || f i) || g i) || h i)
+      ∙ sym (some-places (isBlock (rowAt (ledgerIn ws) t .final) s b) (blocksAt (ledgerIn ws) t)
+      ∙ ap (λ (n : ℕ). someTo n inPlace) (four-places ws t))
+
+module _ (l : Ledger) (s b : ℕ) where
+  -- the slot is sought from t on
+  abbrev pub childFrom : ℕ → ℕ
+  childFrom t = lowestSlot (leadsTo l s b) (suc lastSlot - t) t
+
+  child-step : (t : ℕ) → t ≤ lastSlot → childFrom t ≡ choose (leadsTo l s b t) t (childFrom (t + 1))
+  unfolding lowestSlot
+  child-step t h =
+      let e : suc lastSlot - t ≡ suc (suc lastSlot - (t + 1)) = omega arith in
+      ap (λ (n : ℕ). lowestSlot (leadsTo l s b) n t) e
+
+  pub child-start : childFrom 1 ≡ finalChild l s b
+  unfolding finalChild
+  child-start = refl
+
+  pub child-here : (t : ℕ) → t ≤ lastSlot → leadsTo l s b t ≡ true → childFrom t ≡ finalChild l s b → t ≡ finalChild l s b
+  child-here t h e k = sym (child-step t h ∙ choose-on (leadsTo l s b t) t (childFrom (t + 1)) e) ∙ k
+
+  pub child-more : (t : ℕ) → t ≤ lastSlot → leadsTo l s b t ≡ false → childFrom t ≡ finalChild l s b → childFrom (t + 1) ≡ finalChild l s b
+  child-more t h e k = sym (child-step t h ∙ choose-off (leadsTo l s b t) t (childFrom (t + 1)) e) ∙ k
+
+  pub child-none : (t : ℕ) → lastSlot < t → childFrom t ≡ finalChild l s b → 0 ≡ finalChild l s b
+  unfolding lowestSlot
+  child-none t h k =
+      let e : suc lastSlot - t ≡ 0 = omega arith in
+      sym (ap (λ (n : ℕ). lowestSlot (leadsTo l s b) n t) e) ∙ k
 
 -- ---- whether some vote is stored
 

@@ -1,10 +1,11 @@
 -- What a record shows to people: defined for any words, and for any slot and node.
 use mathlib.Core.Bool.{Bool, false, not, _&&_, _||_}
 use mathlib.Core.List.{List}
-use Prim.Native.Nat.{ℕ, _≤_}
-use Rattle.rulebook.specs.Tools.{given, someTo}
-use Rattle.rulebook.specs.Weights.{mostNodes, slotOk}
-use Rattle.rulebook.specs.Ledger.{Ledger, none, rowAt, cellAt, isWatcher, isArmed, firstBlock, certificatesAt}
+use Prim.Native.Nat.{ℕ, zero, suc, _+_, _≤_}
+use lib.ListN.{getD}
+use Rattle.rulebook.specs.Tools.{choose, given, someTo}
+use Rattle.rulebook.specs.Weights.{mostNodes, lastSlot, slotOk}
+use Rattle.rulebook.specs.Ledger.{Ledger, none, noBlock, rowAt, cellAt, isWatcher, isArmed, blocksAt, firstBlock, isBlock, keepsBlock, certificatesAt}
 use Rattle.rulebook.specs.WellFormed.{cellBlank, eachKept, keptBlank}
 use Rattle.record.specs.Layout.{ledgerOf}
 use Rattle.record.specs.Spelling.{isSpelled}
@@ -22,6 +23,23 @@ watcherShown ws = given (isSpelled ws) false (λ _. isWatcher (ledgerOf ws))
 -- The slot's window is armed; none is where no record has so many words, or the slot is not one of 1 to 16.
 unfoldable pub armedShown : List ℕ → ℕ → Bool
 armedShown ws s = given (slotOk s && isSpelled ws) false (λ _. isArmed (ledgerOf ws) s)
+
+-- The block in place i of slot t is that slot's final block, with the parent (s, b).
+abbrev pub leadsAt : Ledger → ℕ → ℕ → ℕ → ℕ → Bool
+leadsAt l s b t i = isBlock (rowAt l t .final) s b (getD (blocksAt l t) i noBlock)
+
+-- The final block of slot t is kept there with the parent (s, b): where that block is final, so is b in slot s.
+unfoldable pub leadsTo : Ledger → ℕ → ℕ → ℕ → Bool
+leadsTo l s b t = keepsBlock l t (rowAt l t .final) s b
+
+-- The lowest of the next n slots, from slot t on, that passes the test; 0 where none does.
+unfoldable pub lowestSlot : (ℕ → Bool) → ℕ → ℕ → ℕ
+lowestSlot p zero t = 0
+lowestSlot p (suc n) t = choose (p t) t (lowestSlot p n (t + 1))
+
+-- The lowest of the slots 1 to 16 whose final block is kept there with the parent (s, b); 0 where there is none.
+unfoldable pub finalChild : Ledger → ℕ → ℕ → ℕ
+finalChild l s b = lowestSlot (leadsTo l s b) lastSlot 1
 
 -- A vote of node n is stored in slot s.
 abbrev pub voted : Ledger → ℕ → ℕ → Bool

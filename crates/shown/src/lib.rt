@@ -7,7 +7,7 @@ ghost use Rattle.rulebook.specs.Tools.{part};
 ghost use Rattle.rulebook.specs.Weights.{isLarge};
 ghost use Rattle.rulebook.specs.Ledger.{none, noBlock, rowAt, cellAt, blocksAt};
 ghost use Rattle.rulebook.specs.WellFormed.{cellBlank};
-ghost use Rattle.shown.specs.Shown.{ledgerIn, watcherShown, armedShown, hasVotes, hasCertificates, touched};
+ghost use Rattle.shown.specs.Shown.{ledgerIn, watcherShown, armedShown, leadsAt, leadsTo, finalChild, hasVotes, hasCertificates, touched};
 use kept_certificates::nothing_kept;
 use kinds::slot_ok;
 use record::LAST_SLOT;
@@ -192,6 +192,41 @@ pub fn clash_in(rec: &[u64], s: Slot) -> bool
         return false;
     }
     clash_word(rec, s) != 0
+}
+
+// ---- the slot through which a block is final
+
+// Whether the block in one of slot t's places is its final block and has block b of slot s as its parent.
+fn leads_at(rec: &[u64], t: Slot, place: usize, s: Slot, b: u64) -> bool
+    ensures { λ r. ⌜ r ≡ leadsAt (ledgerIn (now (rec .entry))) (s .0) b (t .0) place ⌝ }
+{
+    let k = kept_of(rec, t, place);
+    let f = final_of(rec, t);
+    let p = k.parentslot;
+    (k.number != 0) & ((k.number == f) & ((p.0 == s.0) & (k.parent == b)))
+}
+
+// Whether the final block of slot t is kept there with block b of slot s as its parent.
+fn leads_to(rec: &[u64], t: Slot, s: Slot, b: u64) -> bool
+    ensures { λ r. ⌜ r ≡ leadsTo (ledgerIn (now (rec .entry))) (s .0) b (t .0) ⌝ }
+{
+    let first = leads_at(rec, t, 0, s, b);
+    let second = leads_at(rec, t, 1, s, b);
+    let third = leads_at(rec, t, 2, s, b);
+    let fourth = leads_at(rec, t, 3, s, b);
+    ((first | second) | third) | fourth
+}
+
+// The lowest slot whose final block is kept there with block b of slot s as its parent, slot 0 where there is none.
+pub fn final_child(rec: &[u64], s: Slot, b: u64) -> Slot
+    ensures { λ r. ⌜ r .0 ≡ finalChild (ledgerIn (now (rec .entry))) (s .0) b ⌝ }
+{
+    for t in 1..17 {
+        if leads_to(rec, Slot(t), s, b) {
+            return Slot(t);
+        }
+    }
+    Slot(0)
 }
 
 // ---- whether there is something to show

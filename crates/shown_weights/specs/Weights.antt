@@ -9,6 +9,7 @@ use Rattle.rulebook.specs.Tools.{choose, given}
 use Rattle.rulebook.specs.Weights.{mostStake, slotOk}
 use Rattle.rulebook.specs.Ledger.{none}
 use Rattle.rulebook.specs.Pool.{weigh, held, missingTo}
+use Rattle.rulebook.specs.Rules.{isFinal}
 use Rattle.record.specs.Layout.{ledgerOf}
 use Rattle.soundness.specs.Sound.{soundWords}
 use Rattle.rulebook.specs.declared.CertificateKind.the-variants as certificate
@@ -20,6 +21,11 @@ weightShown ws s who = given (slotOk s && soundWords ws) 0 (λ _. weigh (ledgerO
 -- The certificate is held; none is where the words are no sound record, or the slot is not one of 1 to 16.
 unfoldable pub heldShown : List ℕ → CertificateKind → ℕ → ℕ → Bool
 heldShown ws k s b = given (slotOk s && soundWords ws) false (λ _. held (ledgerOf ws) k s b)
+
+-- Block b of slot s is final by certificates: fast-final is held for it, or notar for it and final for the slot; none is where the words
+-- are no sound record, or the slot is not one of 1 to 16.
+unfoldable pub certifiedShown : List ℕ → ℕ → ℕ → Bool
+certifiedShown ws s b = given (slotOk s && soundWords ws) false (λ _. isFinal (ledgerOf ws) s b)
 
 -- What is missing in slot s to a certificate by the stored votes; likewise, 0.
 unfoldable pub missingShown : List ℕ → CertificateKind → ℕ → ℕ → ℕ

@@ -1,7 +1,8 @@
-// What the votes of a slot weigh, which certificates it holds and what is missing to one. Every function takes any words and any
-// slot; only a sound record has weights and certificates.
+// What the votes of a slot weigh, which certificates it holds, whether a block is final by them and what is missing to one. Every
+// function takes any words and any slot; only a sound record has weights and certificates.
 ghost use mathlib.Core.Path.{_≡_};
-ghost use Rattle.shown_weights.specs.Weights.{weightShown, heldShown, missingShown, shortOf, nextFor, percent};
+ghost use Rattle.shown_weights.specs.Weights.{weightShown, heldShown, certifiedShown, missingShown, shortOf, nextFor, percent};
+use candidates::is_final;
 use kinds::slot_ok;
 use rulebook::CertificateKind;
 use rulebook::Slot;
@@ -36,6 +37,19 @@ pub fn held_in(rec: &[u64], s: Slot, kind: CertificateKind, b: u64) -> bool
         return false;
     }
     pool::held(rec, kind, s, b)
+}
+
+// Whether a block of a slot is final by certificates.
+pub fn certified(rec: &[u64], s: Slot, b: u64) -> bool
+    ensures { λ r. ⌜ r ≡ certifiedShown (now (rec .entry)) (s .0) b ⌝ }
+{
+    if !slot_ok(s) {
+        return false;
+    }
+    if !sound(rec) {
+        return false;
+    }
+    is_final(rec, s, b)
 }
 
 // What is missing in a slot to a certificate by the stored votes.
