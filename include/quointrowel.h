@@ -12,14 +12,14 @@
  * votes. Words that no call of this library left are looked through at every call and refused with QR_BAD_RECORD where they
  * are no record; a record that this library left is never refused so.
  *
- * Versions. A stored record is for the version that wrote it (QR_VERSION). Another version's words are not to be lent; they are
- * refused with QR_BAD_RECORD, mostly by their number alone, where the two versions keep different things. Packets carry over:
- * certificates, proofs and vote messages. A member finishes its 16 slots with the version that it began them with, since a fresh node
- * knows nothing of its own earlier votes and could vote against them.
+ * Versions. A stored record is for the version that wrote it (QR_VERSION). Another version's words are not to be lent: they may be
+ * refused with QR_BAD_RECORD or misread. Packets carry over: certificates, proofs and vote messages. A member finishes its 16 slots
+ * with the version that it began them with, since a fresh node knows nothing of its own earlier votes and could vote against them.
  *
  * Answers. Every operation answers a number: 0 where it is done, else why not (enum qr_number). A refusal changes none
- * of the record, the outbox and the buffers, and puts zeros into the places for the values beside it (qr_differ says what
- * stands there beside its two). A number that is out of range, a slot of 99 or a kind of 7, is not a fault of the host: it has its own refusal.
+ * of the record, the outbox and the buffers, and puts zeros into the places for the values beside it; qr_differ says what stands
+ * there beside its two, the checks what *missing gets beside 15, and qr_end what it does to its state. A number that is out of
+ * range, a slot of 99 or a kind of 7, is not a fault of the host: it has its own refusal.
  *
  * The archive is libquointrowel.a, made by `rt staticlib quointrowel`, for x86-64. Of the host it wants memcpy and memset, as
  * the C library has them, and nothing else.
@@ -40,7 +40,7 @@ enum qr_number {
     QR_BAD_NODE = 2,      /* node number not in the table */
     QR_BAD_SLOT = 3,      /* slot not 1 to 16 */
     QR_BAD_KIND = 4,      /* kind not 1 to 5; of a certificate with a large table, not 11 to 15; timeout for a watcher */
-    QR_BAD_BLOCK = 5,     /* block 0 where one is needed, or not 0 where none is */
+    QR_BAD_BLOCK = 5,     /* block 0 where one is needed, or not 0 where none is; a block's parent number 0 */
     QR_OWN_NAME = 6,      /* vote in the own node's name from outside */
     QR_ALREADY_KEPT = 7,  /* that very vote, block with parent, or timeout is kept; a certificate of that kind, slot and block is */
     QR_OTHER_STANDS = 8,  /* another stands in its place; a fifth block of a slot, or a kept block with another parent; a tenth
@@ -147,8 +147,8 @@ uint64_t qr_start(uint64_t *record, size_t record_words, const uint64_t *stakes,
  * Makes the record's words a fresh watcher: a node of that ring that has no own number and never votes. It takes votes in every
  * node's name, a tray of them, blocks, certificates and looks, and only arms windows and tells which blocks are final: its outbox
  * gets records of kinds 6, 7 and 8 alone. It is never answered 6, and its timeouts are refused with 4. It writes certificates and
- * proofs as a node does; fed what a node accepts and the votes that the node casts, it stores the same votes and holds the same
- * certificates. Answers as qr_start does.
+ * proofs as a node does. Fed in their order the votes, blocks and certificates that a node of the same stakes and genesis accepts
+ * and the votes that the node casts, it stores the same votes and holds the same certificates. Answers as qr_start does.
  */
 uint64_t qr_watch(uint64_t *record, size_t record_words, const uint64_t *stakes, size_t stake_count, uint64_t genesis);
 
@@ -284,11 +284,11 @@ uint64_t qr_write_vote(uint8_t *buffer, size_t buffer_bytes, size_t *written, si
 
 /*
  * Which stored votes of two records differ, from the votes alone: every vote that one record has and the other has not, as
- * lines from the list's front, QR_LINE_WORDS each: slot, node, kind, block and the side that has it, 1 or 2; ascending by
- * slot, node, kind and block. *beside gets the number of lines; 0 of them mean equal stored votes, and only then. Words of
- * the list past the lines stay. The own numbers and the kept certificates play no part; where the stake tables differ there is
- * one line of five zeros and nothing else. Refusals: 17, and *beside gets the side whose record is bad, the first if both are;
- * 9, and *beside gets the number of lines needed.
+ * lines from the list's front, QR_LINE_WORDS each: slot, node, kind, block and the side that has it, 1 or 2; ascending by slot,
+ * node, kind and block. *beside gets the number of lines; 0 of them mean one stake table and equal stored votes, and only then.
+ * Words of the list past the lines stay. The own numbers and the kept certificates play no part; where the stake tables differ
+ * there is one line of five zeros and nothing else. Refusals: 17, and *beside gets the side whose record is bad, the first if
+ * both are; 9, and *beside gets the number of lines needed.
  */
 enum qr_side {
     QR_TABLES_DIFFER = 0,

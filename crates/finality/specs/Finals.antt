@@ -10,7 +10,7 @@ use Rattle.record.specs.Tabled.{Tabled}
 use Rattle.settling.specs.Facts.{Sound}
 use Rattle.settling.specs.Steps.{Settled}
 
--- Block b is slot s's final block, or another is and the slot has the mark of two.
+-- Block b is slot s's final block, or the slot has the mark of another.
 abbrev pub IsTold : Ledger → ℕ → ℕ → Type 0
 IsTold l s b = (rowAt l s .final ≡ b) ⊎ (none (rowAt l s .clash) ≡ false)
 

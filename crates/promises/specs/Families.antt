@@ -54,7 +54,8 @@ AsksOther =
     (ws buffer : List ℕ) (kind s b number count : ℕ) (after : List ℕ) → soundWords ws ≡ true → certificateRoom (ledgerOf ws .count) ≤ length buffer
     → ¬ OfTable (ledgerOf ws .count) kind → Wrote (certificateOn ws (length buffer) kind s b) buffer number count after → number ≡ 4
 
--- "Stored old packets thus keep their meaning": with up to 64 nodes a number stands for what it stood for, and a kind is written as it was.
+-- "Stored old packets thus keep their meaning": with up to 64 nodes a number stands for the kind that document 01 gives it, and a kind is
+-- written with that number.
 pub record AsEver (count : ℕ) : Type 0 where
   pub kinds : (n : ℕ) → kindIn count n ≡ certificateKind n
   pub numbers : (k : CertificateKind) → numberIn count k ≡ certificateNumber k

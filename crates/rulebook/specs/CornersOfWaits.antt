@@ -70,7 +70,7 @@ abbrev genesisChild : Bool
 genesisChild =
     equals (toldBy ruleD 2 (stored voted (block 2 9 0 1 ∷ [])) ∷ toldBy ruleD 2 (stored voted (block 2 9 0 1 ∷ (votes 2 (1 ∷ 2 ∷ []) 1 1 ++ certified))) ∷ []) ([] ∷ [] ∷ [])
 
--- First slots are as before, without block and certificate; the slots beside them wait.
+-- First slots ask for neither block nor certificate; the slots beside them wait.
 abbrev firstSlots : Bool
 firstSlots =
     let own : ℕ → List ℕ = (λ s. toldBy ruleD s (stored (skipped (1 ∷ 4 ∷ 5 ∷ [])) (ownSkips (5 ∷ 6 ∷ 7 ∷ 8 ∷ 9 ∷ 10 ∷ 11 ∷ 12 ∷ 13 ∷ 14 ∷ 15 ∷ 16 ∷ []) ++ (vote 1 1 s 9 ∷ [])))) in
