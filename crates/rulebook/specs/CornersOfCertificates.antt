@@ -188,7 +188,7 @@ large =
     equal (numbers l (ofPacket (bytes 13) ∷ []) ++ numbers kept (ofPacket (bytes 13) ∷ ofPacket (bytes 12) ∷ packet 3 2 7 2 0 ∷ [])) (0 ∷ 7 ∷ 0 ∷ 4 ∷ [])
     && (equal (writeCertificate kept 768 (kindIn 65 13) 2 7 .bytes) (bytes 13) && (headFits kept && rowFits kept 2))
 
--- "A record whose kept certificate the checker refuses, or repeats another, is 17": one certificate in place i of slot 2.
+-- "A record whose kept certificate the checker refuses, or repeats another, is 17": one certificate in place i.
 abbrev placed : ℕ → ℕ → ℕ → ℕ → List Kept
 placed i b x y = set (replicate 13 noKept) i (record { block = b; maska = x; maskb = y })
 
@@ -197,15 +197,17 @@ abbrev thirds : List ℕ → List Kept
 thirds [] = []
 thirds (b ∷ bs) = choose (none b) noKept (record { block = b; maska = 2; maskb = 0 }) ∷ thirds bs
 
+-- The places of slot 2, then the last slot; row 0 keeps neither a mask nor a block.
 abbrev records : Bool
 records =
     let fits : ℕ → ℕ → ℕ → ℕ → Bool = (λ i b x y. certificatesFit stakes 2 (placed i b x y)) in
     let third : List ℕ → Bool = (λ bs. certificatesFit stakes 2 (replicate 4 noKept ++ thirds bs)) in
     let l = ring stakes [] in
+    let stands : ℕ → ℕ → ℕ → ℕ → ℕ → Bool = (λ s i b x y. wellFormed (putCertificates l s (placed i b x y))) in
     all (fits 0 7 6 0 ∷ not (fits 0 7 2 0) ∷ fits 1 7 2 0 ∷ not (fits 1 7 4 0) ∷ not (fits 1 0 2 0) ∷ not (fits 1 7 8 0) ∷ not (fits 1 7 2 4) ∷ fits 2 0 0 2 ∷ not (fits 2 7 2 0) ∷ fits 3 0 2 0
     ∷ not (fits 3 0 2 4) ∷ fits 4 7 2 4 ∷ not (fits 4 7 2 2) ∷ not (fits 4 7 4 1) ∷ not (fits 4 7 0 0) ∷ not (fits 12 7 2 0) ∷ third (7 ∷ 8 ∷ 9 ∷ []) ∷ not (third (7 ∷ 7 ∷ [])) ∷ not (third (7 ∷ 8 ∷ 7 ∷ []))
-    ∷ not (third (7 ∷ 0 ∷ 8 ∷ [])) ∷ not (third (0 ∷ 7 ∷ [])) ∷ wellFormed (putCertificates l 16 (placed 1 7 2 0)) ∷ not (wellFormed (putCertificates l 16 (placed 1 7 4 0)))
-    ∷ not (wellFormed (putCertificates l 0 (placed 1 7 2 0))) ∷ not (wellFormed (putCertificates l 0 (placed 12 7 0 0))) ∷ [])
+    ∷ not (third (7 ∷ 0 ∷ 8 ∷ [])) ∷ not (third (0 ∷ 7 ∷ [])) ∷ stands 16 1 7 2 0 ∷ not (stands 16 1 7 4 0)
+    ∷ not (stands 0 2 0 2 0) ∷ not (stands 0 2 0 0 2) ∷ not (stands 0 12 7 0 0) ∷ [])
 
 cornersOfCertificates : T (all (arms ∷ finals ∷ lowestFinal ∷ finalVote ∷ weightsStay ∷ repeats ∷ tenth ∷ order ∷ writers ∷ proofs ∷ large ∷ records ∷ []))
 unfolding rules

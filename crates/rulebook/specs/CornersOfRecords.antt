@@ -10,7 +10,7 @@ use Rattle.rulebook.specs.declared.Input.{Input}
 use Rattle.rulebook.specs.PaperNumbers.{stepPanel}
 use Rattle.rulebook.specs.Tools.{choose}
 use Rattle.rulebook.specs.Weights.{lastSlot, windows}
-use Rattle.rulebook.specs.Ledger.{Ledger, none, noBlock, blankRow, rowAt, putRow, putCell, putBlocks, putTimedOut, putFinal, putClash}
+use Rattle.rulebook.specs.Ledger.{Ledger, none, noBlock, blankRow, rowAt, putRow, putCell, putBlocks, putTimedOut, putFinal, putClash, fresh}
 use Rattle.rulebook.specs.WellFormed.{blocksFit, headFits, wellFormed, step}
 use Rattle.rulebook.specs.Scripts.{vote, look, cell, recounted, withVotes, ring, equal, all}
 use Rattle.rulebook.specs.Computes.{rules}
@@ -126,18 +126,20 @@ marks =
     ∷ not (wellFormed (withBlocks odd 0 noBlock noBlock noBlock (blockOf 7 0 0))) ∷ [])
 
 -- The record with another header, its cards recounted.
-abbrev headed : ℕ → ℕ → ℕ → ℕ → List ℕ → List ℕ → Bool
-headed c t o g a w =
-    wellFormed (recounted (recounted (record { count = c; total = t; own = o; genesis = g; armed = a; stakes = w; rows = odd .rows }) 1) 16)
+abbrev headed : ℕ → ℕ → ℕ → List ℕ → List ℕ → Bool
+headed c t o a w =
+    wellFormed (recounted (recounted (record { count = c; total = t; own = o; genesis = odd .genesis; armed = a; stakes = w; rows = odd .rows }) 1) 16)
 
--- Count, total, own number, genesis; each armed flag; a stake of 0, one past the count, a total above 2^48.
+-- Count, total, own number; each armed flag; a stake of 0, one past the count, a total above 2^48. Genesis 0 in a fresh record: no kept
+-- block has its parent in slot 0.
 abbrev heads : Bool
 heads =
     let a = odd .armed in
     let w = odd .stakes in
-    all (not (headed 0 0 0 1 a []) ∷ not (headed 3 10 0 1 a (w ++ (0 ∷ []))) ∷ not (headed 1 6 0 1 a w) ∷ not (headed 2 9 0 1 a w) ∷ not (headed 2 11 0 1 a w)
-    ∷ not (headed 2 10 3 1 a w) ∷ not (headed 2 10 0 0 a w) ∷ not (headed 2 10 0 1 (set a 0 2) w) ∷ not (headed 2 10 0 1 (set a 1 2) w) ∷ not (headed 2 10 0 1 (set a 2 2) w)
-    ∷ not (headed 2 10 0 1 (set a 3 2) w) ∷ not (headed 2 6 0 1 a (set w 1 0)) ∷ not (headed 2 10 0 1 a (w ++ (1 ∷ []))) ∷ not (headed 2 (2 ^ 48 + 1) 0 1 a (set (set w 0 (2 ^ 48)) 1 1)) ∷ [])
+    let begun : ℕ → Bool = (λ g. headFits (fresh (6 ∷ 4 ∷ []) 0 g)) in
+    all (not (headed 0 0 0 a []) ∷ not (headed 3 10 0 a (w ++ (0 ∷ []))) ∷ not (headed 1 6 0 a w) ∷ not (headed 2 9 0 a w) ∷ not (headed 2 11 0 a w)
+    ∷ not (headed 2 10 3 a w) ∷ begun 1 ∷ not (begun 0) ∷ not (headed 2 10 0 (set a 0 2) w) ∷ not (headed 2 10 0 (set a 1 2) w) ∷ not (headed 2 10 0 (set a 2 2) w)
+    ∷ not (headed 2 10 0 (set a 3 2) w) ∷ not (headed 2 6 0 a (set w 1 0)) ∷ not (headed 2 10 0 a (w ++ (1 ∷ []))) ∷ not (headed 2 (2 ^ 48 + 1) 0 a (set (set w 0 (2 ^ 48)) 1 1)) ∷ [])
 
 -- A ring of n nodes of stake 1 whose record has p places.
 abbrev sized : ℕ → ℕ → Ledger

@@ -22,11 +22,11 @@ voteOrder =
     ∷ vote 1 1 1 0 ∷ vote 2 1 1 0 ∷ vote 3 1 1 5 ∷ vote 4 1 1 5 ∷ vote 5 1 1 5 ∷ []))
     ((4 ∷ []) ∷ (4 ∷ []) ∷ (3 ∷ []) ∷ (3 ∷ []) ∷ (2 ∷ []) ∷ (6 ∷ []) ∷ (5 ∷ []) ∷ (5 ∷ []) ∷ (5 ∷ []) ∷ (5 ∷ []) ∷ (5 ∷ []) ∷ [])
 
--- 7 before 8, in each place of a cell; the last slot has its places too.
+-- 7 before 8, in each place of a cell, for genesis's number as for any; the last slot has its places too.
 abbrev places : Bool
 places =
-    equals (answers three (vote 1 1 1 7 ∷ vote 1 1 1 7 ∷ vote 1 1 1 8 ∷ vote 3 1 1 0 ∷ vote 3 2 1 0 ∷ vote 3 2 1 0 ∷ vote 1 2 1 7
-    ∷ vote 2 1 1 7 ∷ vote 2 1 1 22 ∷ vote 2 1 1 23 ∷ vote 2 1 1 22 ∷ vote 2 1 1 24
+    equals (answers three (vote 1 1 1 1 ∷ vote 1 1 1 1 ∷ vote 1 1 1 8 ∷ vote 3 1 1 0 ∷ vote 3 2 1 0 ∷ vote 3 2 1 0 ∷ vote 1 2 1 7
+    ∷ vote 2 1 1 1 ∷ vote 2 1 1 22 ∷ vote 2 1 1 23 ∷ vote 2 1 1 22 ∷ vote 2 1 1 24
     ∷ vote 4 1 1 0 ∷ vote 4 1 1 0 ∷ vote 5 1 16 0 ∷ vote 5 1 16 0 ∷ []))
     ((0 ∷ []) ∷ (7 ∷ []) ∷ (8 ∷ []) ∷ (8 ∷ []) ∷ (0 ∷ []) ∷ (7 ∷ []) ∷ (8 ∷ []) ∷ (0 ∷ []) ∷ (0 ∷ []) ∷ (0 ∷ []) ∷ (7 ∷ []) ∷ (8 ∷ [])
     ∷ (0 ∷ []) ∷ (7 ∷ []) ∷ (0 ∷ []) ∷ (7 ∷ []) ∷ [])

@@ -86,10 +86,10 @@ restart =
     equal (told (stored (armed (1 ∷ 4 ∷ 1 ∷ 4 ∷ []) []) (vote 1 1 1 9 ∷ votes 1 (0 ∷ 1 ∷ 2 ∷ []) 3 7 ++ (vote 3 3 3 0 ∷ votes 5 (1 ∷ 2 ∷ 3 ∷ []) 3 0))))
     (5 ∷ 3 ∷ 0 ∷ 3 ∷ 1 ∷ 0 ∷ 3 ∷ 2 ∷ 0 ∷ 3 ∷ 4 ∷ 0 ∷ 2 ∷ 1 ∷ 9 ∷ 6 ∷ 3 ∷ 7 ∷ [])
 
--- Two final blocks, both unreported.
+-- Two final blocks, both unreported, one of them in the last slot.
 abbrev slotsAscend : Bool
 slotsAscend =
-    equal (told (stored (armed (1 ∷ 8 ∷ 1 ∷ []) []) (vote 1 1 3 11 ∷ vote 1 1 2 9 ∷ []))) (6 ∷ 2 ∷ 9 ∷ 6 ∷ 3 ∷ 11 ∷ [])
+    equal (told (stored (armed (1 ∷ 8 ∷ 1 ∷ []) []) (vote 1 1 16 11 ∷ vote 1 1 2 9 ∷ []))) (6 ∷ 2 ∷ 9 ∷ 6 ∷ 16 ∷ 11 ∷ [])
 
 -- ---- slots, windows and parents
 
@@ -108,11 +108,11 @@ windowsOfFour =
     ((1 ∷ 0 ∷ 1 ∷ []) ∷ (0 ∷ 0 ∷ 1 ∷ []) ∷ (0 ∷ 0 ∷ 1 ∷ []) ∷ (0 ∷ 0 ∷ 1 ∷ []) ∷ (1 ∷ 1 ∷ 5 ∷ []) ∷ (0 ∷ 1 ∷ 5 ∷ []) ∷ (0 ∷ 1 ∷ 5 ∷ []) ∷ (0 ∷ 1 ∷ 5 ∷ [])
     ∷ (1 ∷ 2 ∷ 9 ∷ []) ∷ (0 ∷ 2 ∷ 9 ∷ []) ∷ (0 ∷ 2 ∷ 9 ∷ []) ∷ (0 ∷ 2 ∷ 9 ∷ []) ∷ (1 ∷ 3 ∷ 13 ∷ []) ∷ (0 ∷ 3 ∷ 13 ∷ []) ∷ (0 ∷ 3 ∷ 13 ∷ []) ∷ (0 ∷ 3 ∷ 13 ∷ []) ∷ [])
 
--- A node alone: in slots 5, 9 and 13 a block of the slot before is ready; equal numbers in several slots, genesis's among them.
+-- A node alone: the windows of slots 5, 9 and 13 are armed by a block of the slot before; equal numbers in several slots, genesis's among them.
 abbrev nextDoor : Bool
 nextDoor =
-    let before : ℕ → Bool = (λ s. ready (stored alone (vote 1 0 (s - 1) 7 ∷ [])) s (s - 1) 7) in
-    all (before 5 ∷ before 9 ∷ before 13 ∷ [])
+    let before : ℕ → List ℕ = (λ s. toldBy ruleA s (stored alone (vote 1 0 (s - 1) 7 ∷ []))) in
+    equals (before 5 ∷ before 9 ∷ before 13 ∷ []) ((7 ∷ 5 ∷ 0 ∷ []) ∷ (7 ∷ 9 ∷ 0 ∷ []) ∷ (7 ∷ 13 ∷ 0 ∷ []) ∷ [])
     && equals (answers (allArmed alone) (block 1 1 0 1 ∷ block 2 1 1 1 ∷ []))
     ((0 ∷ 1 ∷ 1 ∷ 1 ∷ 5 ∷ 1 ∷ 0 ∷ 6 ∷ 1 ∷ 1 ∷ []) ∷ (0 ∷ 1 ∷ 2 ∷ 1 ∷ 5 ∷ 2 ∷ 0 ∷ 6 ∷ 2 ∷ 1 ∷ []) ∷ [])
 
@@ -138,14 +138,15 @@ farParent =
     equals (told (stored (lastOpen l) (block 13 30 1 7 ∷ [])) ∷ told (stored all (block 13 30 1 7 ∷ [])) ∷ told (stored (lastOpen all) (block 13 30 1 8 ∷ [])) ∷ [])
     ([] ∷ (7 ∷ 1 ∷ 0 ∷ 7 ∷ 5 ∷ 0 ∷ 7 ∷ 9 ∷ 0 ∷ 7 ∷ 13 ∷ 0 ∷ 1 ∷ 13 ∷ 30 ∷ []) ∷ (7 ∷ 13 ∷ 0 ∷ []) ∷ [])
 
--- A block that fallback votes alone name is a parent, in each of a cell's places; a block of the slot itself is none.
+-- A block that fallback votes alone name is a parent, in each of a cell's places; a block of the slot itself, or of one above it, is none.
 abbrev parents : Bool
 parents =
     let arms : Cell → Cell → List ℕ = (λ c d. toldBy ruleA 5 (stored (ring (4 ∷ 3 ∷ 3 ∷ []) (noCell ∷ c ∷ d ∷ [])) (votes 3 (1 ∷ 2 ∷ []) 2 0 ++ (votes 3 (1 ∷ 2 ∷ []) 3 0 ++ votes 3 (1 ∷ 2 ∷ []) 4 0)))) in
+    let l = stored (ring (4 ∷ 6 ∷ []) (noCell ∷ notar 7 ∷ [])) (vote 1 1 2 7 ∷ []) in
     equals (arms (fallback 9) (fallback 9) ∷ arms (cell 0 0 21 9 0 0 0) (cell 0 0 22 9 0 0 0) ∷ arms (cell 0 0 21 22 9 0 0) (cell 0 0 23 24 9 0 0)
     ∷ arms (notar 9) (cell 8 0 21 22 9 0 0) ∷ arms (fallback 9) (fallback 8) ∷ [])
     ((7 ∷ 5 ∷ 0 ∷ []) ∷ (7 ∷ 5 ∷ 0 ∷ []) ∷ (7 ∷ 5 ∷ 0 ∷ []) ∷ (7 ∷ 5 ∷ 0 ∷ []) ∷ [] ∷ [])
-    && not (ready (ring (4 ∷ 6 ∷ []) (noCell ∷ notar 7 ∷ [])) 1 1 7)
+    && all (not (ready l 1 1 7) ∷ not (ready l 1 2 7) ∷ [])
 
 -- Off a window's first slot the parent stands in the slot before, and the own vote there is for it; equal numbers in several slots are
 -- told apart.
@@ -206,13 +207,15 @@ threeCast =
     ((2 ∷ 1 ∷ 24 ∷ []) ∷ [] ∷ (2 ∷ 1 ∷ 21 ∷ 2 ∷ 1 ∷ 22 ∷ 2 ∷ 1 ∷ 23 ∷ []) ∷ [])
     && wellFormed (f .ledger)
 
--- Beside an own final D and E still cast the window's skips, whichever slot lacks an own initial vote.
+-- Beside an own final D and E still cast the window's skips, whichever slot lacks an own initial vote. Asked in slot 6, the last
+-- time: of slots 1 to 9 slot 5 alone lacks one.
 abbrev skipsBesideFinal : Bool
 skipsBesideFinal =
     let lacking : (State → ℕ → State) → Cell → Cell → List ℕ → List ℕ = (λ rule c d ss. toldBy rule 1 (stored (armed (1 ∷ 4 ∷ 5 ∷ []) (c ∷ d ∷ noCell ∷ [])) (ownSkips ss))) in
     equals (lacking ruleD (cell 0 1 0 0 0 0 1) (notar 8) (2 ∷ 3 ∷ []) ∷ lacking ruleD (notarFinal 7) (notar 8) (2 ∷ 3 ∷ []) ∷ lacking ruleE (notarFinal 7) skip (2 ∷ 3 ∷ [])
-    ∷ lacking ruleE (notarFinal 7) skip (2 ∷ 4 ∷ []) ∷ lacking ruleE (notarFinal 7) skip (3 ∷ 4 ∷ []) ∷ [])
-    ((3 ∷ 4 ∷ 0 ∷ []) ∷ (3 ∷ 4 ∷ 0 ∷ []) ∷ (3 ∷ 4 ∷ 0 ∷ []) ∷ (3 ∷ 3 ∷ 0 ∷ []) ∷ (3 ∷ 2 ∷ 0 ∷ []) ∷ [])
+    ∷ lacking ruleE (notarFinal 7) skip (2 ∷ 4 ∷ []) ∷ lacking ruleE (notarFinal 7) skip (3 ∷ 4 ∷ [])
+    ∷ toldBy ruleE 6 (stored (armed (1 ∷ 4 ∷ 5 ∷ []) []) (vote 1 0 6 7 ∷ vote 5 0 6 0 ∷ vote 3 1 6 0 ∷ ownSkips (1 ∷ 2 ∷ 3 ∷ 4 ∷ 7 ∷ 8 ∷ 9 ∷ []))) ∷ [])
+    ((3 ∷ 4 ∷ 0 ∷ []) ∷ (3 ∷ 4 ∷ 0 ∷ []) ∷ (3 ∷ 4 ∷ 0 ∷ []) ∷ (3 ∷ 3 ∷ 0 ∷ []) ∷ (3 ∷ 2 ∷ 0 ∷ []) ∷ (3 ∷ 5 ∷ 0 ∷ []) ∷ [])
 
 -- E by two fifths, not at one less; initial votes alone weigh, also in the largest; after an own notar-fallback, not beside an own
 -- skip, a second time or beside an own final.
