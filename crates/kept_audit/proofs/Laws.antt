@@ -1,13 +1,13 @@
 -- The kinds of places, the table of a record's stakes, and the 17 test of kept certificates as one loop over the places. Assumes nothing.
 use mathlib.Core.Path.{_≡_, refl, sym, ap, _∙_, subst}
-use mathlib.Core.Bool.{Bool, true, false, not, _&&_}
+use mathlib.Core.Bool.{Bool, true, false, not, _&&_, _||_}
 use mathlib.Core.List.{List}
-use Prim.Native.Nat.{ℕ, zero, suc, _*_, _≤_, _<_}
+use Prim.Native.Nat.{ℕ, zero, suc, _+_, _*_, _≤_, _<_}
 use native.Mathlib.Omega.{arith}
 use lib.ListN.{length, getD, take}
 use lib.Seq.{getD-take, length-take-le}
-use lib.Dec.{eqb, leb}
-use borrow.Author.Tests.{le-leb}
+use lib.Dec.{eqb, leb, ltb}
+use borrow.Author.Tests.{ltb-true, ltb-false, not-true, le-leb, lt-leb, eq-eqb, ne-eqb}
 use Rattle.rulebook.specs.declared.CertificateKind.{CertificateKind}
 use Rattle.rulebook.specs.declared.CertificateKind.the-variants as certificate
 use Rattle.rulebook.specs.Certificates.{Kept}
@@ -19,7 +19,7 @@ use Rattle.rulebook.specs.Ledger.{Ledger, none, noKept, places, tableOf, isKept
 use Rattle.rulebook.specs.Pool.{placeKind, sameKind}
 use Rattle.rulebook.specs.Checker.{judgeKind}
 use Rattle.rulebook.specs.WellFormed.{isFine, keptIn, inTurn, certificateFits, certificatesFit}
-use Rattle.rulebook.proofs.ToolLaws.{given-on, given-off, both-and, sum-same}
+use Rattle.rulebook.proofs.ToolLaws.{given-on, given-off, and-both, both-and, or-left, or-right, or-cases, by-test, true-not-false, same-test, sum-same, all-more, all-at, all-each, all-same}
 use Rattle.rulebook.proofs.KeptPlaceLaws.{each-index, turnAt, apart-index}
 use Rattle.record.specs.Layout.{maskWords, ledgerOf}
 use Rattle.record.specs.Tabled.{Tabled}
@@ -28,7 +28,7 @@ use Rattle.record.proofs.BlockPlaces.{all-and}
 use Rattle.stakes.specs.declared.StakeTable.{StakeTable}
 use Rattle.stakes.specs.Table.{Fit}
 use Rattle.certificates.specs.Told.{Keepable, headed}
-use Rattle.kept_audit.specs.Judging.{Judging}
+use Rattle.kept_audit.specs.Judging.{Judging, filledTo}
 
 -- ---- the kinds of places
 
@@ -126,27 +126,85 @@ module _ (stakes : List ℕ) (s n : ℕ) (q : Kept) where
   unfolding certificateFits
   fits-kept e = sym (given-on (isKept q) (none (q .block)) (λ _. isFine (judgeKind stakes (placeKind n) (keptIn s q))) e)
 
-module _ (qs : List Kept) (m n : ℕ) (h : m < n) where
-  abbrev first : Kept
-  first = getD qs m noKept
+-- ---- a place behind others
 
-  abbrev second : Kept
-  second = getD qs n noKept
+module _ (qs : List Kept) (n : ℕ) where
+  abbrev kept : ℕ → Bool
+  kept m = isKept (getD qs m noKept)
 
-  abbrev shares : Bool
-  shares = isKept second && sameKind (placeKind m) (placeKind n)
+  abbrev same : ℕ → Bool
+  same m = eqb (getD qs m noKept .block) (getD qs n noKept .block)
 
-  shares-is : (k : Bool) → k ≡ isKept second → (k && leb 4 m) ≡ shares
-  shares-is k e = λ i. e i && shared-kind m n h i
+  -- Of the first m places, those of kind 3 are for other blocks than place n.
+  abbrev pub apartTo : ℕ → Bool
+  apartTo m = allTo m (λ k. not (leb 4 k) || not (same k))
 
-  pub turn-free : (k : Bool) → k ≡ isKept second → (k && leb 4 m) ≡ false → true ≡ turnAt qs m n
-  turn-free k e f = sym (given-off shares true (λ _. inTurn first second) (sym (shares-is k e) ∙ f))
+  abbrev behind : Bool
+  behind = allTo n (λ m. turnAt qs m n)
 
-  pub turn-tested : (k x : Bool) (b d : ℕ) → k ≡ isKept second → (k && leb 4 m) ≡ true → x ≡ isKept first → b ≡ first .block → d ≡ second .block
-      → (x && not (eqb b d)) ≡ turnAt qs m n
+  shares-is : (m : ℕ) → m < n → (kept n && leb 4 m) ≡ (kept n && sameKind (placeKind m) (placeKind n))
+  shares-is m h = ap (λ (t : Bool). kept n && t) (shared-kind m n h)
+
+  turn-free : (m : ℕ) → m < n → (kept n && leb 4 m) ≡ false → turnAt qs m n ≡ true
+  turn-free m h f = given-off _ true (λ _. inTurn (getD qs m noKept) (getD qs n noKept)) (sym (shares-is m h) ∙ f)
+
+  turn-tested : (m : ℕ) → m < n → (kept n && leb 4 m) ≡ true → turnAt qs m n ≡ (kept m && not (same m))
   unfolding inTurn
-  turn-tested k x b d e f kept eb ed =
-      (λ i. kept i && not (eqb (eb i) (ed i))) ∙ sym (given-on shares true (λ _. inTurn first second) (sym (shares-is k e) ∙ f))
+  turn-tested m h f = given-on _ true (λ _. inTurn (getD qs m noKept) (getD qs n noKept)) (sym (shares-is m h) ∙ f)
+
+  -- A free place is behind all, and so is one up to the first of kind 3.
+  pub behind-free : (k : Bool) → k ≡ kept n → (k && ltb 4 n) ≡ false → true ≡ behind
+  behind-free k e f =
+      sym (all-each n (λ m. turnAt qs m n) (λ m h. turn-free m h (subst (λ (t : Bool). (t && leb 4 m) ≡ false) e (go k m h f))))
+    where
+      go : (k : Bool) (m : ℕ) → m < n → (k && ltb 4 n) ≡ false → (k && leb 4 m) ≡ false
+      go true m h f = lt-leb 4 m (omega (arith, ltb-false 4 n f))
+      go false m h f = refl
+
+  pub past-first : (k : Bool) → k ≡ kept n → (k && ltb 4 n) ≡ true → (kept n ≡ true) × (4 < n)
+  past-first k e f = let p = and-both k (ltb 4 n) f in (sym e ∙ p .0, ltb-true 4 n (p .1))
+
+  -- Else those of kind 3 before it are filled, and for other blocks.
+  behind-is : kept n ≡ true → behind ≡ (filledTo qs n && apartTo n)
+  behind-is e =
+      all-same n (λ m. turnAt qs m n) (λ m. (not (leb 4 m) || kept m) && (not (leb 4 m) || not (same m)))
+      (λ m h. by-test (leb 4 m)
+      (λ t. turn-tested m h (both-and (kept n) (leb 4 m) e t) ∙ ap (λ (x : Bool). (not x || kept m) && (not x || not (same m))) (sym t))
+      (λ t. turn-free m h (ap (λ (x : Bool). x && leb 4 m) e ∙ t) ∙ ap (λ (x : Bool). (not x || kept m) && (not x || not (same m))) (sym t)))
+      ∙ sym (all-and n (λ m. not (leb 4 m) || kept m) (λ m. not (leb 4 m) || not (same m)))
+
+  pub apart-none : apartTo 4 ≡ true
+  apart-none = all-each 4 (λ k. not (leb 4 k) || not (same k)) (λ k h. or-left (not (leb 4 k)) (not (same k)) (ap not (lt-leb 4 k h)))
+
+  pub apart-more : (m x y : ℕ) → apartTo m ≡ true → x ≡ getD qs m noKept .block → y ≡ getD qs n noKept .block → (x ≡ y → ⊥) → apartTo (m + 1) ≡ true
+  apart-more m x y e ex ey f =
+      let other : same m ≡ false = (λ i. eqb (sym ex i) (sym ey i)) ∙ ne-eqb x y f in
+      all-more m _ ∙ both-and (apartTo m) _ e (or-right (not (leb 4 m)) (not (same m)) (ap not other))
+
+  -- One for its block is enough to fail.
+  pub behind-repeat : (m x y : ℕ) → kept n ≡ true → 4 ≤ m → m < n → x ≡ getD qs m noKept .block → y ≡ getD qs n noKept .block → x ≡ y → false ≡ behind
+  behind-repeat m x y e l h ex ey f =
+      by-test behind
+      (λ t. true-not-false (same m) (eq-eqb _ _ (sym ex ∙ f ∙ ey)) (not-true (same m) (and-both (kept m) (not (same m))
+      (sym (turn-tested m h (both-and (kept n) (leb 4 m) e (le-leb 4 m l))) ∙ all-at n m (λ m. turnAt qs m n) t h) .1)))
+      (λ t. sym t)
+
+  pub behind-apart : (filled : Bool) → filled ≡ filledTo qs n → kept n ≡ true → apartTo n ≡ true → filled ≡ behind
+  behind-apart filled e k a = e ∙ and-true (filledTo qs n) ∙ ap (λ (t : Bool). filledTo qs n && t) (sym a) ∙ sym (behind-is k)
+    where
+      and-true : (t : Bool) → t ≡ (t && true)
+      and-true true = refl
+      and-true false = refl
+
+  -- A place of kind 3 behind all tells whether those up to it are filled.
+  pub filled-more : (k : Bool) → k ≡ kept n → behind ≡ true → 4 < n + 1 → k ≡ filledTo qs (n + 1)
+  filled-more k e b h =
+      same-test k (filledTo qs (n + 1))
+      (λ t.
+      let f = sym e ∙ t in
+      all-more n _ ∙ both-and (filledTo qs n) _ (and-both (filledTo qs n) (apartTo n) (sym (behind-is f) ∙ b) .0) (or-right (not (leb 4 n)) (kept n) f))
+      (λ t. e ∙ or-cases (not (leb 4 n)) (kept n) (all-at (n + 1) n (λ m. not (leb 4 m) || kept m) t (omega arith))
+      (λ f. true-not-false (leb 4 n) (le-leb 4 n (omega arith)) (not-true (leb 4 n) f)) (λ f. f))
 
 -- ---- all places
 
@@ -160,3 +218,8 @@ module _ (stakes : List ℕ) (s : ℕ) (qs : List Kept) where
   all-fit =
       (λ i. each-index (certificateFits stakes s) qs i && apart-index qs i)
       ∙ all-and (length qs) (λ n. certificateFits stakes s n (getD qs n noKept)) (λ n. allTo n (λ m. turnAt qs m n))
+
+  -- One that fails a part of its test is enough to fail.
+  pub unfit : (n : ℕ) → n < length qs → (part : Bool) → (placeFits n ≡ true → part ≡ true) → part ≡ false → false ≡ certificatesFit stakes s qs
+  unfit n h part f e =
+      by-test (certificatesFit stakes s qs) (λ t. true-not-false part (f (all-at (length qs) n placeFits (sym all-fit ∙ t) h)) e) (λ t. sym t)

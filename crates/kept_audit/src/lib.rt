@@ -6,7 +6,7 @@ ghost use Rattle.rulebook.specs.Ledger.{tableOf, certificatesAt, keptAt};
 ghost use Rattle.rulebook.specs.Pool.{placeKind};
 ghost use Rattle.rulebook.specs.WellFormed.{certificateFits, certificatesFit};
 ghost use Rattle.rulebook.proofs.KeptPlaceLaws.{turnAt};
-ghost use Rattle.record.specs.Layout.{InKept, ledgerOf};
+ghost use Rattle.record.specs.Layout.{ledgerOf};
 ghost use Rattle.kept_audit.specs.Judging.{Judging, JudgingPlace, InTurn};
 use certificates::accepts;
 use kept_certificates::block_at;
@@ -42,12 +42,12 @@ fn place_kind(n: usize) -> CertificateKind
 }
 
 // What one of a slot's places keeps, judged as the kind of the place; where nothing is kept its block is 0.
-fn certificate_fits(rec: &[u64], t: StakeTable, s: Slot, n: usize) -> bool
-    requires { ⌜ JudgingPlace (now rec) t (s .0) n ⌝ }
+fn certificate_fits(rec: &[u64], t: StakeTable, s: Slot, n: usize, kept: bool) -> bool
+    requires { ⌜ JudgingPlace (now rec) t (s .0) n kept ⌝ }
     ensures { λ r. ⌜ r ≡ certificateFits (tableOf (ledgerOf (now (rec .entry)))) (s .0) n (keptAt (ledgerOf (now (rec .entry))) (s .0) n) ⌝ }
 {
     let block = block_at(rec, s, n);
-    if !is_kept(rec, s, n) {
+    if !kept {
         return block == 0;
     }
     let stakes = stakes_of(rec);
@@ -56,35 +56,25 @@ fn certificate_fits(rec: &[u64], t: StakeTable, s: Slot, n: usize) -> bool
     accepts(stakes, t, place_kind(n), s, block, a, b)
 }
 
-// Whether place n is in turn behind place m: only places of kind 3 share a kind with one before them.
-fn is_in_turn(rec: &[u64], s: Slot, m: usize, n: usize) -> bool
-    requires { ⌜ InTurn (now rec) (s .0) m n ⌝ }
-    ensures { λ r. ⌜ r ≡ turnAt (certificatesAt (ledgerOf (now (rec .entry))) (s .0)) m n ⌝ }
-{
-    let kept = is_kept(rec, s, n);
-    if !(kept & (4 <= m)) {
-        return true;
-    }
-    let before = is_kept(rec, s, m);
-    let first = block_at(rec, s, m);
-    let second = block_at(rec, s, n);
-    before & (first != second)
-}
-
-// Whether a place is in turn behind every place before it.
-fn is_behind(rec: &[u64], s: Slot, n: usize) -> bool
-    requires { ⌜ InKept (now rec) (s .0) n ⌝ }
+// Whether a place is in turn behind every place before it: only those of kind 3, from place 4 on, share a kind with one before them.
+fn is_behind(rec: &[u64], s: Slot, n: usize, kept: bool, filled: bool) -> bool
+    requires { ⌜ InTurn (now rec) (s .0) n kept filled ⌝ }
     ensures { λ r. ⌜ r ≡ allTo n (λ m. turnAt (certificatesAt (ledgerOf (now (rec .entry))) (s .0)) m n) ⌝ }
 {
-    let mut ok = true;
-    for m in 0..n {
-        let here = is_in_turn(rec, s, m, n);
-        ok = ok & here;
+    if !(kept & (4 < n)) {
+        return true;
     }
-    ok
+    let block = block_at(rec, s, n);
+    for m in 4..n {
+        if block_at(rec, s, m) == block {
+            return false;
+        }
+    }
+    filled
 }
 
-// Whether a slot's kept certificates fit. Where nothing is kept no certificate is judged.
+// Whether a slot's kept certificates fit. Where nothing is kept no certificate is judged. Each place is asked once whether it keeps
+// one: of places in turn the last tells whether all of kind 3 so far do.
 pub fn certificates_fit(rec: &[u64], s: Slot) -> bool
     requires { ⌜ Judging (now rec) (s .0) ⌝ }
     ensures { λ r. ⌜ r ≡ certificatesFit (tableOf (ledgerOf (now (rec .entry)))) (s .0) (certificatesAt (ledgerOf (now (rec .entry))) (s .0)) ⌝ }
@@ -96,11 +86,16 @@ pub fn certificates_fit(rec: &[u64], s: Slot) -> bool
         count: count(rec),
         total: total(rec),
     };
-    let mut ok = true;
+    let mut filled = true;
     for n in 0..MOST_CERTIFICATES {
-        let here = certificate_fits(rec, t, s, n);
-        let apart = is_behind(rec, s, n);
-        ok = ok & (here & apart);
+        let kept = is_kept(rec, s, n);
+        if !is_behind(rec, s, n, kept, filled) {
+            return false;
+        }
+        if !certificate_fits(rec, t, s, n, kept) {
+            return false;
+        }
+        filled = kept;
     }
-    ok
+    true
 }

@@ -3,10 +3,7 @@ use mathlib.Core.Path.{_≡_, refl, sym, ap, _∙_}
 use mathlib.Core.Bool.{Bool, true, false, not}
 use mathlib.Core.List.{List, [], _∷_}
 use Prim.Native.Nat.{ℕ}
-use native.Mathlib.Omega.{arith}
 use lib.ListN.{length, replicate}
-use lib.Dec.{eqb}
-use borrow.Author.Tests.{eqb-true}
 use Rattle.rulebook.specs.declared.ReadAnswer.{ReadAnswer}
 use Rattle.rulebook.specs.declared.ReadAnswer.the-variants as read
 use Rattle.rulebook.specs.declared.Reading.{Reading}
@@ -14,15 +11,14 @@ use Rattle.rulebook.specs.declared.Reading.the-variants as reading
 use Rattle.rulebook.specs.declared.Refusal.the-variants as refusal
 use Rattle.rulebook.specs.declared.Verdict.{Verdict}
 use Rattle.rulebook.specs.declared.Verdict.the-variants.{Fine, Refused}
-use Rattle.rulebook.specs.declared.VoteKind.{VoteKind}
-use Rattle.rulebook.specs.declared.VoteKind.the-variants as vote
-use Rattle.rulebook.specs.Tools.{choose, given}
+use Rattle.rulebook.specs.Tools.{given}
 use Rattle.rulebook.specs.PaperNumbers.{voteNumber, voteKind, verdictNumber, writePanel, readPanel, refusalNumber}
 use Rattle.rulebook.specs.Weights.{countFits}
-use Rattle.rulebook.specs.Inputs.{refuseIf, isOther}
+use Rattle.rulebook.specs.Inputs.{refuseIf}
 use Rattle.rulebook.specs.Packets.{numberAt}
 use Rattle.rulebook.specs.Messages.{voteOf, voteTests, asRead, readOn, readTo, readVote, messageBytes, messageVerdict, writeVote}
 use Rattle.rulebook.proofs.RuleLaws.{refuse-fine}
+use Rattle.messages.proofs.Promises.{kind-number}
 use Rattle.promises.specs.Panels.{besideIt, shown, nothingAfter, numberThen, fourThen, readJudged, fourOf, MessageShown, ReadShown}
 use Rattle.promises.proofs.Shown.{wrote-shown}
 
@@ -33,27 +29,6 @@ unfolding writeVote
 message-shown count v buffer a after h = ap writePanel (h .answered) ∙ wrote-shown (messageVerdict count (length buffer) v) (messageBytes v)
 
 -- ---- the reader
-
--- A number that stands for this kind, or for one of the rest.
-kind-picked : (n j : ℕ) (k rest : VoteKind) → voteNumber k ≡ j → (isOther rest ≡ false → voteNumber rest ≡ n)
-    → isOther (choose (eqb n j) k rest) ≡ false → voteNumber (choose (eqb n j) k rest) ≡ n
-unfolding choose
-kind-picked n j k rest e h o = go (eqb n j) refl o
-  where
-    go : (t : Bool) → eqb n j ≡ t → isOther (choose t k rest) ≡ false → voteNumber (choose t k rest) ≡ n
-    go true p o = e ∙ sym (eqb-true n j p)
-    go false p o = h o
-
-no-other : {X : Type 0} → true ≡ false → X
-no-other e = let z : _≡_ {A = ℕ} 0 1 = cc in absurd (omega arith)
-
--- A kind that passes has the number that it was read from.
-kind-told : (n : ℕ) → isOther (voteKind n) ≡ false → voteNumber (voteKind n) ≡ n
-unfolding voteKind voteNumber isOther
-kind-told n =
-    kind-picked n 1 vote.Notar _ refl
-    (kind-picked n 2 vote.NotarFallback _ refl
-    (kind-picked n 3 vote.Skip _ refl (kind-picked n 4 vote.SkipFallback _ refl (kind-picked n 5 vote.Final vote.Other refl no-other))))
 
 -- The vote of four numbers, judged.
 vote-shown : (v : Verdict) (kind node slot block : ℕ) → (v ≡ Fine → voteNumber (voteKind kind) ≡ kind)
@@ -101,4 +76,4 @@ read-shown count bytes a e =
     (λ kind p. number-shown (numberAt bytes p) _ _ _
     (λ node q. number-shown (numberAt bytes q) _ _ _
     (λ slot r. number-shown (numberAt bytes r) _ _ _
-    (λ block next. vote-shown _ kind node slot block (λ f. kind-told kind (refuse-fine _ _ _ f .0)))))))
+    (λ block next. vote-shown _ kind node slot block (λ f. kind-number kind (refuse-fine _ _ _ f .0)))))))
