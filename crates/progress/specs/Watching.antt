@@ -1,4 +1,4 @@
--- Watchers beside a ring that goes on: a watcher that has the votes holds what honest nodes hold, and arms the same windows.
+-- Watchers beside a ring that goes on: a watcher that has the votes holds the certificate that decides each slot, and has armed its window.
 use mathlib.Core.Path.{_≡_}
 use mathlib.Core.Bool.{not}
 use mathlib.Core.List.{List}

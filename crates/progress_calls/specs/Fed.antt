@@ -80,7 +80,7 @@ CodeAnnouncedIsKept =
 -- ---- the ring
 
 -- A vote that an honest node's outbox told, and that was fed to another honest node with a step or in a tray at any moment, is counted in that
--- node's words, whatever that call was answered with.
+-- node's words, whatever the vote itself was answered with.
 abbrev pub CodeFedIsEnough : Type 0
 CodeFedIsEnough =
     (stakes : List ℕ) (genesis : ℕ → ℕ) (honest : Test) (lives : ℕ → Life) → CodeRing stakes genesis honest lives
