@@ -1,9 +1,9 @@
 -- Where no kept certificate's block holds kind 3, votes alone decide, and no block holds it where too few nodes name any.
 -- Assumes nothing.
-use mathlib.Core.Path.{_≡_, refl, sym, ap, _∙_}
+use mathlib.Core.Path.{_≡_, refl, sym, ap, _∙_, subst}
 use mathlib.Core.Bool.{Bool, true, false, not, _&&_, _||_}
 use mathlib.Core.List.{List, [], _∷_}
-use Prim.Native.Nat.{ℕ, zero, suc, _+_, _≤_, _<_, _^_}
+use Prim.Native.Nat.{ℕ, zero, suc, _+_, _-_, _≤_, _<_}
 use native.Mathlib.Omega.{arith}
 use native.Mathlib.Numerals.{add-one}
 use lib.ListN.{length, getD}
@@ -14,40 +14,91 @@ use Rattle.rulebook.specs.declared.Who.the-variants as who
 use Rattle.rulebook.specs.declared.CertificateKind.{CertificateKind}
 use Rattle.rulebook.specs.declared.CertificateKind.the-variants as certificate
 use Rattle.rulebook.specs.Tools.{someTo, anyOf, part, given}
-use Rattle.rulebook.specs.Weights.{reaches, weight, stakeIn}
+use Rattle.rulebook.specs.Weights.{reaches, missing, weight, stakeIn, totalTo}
 use Rattle.rulebook.specs.Certificates.{Kept}
 use Rattle.rulebook.specs.Ledger.{Ledger, none, noKept, isKept, cellAt, certificatesAt}
 use Rattle.rulebook.specs.Pool.{counts, hasFallback, weigh, weighs, reached, placeKind, servesAs, someKept, isFor, keptAs, held, namesTo, names, signersOf, fifthsOf}
-use Rattle.rulebook.proofs.ToolLaws.{by-test, true-not-false, and-both, given-both, or-cases, or-left, or-right}
-use Rattle.rulebook.proofs.WeightLaws.{reaches-more, weight-none, weight-more, weight-room, weight-mono}
+use Rattle.rulebook.proofs.ToolLaws.{by-test, true-not-false, and-both, given-both, or-cases, or-left, or-right, part-on, part-off, part-le, sum-none, sum-more, sum-mono}
+use Rattle.rulebook.proofs.WeightLaws.{reaches-more, missing-enough, missing-least, missing-within, weight-none, weight-more, weight-mono}
 use Rattle.record.specs.Tabled.{Tabled}
 use Rattle.record.proofs.BlockPlaces.{some-first as first-place}
 use Rattle.pool.specs.Weighing.{namedHolds}
 use Rattle.pool.proofs.HeldLaws.{reached-held}
 use Rattle.pool.proofs.NameLaws.{holds-some}
-use Rattle.parents.specs.Naming.{someNamed, someKeptHolds, namesSome, namedWeight}
+use Rattle.parents.specs.Naming.{someNamed, someKeptHolds, namesSome, namedWeight, Left}
 use Rattle.parents.proofs.AnyLaws.{any-start, any-next, any-end}
 
--- ---- the loop over those that name some block
+-- ---- the loop over those that name no block
 
 -- The stake of those of the first n nodes that name some block.
-abbrev pub namedTo : Ledger → ℕ → ℕ → ℕ
+abbrev namedTo : Ledger → ℕ → ℕ → ℕ
 namedTo l s n = weight (l .stakes) n (λ i. namesSome (cellAt l s i))
 
-pub named-none : (l : Ledger) (s : ℕ) → namedTo l s 0 ≡ 0
-named-none l s = weight-none (l .stakes) 0 (λ i. namesSome (cellAt l s i)) (λ i h. absurd (omega arith))
+total-more : (ws : List ℕ) (n : ℕ) → totalTo ws (n + 1) ≡ totalTo ws n + stakeIn ws n
+unfolding totalTo
+total-more ws n = sum-more n (stakeIn ws)
 
-pub named-done : (l : Ledger) (s n : ℕ) → n ≡ l .count → namedTo l s n ≡ namedWeight l s
-unfolding namedWeight
-named-done l s n e = ap (namedTo l s) e
+total-mono : (ws : List ℕ) (n m : ℕ) → n ≤ m → totalTo ws n ≤ totalTo ws m
+unfolding totalTo
+total-mono ws n m h = sum-mono n m (stakeIn ws) h
 
-pub named-more : (l : Ledger) (s n : ℕ) (c : Cell) (r b : Bool) → c ≡ cellAt l s n → r ≡ namesSome c → r ≡ b
-    → namedTo l s (n + 1) ≡ namedTo l s n + part b (stakeIn (l .stakes) n)
-named-more l s n c r b e d f = weight-more (l .stakes) n (λ i. namesSome (cellAt l s i)) b (ap namesSome (sym e) ∙ sym d ∙ f)
+-- no more can be named behind n than all have
+behind : (ws : List ℕ) (p : ℕ → Bool) (n k : ℕ) → weight ws (n + k) p + totalTo ws n ≤ weight ws n p + totalTo ws (n + k)
+behind ws p n zero = let z : n + 0 ≡ n = omega arith in rw z (omega arith)
+behind ws p n (suc k) =
+    let z : n + suc k ≡ (n + k) + 1 = omega arith in
+    rw z (omega (arith, behind ws p n k, total-more ws (n + k), weight-more ws (n + k) p (p (n + k)) refl, part-le (p (n + k)) (stakeIn ws (n + k))))
 
--- within 64 bits
-pub named-room : {l : Ledger} → Tabled l → (s n : ℕ) → n < l .count → namedTo l s n + stakeIn (l .stakes) n ≤ 2 ^ 48
-named-room {l} k s n h = omega (arith, weight-room (l .stakes) (l .count) n (λ i. namesSome (cellAt l s i)) h, k .sum, k .light)
+-- the total reaches
+pub needed-within : {l : Ledger} → Tabled l → (t needed : ℕ) → t ≡ l .total → needed ≡ missing 3 t 0 → needed ≤ t
+needed-within k t needed e m = omega (arith, m, missing-within 3 t 0 (omega arith))
+
+module _ {l : Ledger} (k : Tabled l) (s : ℕ) where
+  pub left-begun : (t : ℕ) → t ≡ l .total → Left l s 0 t
+  unfolding totalTo
+  left-begun t e = record { few = omega arith; is = omega (arith, e, sum-none (stakeIn (l .stakes)), weight-none (l .stakes) 0 (λ i. namesSome (cellAt l s i)) (λ i h. absurd (omega arith))) }
+
+  module _ (n left : ℕ) (h : Left l s n left) (few : n < l .count) (c : Cell) (r : Bool) (e : c ≡ cellAt l s n) (d : r ≡ namesSome c) where
+    more : (b : Bool) → r ≡ b → namedTo l s (n + 1) ≡ namedTo l s n + part b (stakeIn (l .stakes) n)
+    more b f = weight-more (l .stakes) n (λ i. namesSome (cellAt l s i)) b (ap namesSome (sym e) ∙ sym d ∙ f)
+
+    pub left-named : r ≡ true → Left l s (n + 1) left
+    left-named f =
+        record { few = omega arith; is = omega (arith, h .is, more true f, part-on true (stakeIn (l .stakes) n) refl, total-more (l .stakes) n) }
+
+    pub left-room : (w : ℕ) → w ≡ stakeIn (l .stakes) n → w ≤ left
+    left-room w q = omega (arith, h .is, q, k .sum, total-more (l .stakes) n, total-mono (l .stakes) (n + 1) (l .count) (omega arith))
+
+    pub left-other : (w : ℕ) → w ≡ stakeIn (l .stakes) n → r ≡ false → Left l s (n + 1) (left - w)
+    left-other w q f =
+        record { few = omega arith; is = omega (arith, h .is, q, left-room w q, more false f, part-off false (stakeIn (l .stakes) n) refl, total-more (l .stakes) n) }
+
+  -- too little is left
+  pub left-short : (n left needed t : ℕ) → Left l s n left → t ≡ l .total → needed ≡ missing 3 t 0 → left < needed → false ≡ reaches 3 (l .total) (namedWeight l s)
+  unfolding namedWeight
+  left-short n left needed t h et en less =
+      let b = behind (l .stakes) (λ i. namesSome (cellAt l s i)) n (l .count - n) in
+      let z : n + (l .count - n) ≡ l .count = omega (arith, h .few) in
+      let m : namedTo l s (l .count) ≤ left = omega (arith, subst (λ (x : ℕ). namedTo l s x + totalTo (l .stakes) n ≤ namedTo l s n + totalTo (l .stakes) x) z b, h .is, k .sum) in
+      by-test (reaches 3 (l .total) (namedTo l s (l .count)))
+      (λ u. true-not-false (reaches 3 (l .total) left) (reaches-more 3 (l .total) (namedTo l s (l .count)) left m u) short)
+      (λ u. sym u)
+    where
+      zero-add : 0 + left ≡ left
+      zero-add = omega arith
+
+      short : reaches 3 (l .total) left ≡ false
+      short = ap (reaches 3 (l .total)) (sym zero-add) ∙ missing-least 3 (l .total) 0 left (omega (arith, less, en, ap (λ (x : ℕ). missing 3 x 0) et))
+
+  -- enough is left of all
+  pub left-enough : (n left needed t : ℕ) → Left l s n left → n ≡ l .count → t ≡ l .total → needed ≡ missing 3 t 0 → needed ≤ left → true ≡ reaches 3 (l .total) (namedWeight l s)
+  unfolding namedWeight
+  left-enough n left needed t h last et en less =
+      let same : left ≡ namedTo l s (l .count) = omega (arith, h .is, k .sum, ap (totalTo (l .stakes)) last, ap (namedTo l s) last) in
+      sym (reaches-more 3 (l .total) (missing 3 (l .total) 0) (namedTo l s (l .count)) (omega (arith, same, less, en, ap (λ (x : ℕ). missing 3 x 0) et)) (ap (reaches 3 (l .total)) zero-add ∙ missing-enough 3 (l .total) 0))
+    where
+      zero-add : missing 3 (l .total) 0 ≡ 0 + missing 3 (l .total) 0
+      zero-add = omega arith
 
 -- ---- too few
 

@@ -2,12 +2,12 @@
 use mathlib.Core.Path.{_≡_}
 use mathlib.Core.Bool.{Bool, false, not, _||_}
 use mathlib.Core.List.{List}
-use Prim.Native.Nat.{ℕ, _≤_, _<_}
+use Prim.Native.Nat.{ℕ, _+_, _≤_, _<_}
 use lib.ListN.{length, getD}
 use Rattle.rulebook.specs.declared.Cell.{Cell}
 use Rattle.rulebook.specs.declared.CertificateKind.the-variants as certificate
 use Rattle.rulebook.specs.Tools.{someTo, anyOf}
-use Rattle.rulebook.specs.Weights.{weight}
+use Rattle.rulebook.specs.Weights.{weight, totalTo}
 use Rattle.rulebook.specs.Certificates.{Kept}
 use Rattle.rulebook.specs.Ledger.{Ledger, none, noKept, mostCertificates, places, cellAt, certificatesAt}
 use Rattle.rulebook.specs.Pool.{held, namesTo}
@@ -48,6 +48,17 @@ namesSome c = not (none (c .notar)) || (not (none (c .fallback1)) || (not (none 
 -- The stake in a slot of the nodes that name some block.
 unfoldable pub namedWeight : Ledger → ℕ → ℕ
 namedWeight l s = weight (l .stakes) (l .count) (λ n. namesSome (cellAt l s n))
+
+-- n nodes are looked at, and what is left of the total is the stake of those of them that name some block and of all behind them.
+pub record Left (l : Ledger) (s n left : ℕ) : Type 0 where
+  pub few : n ≤ l .count
+  pub is : left + totalTo (l .stakes) n ≡ weight (l .stakes) n (λ i. namesSome (cellAt l s i)) + l .total
+
+-- Node n is the next to be looked at.
+pub record Leaving (ws : List ℕ) (s n left : ℕ) : Type 0 where
+  pub weighing : Weighing ws s
+  pub node : n < ledgerOf ws .count
+  pub begun : Left (ledgerOf ws) s n left
 
 -- The slot's certificates can be asked for, and no block that a kept one names holds kind 3.
 pub record Unkept (ws : List ℕ) (s : ℕ) : Type 0 where

@@ -2,6 +2,7 @@
 // and its kept certificates name.
 ghost use mathlib.Core.Path.{_≡_};
 ghost use Rattle.rulebook.specs.declared.CertificateKind.the-variants as certificate;
+ghost use Prim.Native.Nat.{_+_};
 ghost use Rattle.rulebook.specs.Tools.{anyOf};
 ghost use Rattle.rulebook.specs.Weights.{reaches};
 ghost use Rattle.rulebook.specs.Cards.{most};
@@ -9,7 +10,7 @@ ghost use Rattle.rulebook.specs.Pool.{held, names, certifiable, parentHeld, ski
 ghost use Rattle.rulebook.specs.Ledger.{certificatesAt, keptAt};
 ghost use Rattle.record.specs.Layout.{ledgerOf};
 ghost use Rattle.pool.specs.Weighing.{Weighing, Carded, namedHolds};
-ghost use Rattle.parents.specs.Naming.{Parental, Between, someNamed, someKeptHolds, Keeping, namesSome, namedWeight, Unkept, Naming, Trying};
+ghost use Rattle.parents.specs.Naming.{Parental, Between, someNamed, someKeptHolds, Keeping, namesSome, namedWeight, Left, Leaving, Unkept, Naming, Trying};
 use kept_certificates::block_at;
 use pool::counted_before;
 use pool::held;
@@ -116,29 +117,35 @@ fn names_some(c: Cell) -> bool
     (c.notar != 0) | ((c.fallback1 != 0) | ((c.fallback2 != 0) | (c.fallback3 != 0)))
 }
 
-// The stake in a slot of the nodes that name some block.
-fn named_weight(rec: &[u64], s: Slot) -> Weight
-    requires { ⌜ Weighing (now rec) (s .0) ⌝ }
-    ensures { λ r. ⌜ r .0 ≡ namedWeight (ledgerOf (now (rec .entry))) (s .0) ⌝ }
+// What is left of the total behind node n: its stake is taken off where it names no block.
+fn left_behind(rec: &[u64], p: Slot, n: Node, left: u64) -> u64
+    requires { ⌜ Leaving (now rec) (p .0) (n .0) left ⌝ }
+    ensures { λ r. ⌜ Left (ledgerOf (now (rec .entry))) (p .0) (n .0 + 1) r ⌝ }
 {
-    let nodes = count(rec);
-    let mut sum: u64 = 0;
-    for n in 0..nodes {
-        if names_some(load_cell(rec, s, Node(n))) {
-            let w = stake(rec, Node(n));
-            sum += w.0;
-        }
+    if names_some(load_cell(rec, p, n)) {
+        return left;
     }
-    Weight(sum)
+    let w = stake(rec, n);
+    left - w.0
 }
 
-// Whether the nodes that name some block in slot p reach 60: else no block does.
+// Whether the nodes that name some block in slot p reach 60: else no block does. Where too little is left of the total without those
+// that name none, the others are not looked at.
 fn enough_named(rec: &[u64], p: Slot) -> bool
     requires { ⌜ Weighing (now rec) (p .0) ⌝ }
     ensures { λ r. ⌜ r ≡ reaches 3 (ledgerOf (now (rec .entry)) .total) (namedWeight (ledgerOf (now (rec .entry))) (p .0)) ⌝ }
 {
-    let short = Threshold::SIXTY.missing(named_weight(rec, p), total(rec));
-    short.0 == 0
+    let all = total(rec);
+    let needed = Threshold::SIXTY.missing(Weight(0), all);
+    let nodes = count(rec);
+    let mut left = all.0;
+    for n in 0..nodes {
+        left = left_behind(rec, p, Node(n), left);
+        if left < needed.0 {
+            return false;
+        }
+    }
+    true
 }
 
 // Whether some block that the votes of slot p name holds kind 3: the leader by notar votes alone, none where too few name any, else
