@@ -78,24 +78,35 @@ fn seconds(count: u64, mut round: impl FnMut(usize) -> bool) -> Option<f64> {
 
 // ---- what is worked on ----
 
-/// The votes of the record, in every slot of every node but the own: none, or
-/// an initial vote for one of so many blocks in turn, two notar-fallbacks and a
-/// final. None when there is no record of that name.
+/// The block of a slot in a ring that goes on, one block behind the other.
+fn chained(slot: u64) -> u64 {
+    BLOCK + slot
+}
+
+/// The votes of the record, in every slot of every node but the own: none; a
+/// notar for the slot's block and a final; or an initial vote for one of so many
+/// blocks in turn, two notar-fallbacks and a final. None when there is no record
+/// of that name.
 fn stored(task: &Task) -> Option<Vec<(u64, usize, Vote)>> {
+    let everywhere = || (1..=LAST_SLOT).flat_map(|slot| (1..task.nodes).map(move |node| (slot, node)));
     let (blocks, lowest, fallback) = match task.record.as_str() {
         "empty" => return Some(Vec::new()),
+        "voted" => {
+            let two = |(slot, node)| [(slot, node, Vote::Notar(chained(slot))), (slot, node, Vote::Final)];
+            return Some(everywhere().flat_map(two).collect());
+        }
         "one" => (1, BLOCK, FALLBACK),
         "five" | "kept" => (5, BLOCK, FALLBACK),
         "each" => (task.nodes, BLOCK, FALLBACK),
         "other" => (5, 5100, FALLBACK + 5000),
         _ => return None,
     };
-    let four = |slot, node| {
+    let four = |(slot, node)| {
         let initial = Vote::Notar(lowest + (node % blocks) as u64);
         let votes = [initial, Vote::NotarFallback(fallback), Vote::NotarFallback(fallback + 1), Vote::Final];
         votes.map(|vote| (slot, node, vote))
     };
-    Some((1..=LAST_SLOT).flat_map(|slot| (1..task.nodes).flat_map(move |node| four(slot, node))).collect())
+    Some(everywhere().flat_map(four).collect())
 }
 
 /// As many certificates as a slot has places for, meaning and block.
@@ -139,9 +150,9 @@ fn certificate(task: &Task, written: Vec<u8>) -> (Vec<u64>, Vec<u8>, bool) {
 // ---- the model ----
 
 /// None when the operation is refused or there is none of that name. Records
-/// with certificates are not made here: the model takes them one by one.
+/// with certificates or blocks are not made here: the model takes them one by one.
 pub fn by_model(task: &Task) -> Option<()> {
-    (task.record != "kept").then_some(())?;
+    (task.record != "kept" && task.record != "voted").then_some(())?;
     let ones = vec![1; task.nodes];
     let mut node = Node::start(0, 1, &ones).ok()?.with_votes(stored(task)?);
     node.look();
@@ -204,6 +215,13 @@ pub fn record(task: &Task) -> Option<Vec<u64>> {
     let mut outbox = [0; tuned::OUTBOX_WORDS];
     let votes = stored(task)?;
     (tuned::start(&mut words, &vec![1; task.nodes], 0, 1) == 0).then_some(())?;
+    if task.record == "voted" {
+        for slot in 1..=LAST_SLOT {
+            let parent = if slot == 1 { 1 } else { chained(slot - 1) };
+            let block = [slot, chained(slot), slot - 1, parent];
+            (tuned::block(&mut words, &mut outbox, block).0 == 0).then_some(())?;
+        }
+    }
     for (slot, node, vote) in votes {
         tuned::store_vote(&mut words, vote.kind(), node, slot as usize, vote.block());
     }

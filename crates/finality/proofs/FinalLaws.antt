@@ -5,7 +5,7 @@ use mathlib.Core.List.{List, [], _∷_}
 use Prim.Native.Nat.{ℕ, _≤_, _<_}
 use native.Mathlib.Omega.{arith}
 use lib.Dec.{eqb, leb, ltb}
-use borrow.Author.Tests.{leb-true, leb-false, lt-ltb, le-ltb}
+use borrow.Author.Tests.{eqb-true, leb-true, leb-false, lt-ltb, le-ltb, not-false}
 use Rattle.rulebook.specs.declared.Block.{Block}
 use Rattle.rulebook.specs.Tools.{given, choose, lowest}
 use Rattle.rulebook.specs.Ledger.{Ledger, none, noBlock, rowAt, blocksAt, isFree, hasNumber, putFinal, putClash}
@@ -17,6 +17,7 @@ use Rattle.settling.specs.Facts.{Sound}
 use Rattle.settling.specs.Steps.{WalkParent}
 use Rattle.settling.proofs.Sounding.{walk-parent}
 use Rattle.settling.proofs.WalkLaws.{walk-on}
+use Rattle.finality.specs.Telling.{walkBegins}
 
 -- ---- telling
 
@@ -122,3 +123,36 @@ module _ (o : State) (s : ℕ) (a : 1 ≤ s) (k : Block) (is : k ≡ findBlock (
 pub G-none : (o : State) (s : ℕ) → 1 ≤ s → rowAt (o .ledger) s .final ≡ 0 → ruleG o s ≡ o
 G-none o s a e =
     G-halts o s a noBlock (sym (ap (λ (f : ℕ). findBlock f (blocksAt (o .ledger) s)) e ∙ zero-none (blocksAt (o .ledger) s))) refl
+
+-- ---- where the walk begins
+
+module _ (l : Ledger) (s : ℕ) (k : Block) (is : k ≡ findBlock (rowAt l s .final) (blocksAt l s)) where
+  walks-by : ((not (none (k .parentslot .0)) && ltb (k .parentslot .0) s) && not (eqb (rowAt l (k .parentslot .0) .final) (k .parent))) ≡ walkBegins l s
+  unfolding walkBegins
+  walks-by = λ i. (not (none (is i .parentslot .0)) && ltb (is i .parentslot .0) s) && not (eqb (rowAt l (is i .parentslot .0) .final) (is i .parent))
+
+  pub begins-nowhere : (eqb (k .parentslot .0) 0 || leb s (k .parentslot .0)) ≡ true → false ≡ walkBegins l s
+  begins-nowhere e = ap (λ (x : Bool). x && not (eqb (rowAt l (k .parentslot .0) .final) (k .parent))) (sym (lower-slot (k .parentslot .0) s true e)) ∙ walks-by
+
+  pub begins-below : (f : ℕ) → f ≡ rowAt l (k .parentslot .0) .final → (eqb (k .parentslot .0) 0 || leb s (k .parentslot .0)) ≡ false → not (eqb f (k .parent)) ≡ walkBegins l s
+  begins-below f q e =
+      ap (λ (x : ℕ). not (eqb x (k .parent))) q
+      ∙ ap (λ (x : Bool). x && not (eqb (rowAt l (k .parentslot .0) .final) (k .parent))) (sym (lower-slot (k .parentslot .0) s false e))
+      ∙ walks-by
+
+-- A walk that has nothing to tell at its first step goes on from a slot below; where the walk from there has nothing to tell, it has none.
+pub walk-off : (o : State) (s : ℕ) → Sound (o .ledger) → 1 ≤ s → s ≤ lastSlot → ((q : ℕ) → 1 ≤ q → q < s → ruleG o q ≡ o) → walkBegins (o .ledger) s ≡ false → ruleG o s ≡ o
+walk-off o s h low high below e =
+    let l = o .ledger in
+    let k = findBlock (rowAt l s .final) (blocksAt l s) in
+    let p = k .parentslot .0 in
+    let x = k .parent in
+    let f = rowAt l p .final in
+    by-test (eqb p 0 || leb s p) (G-halts o s low k refl)
+    (λ t.
+    let w = walk-to o s low k refl h high t in
+    let same : eqb f x ≡ true = not-false (eqb f x) (begins-below l s k refl f refl t ∙ e) in
+    let told : tellFinal o p x ≡ o = final-same o p x (ap none (eqb-true f x same) ∙ w .number) same in
+    G-on o s low k refl t (ap (λ (q : State). eqb (rowAt (q .ledger) p .final) x) told ∙ same)
+    ∙ ap (λ (q : State). ruleG q p) told
+    ∙ below p (w .low) (w .lower))

@@ -1,10 +1,11 @@
 // The rules F and G: a final block is told of, and its ancestors with it.
 ghost use mathlib.Core.Path.{_≡_};
 ghost use Rattle.rulebook.specs.Rules.{tellClash, tellFinal, ruleF, ruleG};
+ghost use Rattle.record.specs.Layout.{InSlot, ledgerOf};
 ghost use Rattle.voter.specs.Outbox.{stateIn};
 ghost use Rattle.voter.specs.Voting.{LiveAt, Onward};
 ghost use Rattle.fallbacks.specs.UnderWay.{UnderWayAt};
-ghost use Rattle.finality.specs.Telling.{TellingAt};
+ghost use Rattle.finality.specs.Telling.{TellingAt, walkBegins};
 use candidates::newcomer;
 use record::clash_word;
 use record::final_block;
@@ -52,6 +53,20 @@ pub fn rule_f(rec: &mut [u64], outbox: &mut [u64], at: usize, s: Slot) -> usize
         return at;
     }
     tell_final(rec, outbox, at, s, b)
+}
+
+// Whether the walk from a slot's final block has something to tell at its first step: that block is kept, and its parent is not
+// the final block of the parent's slot.
+pub fn walk_begins(rec: &[u64], s: Slot) -> bool
+    requires { ⌜ InSlot (now rec) (s .0) ⌝ }
+    ensures { λ r. ⌜ r ≡ walkBegins (ledgerOf (now (rec .entry))) (s .0) ⌝ }
+{
+    let k = find_block(rec, s, final_block(rec, s));
+    let p = k.parentslot;
+    if (p.0 == 0) | (s.0 <= p.0) {
+        return false;
+    }
+    final_block(rec, p) != k.parent
 }
 
 // G. The walk: the parent of a slot's final block is final where that block is kept, and so on down to genesis. Each call is

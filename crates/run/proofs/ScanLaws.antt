@@ -5,16 +5,17 @@ use mathlib.Core.List.{List}
 use Prim.Native.Nat.{ℕ, zero, suc, _+_, _-_, _≤_, _<_}
 use native.Mathlib.Omega.{arith}
 use lib.ListN.{length}
-use lib.Dec.{leb}
-use borrow.Author.Tests.{leb-true, le-leb}
+use lib.Dec.{eqb, leb}
+use borrow.Author.Tests.{eqb-true, eqb-false, leb-true, le-leb}
 use Rattle.rulebook.specs.Weights.{lastSlot, totalTo}
 use Rattle.rulebook.specs.Ledger.{isWatcher}
-use Rattle.rulebook.specs.Rules.{State}
+use Rattle.rulebook.specs.Rules.{State, ruleG}
 use Rattle.rulebook.specs.Run.{made, ruleAt, firstRule, firstSlot, scan, run}
-use Rattle.rulebook.proofs.ToolLaws.{and-both, both-and, true-not-false}
+use Rattle.rulebook.proofs.ToolLaws.{by-test, and-both, both-and, true-not-false}
 use Rattle.record.specs.Layout.{recordWords, placesIn, ledgerOf}
 use Rattle.record.specs.Tabled.{Tabled}
 use Rattle.record.proofs.Places.{places-words}
+use Rattle.settling.specs.Facts.{Sound}
 use Rattle.settling.specs.Spare.{spare}
 use Rattle.settling.specs.Steps.{Running}
 use Rattle.settling.proofs.FactLaws.{formed}
@@ -26,9 +27,12 @@ use Rattle.voter.specs.Voting.{Live, LiveAt, Onward}
 use Rattle.voter.proofs.OutboxLaws.{made-in}
 use Rattle.voter.proofs.LiveLaws.{onward-none, onward-is, onward-then}
 use Rattle.fallbacks.specs.UnderWay.{UnderWay, UnderWayAt, VotingAt}
+use Rattle.finality.specs.Telling.{walkBegins}
+use Rattle.finality.proofs.FinalLaws.{walk-off}
 use Rattle.dormancy.specs.Dormant.{isDormant}
-use Rattle.dormancy.proofs.SlotLaws.{rules-on, rules-off, one-rule}
+use Rattle.dormancy.proofs.SlotLaws.{rules-on, rules-off, pass, one-rule, only-G}
 use Rattle.dormancy.proofs.DormantLaws.{dormant-quiet}
+use Rattle.run.specs.Tried.{TriedBelow}
 
 -- The stakes stay a table.
 pub under-way : {ws out ws' left : List ℕ} {at now : ℕ} {q : State} → Tabled (ledgerOf ws) → Onward ws out at ws' left now q → UnderWay ws' left now
@@ -162,6 +166,25 @@ dormant-passes {ws = ws} {out = out} {at = at} {s = s} v d e t =
     onward-none (v .live .live)
     (sym (dormant-quiet (stateIn ws out at) s (v .live .low) (v .table) (formed (ledgerOf ws) (v .live .live .sound .formed) .rows s (v .live .low) (v .live .high) .blocks) (sym e ∙ t)))
 
+-- ---- the walk of a slot in which no rule applies has nothing to tell
+
+slot-walked : (o : State) (s : ℕ) → Sound (o .ledger) → 1 ≤ s → s ≤ lastSlot → firstRule 7 0 o s ≡ o → ruleG o s ≡ o
+slot-walked o s h low high e =
+    let six : made (firstRule 6 0 o s) ≡ made o =
+    by-test (eqb (made (firstRule 6 0 o s)) (made o)) (λ t. eqb-true (made (firstRule 6 0 o s)) (made o) t)
+    (λ t. ap made (sym (rules-off 6 1 0 o s (eqb-false (made (firstRule 6 0 o s)) (made o) t)) ∙ e)) in
+    only-G o s ∙ sym (pass o s 6 1 0 (rules-come o h s low high 6 0 .still six)) ∙ e
+
+-- The memory still holds the state whose walks below were tried.
+pub still-walked : (o p : State) (s : ℕ) → p ≡ o → ((q : ℕ) → 1 ≤ q → q < s → ruleG o q ≡ o) → (q : ℕ) → 1 ≤ q → q < s → ruleG p q ≡ p
+still-walked o p s e h q a b = ap (λ (x : State). ruleG x q) e ∙ h q a b ∙ sym e
+
+-- A walk that does not begin has nothing to tell.
+pub walk-passes : {ws out : List ℕ} {at s : ℕ} → TriedBelow ws out at s → (b : Bool) → b ≡ walkBegins (ledgerOf ws) s → b ≡ false → Onward ws out at ws out at (ruleG (stateIn ws out at) s)
+walk-passes {ws = ws} {out = out} {at = at} {s = s} v b e f =
+    let u = v .under .live in
+    onward-none (u .live) (sym (walk-off (stateIn ws out at) s (u .live .sound) (u .low) (u .high) (v .walked) (sym e ∙ f)))
+
 -- ---- the invariant of the search: the memory still holds the state of its start, and the slots from s on are left
 
 pub record Searching (ws out : List ℕ) (at : ℕ) (ws' left : List ℕ) (now s : ℕ) : Type 0 where
@@ -170,6 +193,7 @@ pub record Searching (ws out : List ℕ) (at : ℕ) (ws' left : List ℕ) (now s
   pub still : now ≡ at
   pub kept : length left ≡ length out
   pub held : Onward ws out at ws' left now (stateIn ws out at)
+  pub walked : (q : ℕ) → 1 ≤ q → q < s → ruleG (stateIn ws out at) q ≡ stateIn ws out at
   pub ends : firstSlot (17 - s) s (stateIn ws out at) ≡ scan (stateIn ws out at)
 
 -- The search begins at slot 1.
@@ -181,6 +205,7 @@ searching-start {ws = ws} {out = out} {at = at} v =
       still = refl;
       kept = refl;
       held = onward-none v refl;
+      walked = λ q a b. absurd (omega arith);
       ends = sym (scan-is (stateIn ws out at));
     }
 
@@ -193,6 +218,9 @@ module _ {ws out ws' out' ws'' out'' : List ℕ} {at now now' s : ℕ} (h : Sear
 
   one-less : 17 - s ≡ (17 - (s + 1)) + 1
   one-less = omega arith
+
+  below : (q : ℕ) → (q ≡ s → ⊥) → q < s + 1 → q < s
+  below q ne h = omega (arith, ne)
 
   -- No rule of it applies: on to the next slot.
   pub searching-more : Live ws out at → length out'' ≡ length out' → now' ≡ at → Searching ws out at ws'' out'' now' (s + 1)
@@ -207,6 +235,7 @@ module _ {ws out ws' out' ws'' out'' : List ℕ} {at now now' s : ℕ} (h : Sear
         still = e;
         kept = k ∙ h .kept;
         held = onward-is slot-tried back;
+        walked = λ q one less. by-test (eqb q s) (λ t. ap (λ (x : ℕ). ruleG o x) (eqb-true q s t) ∙ slot-walked o s (v .sound) (h .low) (omega arith) back) (λ t. h .walked q one (below q (eqb-false q s t) less));
         ends = ap (firstSlot (17 - (s + 1)) (s + 1)) (sym back) ∙ sym (slot-step o p s (17 - s) (17 - (s + 1)) one-less refl same) ∙ h .ends;
       }
 

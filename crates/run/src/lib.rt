@@ -1,22 +1,37 @@
 // The first of the rules A to G that applies, and settling: again from slot 1 until none applies. A dormant slot is passed over.
+ghost use Rattle.rulebook.specs.Rules.{ruleG};
 ghost use Rattle.rulebook.specs.Run.{ruleAt, scan, run};
 ghost use Rattle.voter.specs.Outbox.{stateIn};
 ghost use Rattle.voter.specs.Voting.{Onward};
-ghost use Rattle.fallbacks.specs.UnderWay.{UnderWay, UnderWayAt};
+ghost use Rattle.fallbacks.specs.UnderWay.{UnderWay};
+ghost use Rattle.run.specs.Tried.{TriedBelow};
 use dormancy::is_dormant;
 use fallbacks::rule_d;
 use fallbacks::rule_e;
 use finality::rule_f;
 use finality::rule_g;
+use finality::walk_begins;
 use record::is_watcher;
 use rulebook::Slot;
 use rules::rule_a;
 use rules::rule_b;
 use rules::rule_c;
 
+// G, tried after every slot below: a walk that has nothing to tell at its first step would go on from a slot below, where it had
+// nothing to tell.
+fn walk(rec: &mut [u64], outbox: &mut [u64], at: usize, s: Slot) -> usize
+    requires { ⌜ TriedBelow (now rec) (now outbox) at (s .0) ⌝ }
+    ensures { λ m. ⌜ Onward (now (rec .entry)) (now (outbox .entry)) at (now (rec .exit)) (now (outbox .exit)) m (ruleG (stateIn (now (rec .entry)) (now (outbox .entry)) at) (s .0)) ⌝ }
+{
+    if !walk_begins(rec, s) {
+        return at;
+    }
+    rule_g(rec, outbox, at, s)
+}
+
 // Rules A to G by their place in the order, from 0. A watcher runs only A, F and G.
 fn rule(rec: &mut [u64], outbox: &mut [u64], at: usize, s: Slot, r: usize) -> usize
-    requires { ⌜ UnderWayAt (now rec) (now outbox) at (s .0) ⌝ }
+    requires { ⌜ TriedBelow (now rec) (now outbox) at (s .0) ⌝ }
     ensures { λ m. ⌜ Onward (now (rec .entry)) (now (outbox .entry)) at (now (rec .exit)) (now (outbox .exit)) m (ruleAt r (stateIn (now (rec .entry)) (now (outbox .entry)) at) (s .0)) ⌝ }
 {
     let watches = is_watcher(rec);
@@ -30,7 +45,7 @@ fn rule(rec: &mut [u64], outbox: &mut [u64], at: usize, s: Slot, r: usize) -> us
         3 => rule_d(rec, outbox, at, s),
         4 => rule_e(rec, outbox, at, s),
         5 => rule_f(rec, outbox, at, s),
-        6 => rule_g(rec, outbox, at, s),
+        6 => walk(rec, outbox, at, s),
         _ => at,
     }
 }

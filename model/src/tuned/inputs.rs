@@ -218,7 +218,6 @@ pub fn card(words: &[u64], slot: u64) -> (u64, [u64; CARD_WORDS]) {
 }
 
 /// 3, 5, 11, 7, 8; then the block is kept and the rules are run.
-#[cfg(test)]
 pub fn block(words: &mut [u64], outbox: &mut [u64], block: [u64; 4]) -> Answer {
     answer(open(words, outbox).and_then(|found| {
         let [slot, number, parent_slot, parent] = block;

@@ -28,7 +28,7 @@ pub use checker::check_certificate;
 #[cfg(test)]
 pub use checker::{check_proof, Check};
 #[cfg(test)]
-pub use inputs::{block, card, timeout};
-pub use inputs::{look, start, store_certificate, store_vote, take_certificate, tray, vote};
+pub use inputs::{card, timeout};
+pub use inputs::{block, look, start, store_certificate, store_vote, take_certificate, tray, vote};
 pub use layout::{record_words, OUTBOX_WORDS};
 pub use writer::write_certificate;
