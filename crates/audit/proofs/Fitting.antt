@@ -11,8 +11,8 @@ use Rattle.rulebook.specs.Weights.{stakeIn, weight}
 use Rattle.rulebook.specs.Ledger.{Ledger, none, cellAt}
 use Rattle.rulebook.specs.Pool.{counts, weigh}
 use Rattle.rulebook.specs.Cards.{leads, most, leader}
-use Rattle.rulebook.proofs.ToolLaws.{and-both, both-and, or-cases, or-none, by-test, same-test, true-not-false, part-on, part-off, sum-const, sum-same, sum-term, some-find, some-each}
-use Rattle.rulebook.proofs.WeightLaws.{weight-none}
+use Rattle.rule_laws.proofs.ToolLaws.{and-both, both-and, or-cases, or-none, by-test, same-test, true-not-false, part-on, part-off, sum-const, sum-same, sum-term, some-find, some-each}
+use Rattle.rule_laws.proofs.WeightLaws.{weight-none}
 use Rattle.recounting.proofs.Leading.{Lead, lead-recount, leads-on, leads-off}
 use Rattle.recounting.proofs.Using.{lead-quick, lead-none, recount-leader}
 use Rattle.rivals.specs.Rivals.{rivals, hasRival}

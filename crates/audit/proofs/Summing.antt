@@ -16,8 +16,8 @@ use Rattle.rulebook.specs.Ledger.{Ledger, none, noCell, noCard, places, rowAt, 
 use Rattle.rulebook.specs.Pool.{counts, weigh}
 use Rattle.rulebook.specs.Cards.{most, leader, recount, sameCard}
 use Rattle.rulebook.specs.WellFormed.{flag, inOrder, cellFits, cellBlank, cellsFit, cardFits}
-use Rattle.rulebook.proofs.ToolLaws.{given-on, and-both, by-test, part-on, part-off, all-none, all-more, all-same, all-at, all-each}
-use Rattle.rulebook.proofs.WeightLaws.{weight-none, weight-same, weight-more, weight-room}
+use Rattle.rule_laws.proofs.ToolLaws.{given-on, and-both, by-test, part-on, part-off, all-none, all-more, all-same, all-at, all-each}
+use Rattle.rule_laws.proofs.WeightLaws.{weight-none, weight-same, weight-more, weight-room}
 use Rattle.recounting.proofs.Using.{same-card}
 use Rattle.record.specs.Tabled.{Tabled}
 use Rattle.blank_rows.proofs.Words.{or-none}

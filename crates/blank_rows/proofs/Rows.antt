@@ -14,7 +14,7 @@ use Rattle.rulebook.specs.Tools.{given, allTo}
 use Rattle.rulebook.specs.Ledger.{Ledger, none, noBlock, noCard, places, rowAt, cellAt, blocksAt, allBlocks, certificatesAt}
 use Rattle.rulebook.specs.Cards.{sameCard}
 use Rattle.rulebook.specs.WellFormed.{blockBlank, keptBlank, eachKept, cellBlank, cellFits, cellsFit}
-use Rattle.rulebook.proofs.ToolLaws.{given-off, all-same}
+use Rattle.rule_laws.proofs.ToolLaws.{given-off, all-same}
 use Rattle.record.specs.Layout.{wordAt, maskWords, rowStart, keptStart, placesIn, ledgerOf, InSlot, KeptAt, blockFrom, cellFrom, cardFrom}
 use Rattle.record.proofs.Tables.{part-table}
 use Rattle.record.proofs.Places.{row-inside, places-words}

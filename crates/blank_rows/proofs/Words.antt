@@ -10,7 +10,7 @@ use lib.Bits.{bitOr, or-comm, or-add-and, and-le-r}
 use borrow.Author.Tests.{eq-eqb, eqb-true, ltb-true, ltb-false}
 use Rattle.rulebook.specs.Tools.{allTo}
 use Rattle.rulebook.specs.Ledger.{none}
-use Rattle.rulebook.proofs.ToolLaws.{by-test, same-test, and-both, both-and, all-same, all-at, all-each}
+use Rattle.rule_laws.proofs.ToolLaws.{by-test, same-test, and-both, both-and, all-same, all-at, all-each}
 use Rattle.record.specs.Layout.{wordAt}
 use Rattle.kept_certificates.specs.Kept.{allNone}
 use Rattle.kept_certificates.proofs.ByPlace.{all-split, all-parts}

@@ -11,9 +11,9 @@ use Rattle.rulebook.specs.Ledger.{Ledger, none, noKept, rowAt, certificatesAt}
 use Rattle.rulebook.specs.Pool.{named, keptNames, certifiable}
 use Rattle.rulebook.specs.Rules.{isFinal, isNewcomer}
 use Rattle.rulebook.specs.Cards.{leader}
-use Rattle.rulebook.proofs.ToolLaws.{by-test, or-cases, or-none}
-use Rattle.rulebook.proofs.LowestLaws.{lower-off, lowest-none, lowest-skip, lowest-take}
-use Rattle.rulebook.proofs.KeptPlaceLaws.{names-drop, names-past}
+use Rattle.rule_laws.proofs.ToolLaws.{by-test, or-cases, or-none}
+use Rattle.rule_laws.proofs.LowestLaws.{lower-off, lowest-none, lowest-skip, lowest-take}
+use Rattle.rule_laws.proofs.KeptPlaceLaws.{names-drop, names-past}
 use Rattle.record.specs.Tabled.{Tabled}
 use Rattle.recounting.proofs.Using.{newcomer-lead}
 use Rattle.pool.specs.Weighing.{namedHolds}

@@ -31,9 +31,9 @@ use rulebook::Block;
 use rulebook::CertificateKind;
 use rulebook::Node;
 use rulebook::Slot;
-use rulebook::Threshold;
 use rulebook::Weight;
 use rulebook::Who;
+use thresholds::Threshold;
 
 // D's weights: notar reaches 40, or notar reaches 20 and skip + notar reaches 60.
 fn is_heavy(notar: Weight, skip: Weight, total: Weight) -> bool

@@ -10,7 +10,7 @@ use Rattle.rulebook.specs.declared.Refusal.the-variants as refusal
 use Rattle.rulebook.specs.Weights.{lastSlot, slotOk}
 use Rattle.rulebook.specs.Ledger.{rowAt}
 use Rattle.rulebook.specs.Cards.{recount}
-use Rattle.rulebook.proofs.ToolLaws.{given-on, given-off, and-both}
+use Rattle.rule_laws.proofs.ToolLaws.{given-on, given-off, and-both}
 use Rattle.record.specs.Layout.{ledgerOf, InSlot}
 use Rattle.soundness.specs.Sound.{soundWords}
 use Rattle.soundness.proofs.Laws.{sound-long, sound-cards}

@@ -6,7 +6,7 @@ use native.Mathlib.Omega.{arith}
 use lib.ListN.{length, length-append}
 use Rattle.rulebook.specs.declared.Heading.{Heading}
 use Rattle.rulebook.specs.Packets.{numberBytes, maskBytes, joined, certificateOf, certificateBytes}
-use Rattle.rulebook.proofs.NumberLaws.{certificate-length}
+use Rattle.rule_laws.proofs.NumberLaws.{certificate-length}
 use Rattle.numbers.specs.Written.{Written}
 use Rattle.numbers.proofs.Stores.{after}
 use Rattle.certificate_numbers.specs.Told.{Masks}

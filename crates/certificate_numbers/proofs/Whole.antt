@@ -19,7 +19,7 @@ use Rattle.rulebook.proofs.Found as found-type
 use Rattle.rulebook.specs.declared.Found.the-variants as answer
 use Rattle.rulebook.specs.Certificates as found
 use Rattle.rulebook.specs.Packets.{numberAt, maskAt, andThen, joined, wordsIn, certificateAt}
-use Rattle.rulebook.proofs.KindLaws.{words-most}
+use Rattle.rule_laws.proofs.KindLaws.{words-most}
 use Rattle.mask_words.specs.Told.{laidAs}
 use Rattle.certificate_numbers.specs.Failed.{failedMask}
 use Rattle.certificate_numbers.specs.Told.{mostWords, foundAs, headThen, headingAt}

@@ -27,9 +27,9 @@ use Rattle.rulebook.specs.Ledger.{none}
 use Rattle.rulebook.specs.Packets.{bit, countOf, wordsIn, certificateOf}
 use Rattle.rulebook.specs.Checker.{isOtherKind, blockMisfits, badSigners, signed, signedWeight, lacking, judgeWeight, acceptedOf, judged, judgeKind, judge, oneOf}
 use Rattle.rulebook.specs.WellFormed.{isFine}
-use Rattle.rulebook.proofs.ToolLaws.{by-test}
-use Rattle.rulebook.proofs.WeightLaws.{none-missing, some-missing}
-use Rattle.rulebook.proofs.KindLaws.{table-words}
+use Rattle.rule_laws.proofs.ToolLaws.{by-test}
+use Rattle.rule_laws.proofs.WeightLaws.{none-missing, some-missing}
+use Rattle.rule_laws.proofs.KindLaws.{table-words}
 use Rattle.certificate_numbers.specs.Told.{Masks, foundAs}
 use Rattle.stakes.specs.declared.StakeTable.{StakeTable}
 use Rattle.stakes.specs.declared.Weighed.{Weighed}

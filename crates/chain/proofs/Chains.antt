@@ -16,7 +16,7 @@ use Rattle.rulebook.specs.Checker.{judgeKind}
 use Rattle.rulebook.specs.Taking.{Arrival}
 use Rattle.rulebook.specs.WellFormed.{keptIn}
 use Rattle.rulebook.specs.Writers.{writeProof}
-use Rattle.rulebook.proofs.AcceptedLaws.{accepted-single, accepted-proof}
+use Rattle.rule_laws.proofs.AcceptedLaws.{accepted-single, accepted-proof}
 use Rattle.safety.specs.Slot.{Test, Ballot, notar, notarFallback, final, Final, fast, slow}
 use Rattle.safety.specs.Ballots.{has}
 use Rattle.safety.specs.Grounds as grounds

@@ -13,7 +13,7 @@ use Rattle.rulebook.specs.Weights.{stakesFit}
 use Rattle.rulebook.specs.Ledger.{fresh, none, isFree, hasNumber, isBlock}
 use Rattle.rulebook.specs.Rules.{Record}
 use Rattle.rulebook.specs.Taking.{Arrival, ofInput, ofPacket}
-use Rattle.rulebook.proofs.ToolLaws.{all-at}
+use Rattle.rule_laws.proofs.ToolLaws.{all-at}
 use Rattle.safety.specs.Slot.{Test}
 use Rattle.safety.specs.Ring.{announcedBy, FewOthers, Ring}
 use Rattle.safety.specs.Examples.{toldIn, mailTest, packetsTest}

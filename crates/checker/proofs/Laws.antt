@@ -16,7 +16,7 @@ use Rattle.rulebook.specs.Tools.{choose}
 use Rattle.rulebook.specs.Weights.{stakesFit, family}
 use Rattle.rulebook.specs.PaperNumbers.{certificateKind, certificateNumber, kindIn, numberIn}
 use Rattle.rulebook.specs.Checker.{One, good, bad, acceptedOf, oneAt, ended, singleOf, secondOf, firstIn, proofOf, checkCertificate, checkProof}
-use Rattle.rulebook.proofs.ToolLaws.{given-on, by-test}
+use Rattle.rule_laws.proofs.ToolLaws.{given-on, by-test}
 use Rattle.stakes.specs.declared.Made.{Made}
 use Rattle.stakes.specs.Table.{madeOf}
 use Rattle.stakes.proofs.Laws.{made-fits}

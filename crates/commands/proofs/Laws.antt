@@ -8,7 +8,7 @@ use lib.Dec.{eqb, ltb}
 use lib.ListN.{length, getD, take, drop}
 use borrow.Author.Tests.{eq-eqb, ne-eqb, lt-ltb, le-ltb, eqb-true}
 use Rattle.rulebook.specs.Tools.{choose, allTo}
-use Rattle.rulebook.proofs.ToolLaws.{by-test, both-and, true-not-false, all-none, all-more, all-at, choose-on, choose-off}
+use Rattle.rule_laws.proofs.ToolLaws.{by-test, both-and, true-not-false, all-none, all-more, all-at, choose-on, choose-off}
 use Rattle.hex.specs.declared.Hex.{Hex}
 use Rattle.script.specs.declared.Word.{Word}
 use Rattle.script.specs.Words.{WordIn}

@@ -7,7 +7,7 @@ use native.Mathlib.Omega.{arith}
 use native.Mathlib.Numerals.{add-one}
 use lib.ListN.{length, getD}
 use lib.Seq.{sets}
-use Rattle.rulebook.proofs.ToolLaws.{choose-on, choose-off}
+use Rattle.rule_laws.proofs.ToolLaws.{choose-on, choose-off}
 use Rattle.soundness.specs.Sound.{soundWords}
 use Rattle.lines.specs.Put.{Put}
 use Rattle.lines.proofs.Putting.{as-text, and-then, put-nothing}

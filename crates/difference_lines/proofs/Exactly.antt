@@ -18,7 +18,7 @@ use Rattle.rulebook.specs.Ledger.{Ledger, none, noInitial, cellAt}
 use Rattle.rulebook.specs.Pool.{hasFallback}
 use Rattle.rulebook.specs.Votes.{placeIf, placeOf}
 use Rattle.rulebook.specs.Inputs.{misfits}
-use Rattle.rulebook.proofs.ToolLaws.{given-on, by-test, and-both, both-and, or-cases, or-left, or-right, true-not-false, same-test, some-at, some-find}
+use Rattle.rule_laws.proofs.ToolLaws.{given-on, by-test, and-both, both-and, or-cases, or-left, or-right, true-not-false, same-test, some-at, some-find}
 use Rattle.difference_lines.specs.declared.Side.{Side}
 use Rattle.difference_lines.specs.declared.Side.the-variants as side
 use Rattle.difference_lines.specs.Lines.{Line, sideNumber, isSame, keeps, stores, voteAt, lineOf, voteLine, blocksOf, mostNamed, ascending, linesOver, blockLines, cellLines, linesTo, nodeLines, slotLines, voteLines, sameTables, tablesLine, differences}

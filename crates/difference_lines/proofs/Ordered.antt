@@ -14,8 +14,8 @@ use Rattle.rulebook.specs.Tools.{given, lowest}
 use Rattle.rulebook.specs.Weights.{lastSlot}
 use Rattle.rulebook.specs.PaperNumbers.{voteNumber}
 use Rattle.rulebook.specs.Ledger.{Ledger, none, cellAt}
-use Rattle.rulebook.proofs.ToolLaws.{given-on, given-off, given-keeps, by-test, both-and, and-both, or-left, or-right}
-use Rattle.rulebook.proofs.LowestLaws.{low-find}
+use Rattle.rule_laws.proofs.ToolLaws.{given-on, given-off, given-keeps, by-test, both-and, and-both, or-left, or-right}
+use Rattle.rule_laws.proofs.LowestLaws.{low-find}
 use Rattle.difference_lines.specs.Lines.{Line, voteAt, keeps, lineOf, voteLine, blocksOf, mostNamed, ascending, linesOver, blockLines, cellLines, linesTo, nodeLines, slotLines, voteLines, sameTables, tablesLine, differences}
 use Rattle.difference_lines.specs.Promises.{comesBefore, beforeAll, ascends, InOrder}
 

@@ -9,7 +9,7 @@ use borrow.Author.Tests.{eq-eqb}
 use Rattle.rulebook.specs.declared.Vote.{Vote}
 use Rattle.rulebook.specs.Ledger.{Ledger}
 use Rattle.rulebook.specs.PaperNumbers.{voteNumber}
-use Rattle.rulebook.proofs.ToolLaws.{given-off, by-test, both-and, or-left, true-not-false}
+use Rattle.rule_laws.proofs.ToolLaws.{given-off, by-test, both-and, or-left, true-not-false}
 use Rattle.difference_lines.specs.declared.Side.{Side}
 use Rattle.difference_lines.specs.declared.Side.the-variants as side
 use Rattle.difference_lines.specs.Lines.{Line, sideNumber, stores, voteLines, sameTables, tablesLine, differences}

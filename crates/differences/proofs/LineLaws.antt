@@ -17,7 +17,7 @@ use Rattle.rulebook.specs.Tools.{given, lowest}
 use Rattle.rulebook.specs.Weights.{mostNodes, lastSlot}
 use Rattle.rulebook.specs.PaperNumbers.{voteNumber}
 use Rattle.rulebook.specs.Ledger.{Ledger, none, cellAt}
-use Rattle.rulebook.proofs.ToolLaws.{given-on, given-off, by-test, and-both, true-not-false}
+use Rattle.rule_laws.proofs.ToolLaws.{given-on, given-off, by-test, and-both, true-not-false}
 use Rattle.numbers.proofs.Stores.{stores-append}
 use Rattle.difference_lines.specs.declared.Side.{Side}
 use Rattle.difference_lines.specs.declared.Side.the-variants as side

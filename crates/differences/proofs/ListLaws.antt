@@ -10,7 +10,7 @@ use lib.Dec.{leb}
 use borrow.Author.Tests.{le-leb, lt-leb}
 use Rattle.rulebook.specs.Tools.{given}
 use Rattle.rulebook.specs.Writers.{over}
-use Rattle.rulebook.proofs.ToolLaws.{given-on, given-off}
+use Rattle.rule_laws.proofs.ToolLaws.{given-on, given-off}
 use Rattle.numbers.proofs.Stores.{stores-lay, laid-front}
 use Rattle.record.specs.Layout.{ledgerOf}
 use Rattle.soundness.specs.Sound.{soundWords}

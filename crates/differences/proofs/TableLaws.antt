@@ -9,7 +9,7 @@ use borrow.Author.Tests.{eq-eqb, ne-eqb, eqb-true}
 use Rattle.rulebook.specs.Tools.{allTo}
 use Rattle.rulebook.specs.Weights.{mostNodes, stakeIn}
 use Rattle.rulebook.specs.Ledger.{Ledger, places}
-use Rattle.rulebook.proofs.ToolLaws.{and-both}
+use Rattle.rule_laws.proofs.ToolLaws.{and-both}
 use Rattle.record.specs.Layout.{ledgerOf}
 use Rattle.soundness.proofs.Laws.{sound-head, sound-placed}
 use Rattle.difference_lines.specs.Lines.{sameTables}

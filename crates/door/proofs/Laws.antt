@@ -5,7 +5,7 @@ use mathlib.Core.List.{List}
 use Prim.Native.Nat.{ℕ, _≤_, _<_}
 use native.Mathlib.Omega.{arith}
 use lib.ListN.{length}
-use Rattle.rulebook.proofs.ToolLaws.{true-not-false}
+use Rattle.rule_laws.proofs.ToolLaws.{true-not-false}
 use Rattle.lines.specs.Put.{reach, Put}
 use Rattle.lines.proofs.Putting.{put-length}
 use Rattle.door.specs.Sent.{NextLine, Whole}

@@ -24,10 +24,10 @@ use Rattle.rulebook.specs.Rules.{State, ruleA, ruleG, isFinal, isNewcomer, find
 use Rattle.rulebook.specs.Cards.{leader, most, recount}
 use Rattle.rulebook.specs.Run.{firstRule}
 use Rattle.rulebook.specs.WellFormed.{inOrder, keptFits, blocksApart, blocksFit, eachKept, keptBlank}
-use Rattle.rulebook.proofs.ToolLaws.{choose-off, and-both, both-and, or-cases, or-none, by-test, true-not-false, all-at, some-none, some-more, some-at, some-each, some-find}
-use Rattle.rulebook.proofs.WeightLaws.{weight-none, reaches-nothing, reaches-fewer}
-use Rattle.rulebook.proofs.LowestLaws.{named-off, lower-off, lowest-none, lowest-skip, lowest-take}
-use Rattle.rulebook.proofs.CertificateLaws.{some-place, kept-name}
+use Rattle.rule_laws.proofs.ToolLaws.{choose-off, and-both, both-and, or-cases, or-none, by-test, true-not-false, all-at, some-none, some-more, some-at, some-each, some-find}
+use Rattle.rule_laws.proofs.WeightLaws.{weight-none, reaches-nothing, reaches-fewer}
+use Rattle.rule_laws.proofs.LowestLaws.{named-off, lower-off, lowest-none, lowest-skip, lowest-take}
+use Rattle.rule_laws.proofs.CertificateLaws.{some-place, kept-name}
 use Rattle.pool.specs.Weighing.{namedHolds}
 use Rattle.parents.specs.Naming.{someNamed}
 use Rattle.parents.proofs.AnyLaws.{any-start, any-next, any-end}

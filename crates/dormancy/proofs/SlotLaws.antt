@@ -7,8 +7,8 @@ use native.Mathlib.Numerals.{add-one}
 use Rattle.rulebook.specs.Ledger.{none, firstBlock, isWatcher, ownCell, noInitial}
 use Rattle.rulebook.specs.Rules.{State, ruleA, ruleB, ruleC, ruleD, ruleE, ruleF, ruleG}
 use Rattle.rulebook.specs.Run.{made, quiet, ruleAt, firstRule}
-use Rattle.rulebook.proofs.ToolLaws.{given-off, by-test, and-both}
-use Rattle.rulebook.proofs.RuleLaws.{C-needs-vote, D-needs-vote, E-needs-vote}
+use Rattle.rule_laws.proofs.ToolLaws.{given-off, by-test, and-both}
+use Rattle.rule_laws.proofs.RuleLaws.{C-needs-vote, D-needs-vote, E-needs-vote}
 use Rattle.settling.proofs.RunLaws.{quiet-true, quiet-false, rule-step, rule-stop, rule-end, passed-over, rule-A, rule-B, rule-C, rule-D, rule-E, rule-F, rule-G}
 use Rattle.dormancy.specs.Dormant.{isBare}
 

@@ -10,7 +10,7 @@ use Rattle.rulebook.specs.Weights.{lastSlot}
 use Rattle.rulebook.specs.Ledger.{none, noInitial, isWatcher, ownCell}
 use Rattle.rulebook.specs.Inputs.{misfits}
 use Rattle.rulebook.specs.Rules.{State, cast, castSkips, ruleD, ruleE, mayFallback, fallbackWeights, fallbackBlock, castFallback, windowOpen, maySkipFallback, skipWeights, castSkipFallback}
-use Rattle.rulebook.proofs.ToolLaws.{given-on, given-off, given-keeps, and-both}
+use Rattle.rule_laws.proofs.ToolLaws.{given-on, given-off, given-keeps, and-both}
 use Rattle.record.specs.Layout.{ledgerOf}
 use Rattle.settling.specs.Facts.{Sound}
 use Rattle.settling.specs.Steps.{AndVotes, Came, weighed}

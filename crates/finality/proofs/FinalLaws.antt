@@ -12,7 +12,7 @@ use Rattle.rulebook.specs.Ledger.{Ledger, none, noBlock, rowAt, blocksAt, isFre
 use Rattle.rulebook.specs.Weights.{lastSlot}
 use Rattle.rulebook.specs.Pool.{certifiable}
 use Rattle.rulebook.specs.Rules.{State, report, isNewcomer, tellClash, tellFinal, ruleF, findBlock, walkTo, walkStep, ruleG}
-use Rattle.rulebook.proofs.ToolLaws.{given-on, given-off, by-test, true-not-false}
+use Rattle.rule_laws.proofs.ToolLaws.{given-on, given-off, by-test, true-not-false}
 use Rattle.settling.specs.Facts.{Sound}
 use Rattle.settling.specs.Steps.{WalkParent}
 use Rattle.settling.proofs.Sounding.{walk-parent}

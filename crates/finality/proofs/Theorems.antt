@@ -17,10 +17,10 @@ use Rattle.rulebook.specs.Inputs.{badParent}
 use Rattle.rulebook.specs.WellFormed.{inOrder, keptFits, blocksApart, blocksFit}
 use Rattle.rulebook.specs.Rules.{Record, State, report, isFinal, isNewcomer, tellFinal, findBlock, ruleG}
 use Rattle.rulebook.specs.Run.{made}
-use Rattle.rulebook.proofs.ToolLaws.{given-on, choose-on, choose-off, by-test, and-both, both-and, or-cases, or-none, true-not-false}
-use Rattle.rulebook.proofs.LowestLaws.{free-none, free-named, low-find, low-le}
-use Rattle.rulebook.proofs.CertificateLaws.{kept-free}
-use Rattle.rulebook.proofs.BlockLaws.{find-all}
+use Rattle.rule_laws.proofs.ToolLaws.{given-on, choose-on, choose-off, by-test, and-both, both-and, or-cases, or-none, true-not-false}
+use Rattle.rule_laws.proofs.LowestLaws.{free-none, free-named, low-find, low-le}
+use Rattle.rule_laws.proofs.CertificateLaws.{kept-free}
+use Rattle.rule_laws.proofs.BlockLaws.{find-all}
 use Rattle.settling.proofs.FactLaws.{formed}
 use Rattle.settling.proofs.RunLaws.{rule-F, rule-G}
 use Rattle.settling.proofs.Spending.{tell-comes, G-comes}

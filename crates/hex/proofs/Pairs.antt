@@ -9,7 +9,7 @@ use lib.ListN.{length, getD, set, length-set}
 use lib.Dec.{eqb, leb}
 use borrow.Author.Tests.{eq-eqb, ne-eqb, le-leb, lt-leb, leb-true}
 use Rattle.rulebook.specs.Tools.{allTo}
-use Rattle.rulebook.proofs.ToolLaws.{choose-on, choose-off, and-both, all-more, all-at}
+use Rattle.rule_laws.proofs.ToolLaws.{choose-on, choose-off, and-both, all-more, all-at}
 use Rattle.hex.specs.Bytes.{hexPair, isDash, pairsGood, spellsBytes, putPairs, Pairs, hex, hexOf, hexInto, HexIn}
 
 -- ---- a dash

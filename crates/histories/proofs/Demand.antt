@@ -17,7 +17,7 @@ use Rattle.rulebook.specs.Checker.{checkCertificate, checkProof}
 use Rattle.rulebook.specs.Taking.{Arrival}
 use Rattle.rulebook.specs.WellFormed.{keptIn}
 use Rattle.rulebook.specs.Writers.{Wrote, writeCertificate, writeProof, Writes}
-use Rattle.rulebook.proofs.ToolLaws.{given-on}
+use Rattle.rule_laws.proofs.ToolLaws.{given-on}
 use Rattle.record.specs.Layout.{ledgerOf}
 use Rattle.soundness.specs.Sound.{soundWords}
 use Rattle.rulebook.specs.PaperNumbers.{kindIn}

@@ -11,7 +11,7 @@ use Rattle.rulebook.specs.Ledger.{Ledger, fresh}
 use Rattle.rulebook.specs.Pool.{held}
 use Rattle.rulebook.specs.Rules.{Record}
 use Rattle.rulebook.specs.Taking.{Arrival, ofInput, served}
-use Rattle.rulebook.proofs.ToolLaws.{given-on, given-off, by-test}
+use Rattle.rule_laws.proofs.ToolLaws.{given-on, given-off, by-test}
 use Rattle.settling.specs.Facts.{Sound}
 use Rattle.settling.specs.Steps.{after}
 use Rattle.settling.proofs.Life.{life-paid}

@@ -27,9 +27,9 @@ use Rattle.rulebook.specs.Inputs.{Fed, refuseIf, startVerdict, watchVerdict, ve
 use Rattle.rulebook.specs.Taking.{keptVerdict, takenOn, taken, Arrival, ofInput, ofPacket, served}
 use Rattle.rulebook.specs.WellFormed.{wellFormed, outboxWords, step, takeCertificate}
 use Rattle.rulebook.specs.Tools.{given}
-use Rattle.rulebook.proofs.ToolLaws.{given-on, given-off, by-test}
-use Rattle.rulebook.proofs.RuleLaws.{refuse-fine}
-use Rattle.rulebook.proofs.AcceptedLaws.{packet-cases}
+use Rattle.rule_laws.proofs.ToolLaws.{given-on, given-off, by-test}
+use Rattle.rule_laws.proofs.RuleLaws.{refuse-fine}
+use Rattle.rule_laws.proofs.AcceptedLaws.{packet-cases}
 use Rattle.settling.specs.Facts.{Sound}
 use Rattle.settling.specs.Steps as settle
 use Rattle.settling.proofs.FeedLaws.{step-short, step-fed, take-short, take-on}

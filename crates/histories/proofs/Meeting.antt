@@ -18,7 +18,7 @@ use Rattle.rulebook.specs.Pool.{placeKind}
 use Rattle.rulebook.specs.Inputs.{refuseIf, startVerdict}
 use Rattle.rulebook.specs.Taking.{Arrival, ofInput, ofPacket}
 use Rattle.rulebook.specs.WellFormed.{outboxWords, keptIn}
-use Rattle.rulebook.proofs.ToolLaws.{given-on}
+use Rattle.rule_laws.proofs.ToolLaws.{given-on}
 use Rattle.record.specs.Layout.{recordWords, ledgerOf}
 use Rattle.record.specs.Spelling.{wordsOf}
 use Rattle.starts.specs.Starting.{startJudged, startAnswer, startLeft}

@@ -19,8 +19,8 @@ use Rattle.rulebook.specs.Inputs.{refuseIf, Fed, fedWith, refusedWith}
 use Rattle.rulebook.specs.Checker.{checkCertificate}
 use Rattle.rulebook.specs.Taking.{hasRoom, isRepeat, keptVerdict, takenOn, taken, takePacket}
 use Rattle.rulebook.specs.WellFormed.{takeCertificate}
-use Rattle.rulebook.proofs.ToolLaws.{given-on}
-use Rattle.rulebook.proofs.AcceptedLaws.{checked-taken}
+use Rattle.rule_laws.proofs.ToolLaws.{given-on}
+use Rattle.rule_laws.proofs.AcceptedLaws.{checked-taken}
 use Rattle.settling.proofs.FeedLaws.{take-on}
 use Rattle.record.specs.Layout.{ledgerOf}
 use Rattle.soundness.specs.Sound.{soundWords}

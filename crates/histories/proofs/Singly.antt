@@ -16,7 +16,7 @@ use Rattle.rulebook.specs.Ledger.{Ledger}
 use Rattle.rulebook.specs.Inputs.{Fed, feed}
 use Rattle.rulebook.specs.Taking.{ofInput, served}
 use Rattle.rulebook.specs.WellFormed.{wellFormed, outboxWords}
-use Rattle.rulebook.proofs.ToolLaws.{given-on, given-off, given-keeps, by-test, both-and}
+use Rattle.rule_laws.proofs.ToolLaws.{given-on, given-off, given-keeps, by-test, both-and}
 use Rattle.settling.specs.Facts.{Sound}
 use Rattle.settling.proofs.Soundness.{feed-sound}
 use Rattle.record.specs.Layout.{ledgerOf}

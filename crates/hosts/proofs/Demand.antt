@@ -20,8 +20,8 @@ use Rattle.rulebook.specs.Taking.{Arrival}
 use Rattle.rulebook.specs.WellFormed.{keptIn}
 use Rattle.rulebook.specs.Writers as writer
 use Rattle.rulebook.specs.Writers.{certificateVerdict, writeCertificate, Writes}
-use Rattle.rulebook.proofs.KindLaws.{kind-back, number-back}
-use Rattle.rulebook.proofs.RuleLaws.{refuse-fine, wrote-fine}
+use Rattle.rule_laws.proofs.KindLaws.{kind-back, number-back}
+use Rattle.rule_laws.proofs.RuleLaws.{refuse-fine, wrote-fine}
 use Rattle.record.specs.Layout.{ledgerOf}
 use Rattle.writers.specs.Writing.{certificateOn, proofOn}
 use Rattle.safety.specs.Slot.{Test, Ballot}

@@ -9,7 +9,7 @@ use Rattle.rulebook.specs.declared.StepAnswer.the-variants.{Done, Refused}
 use Rattle.rulebook.specs.PaperNumbers.{stepPanel}
 use Rattle.rulebook.specs.Tools.{given}
 use Rattle.rulebook.specs.Taking.{Arrival, ofInput, ofPacket}
-use Rattle.rulebook.proofs.ToolLaws.{by-test}
+use Rattle.rule_laws.proofs.ToolLaws.{by-test}
 use Rattle.watchers.specs.Watching.{asVotes, passedOn, isDone}
 use Rattle.histories.specs.Calls.{firstRecords, toldIn, leftBy}
 use Rattle.histories.specs.Watchers.{shownOne, shownWith, shownBy, PoolsEqual}

@@ -5,7 +5,7 @@ use mathlib.Core.List.{List, [], _∷_}
 use Prim.Native.Nat.{ℕ}
 use Rattle.rulebook.specs.Weights.{slotOk}
 use Rattle.rulebook.specs.Ledger.{rowAt}
-use Rattle.rulebook.proofs.ToolLaws.{by-test}
+use Rattle.rule_laws.proofs.ToolLaws.{by-test}
 use Rattle.record.specs.Layout.{ledgerOf}
 use Rattle.soundness.specs.Sound.{soundWords}
 use Rattle.readers.specs.declared.FinalAnswer.{FinalAnswer}

@@ -17,7 +17,7 @@ use Rattle.rulebook.specs.Votes.{storeVote}
 use Rattle.rulebook.specs.Rules.{State, stateOf, castSkips}
 use Rattle.rulebook.specs.Run.{mostRecords}
 use Rattle.rulebook.specs.Inputs.{verdict, voteVerdict, blockVerdict, keepBlock, timeoutVerdict, timeOut, intake}
-use Rattle.rulebook.proofs.ToolLaws.{given-on, given-off}
+use Rattle.rule_laws.proofs.ToolLaws.{given-on, given-off}
 use Rattle.record.specs.Layout.{InSlot, ledgerOf}
 use Rattle.record.proofs.Places.{long-same}
 use Rattle.settling.specs.Facts.{Sound}

@@ -19,8 +19,8 @@ use Rattle.rulebook.specs.Ledger.{Ledger, none, noKept, places, tableOf, isKept
 use Rattle.rulebook.specs.Pool.{placeKind, sameKind}
 use Rattle.rulebook.specs.Checker.{judgeKind}
 use Rattle.rulebook.specs.WellFormed.{isFine, keptIn, inTurn, certificateFits, certificatesFit}
-use Rattle.rulebook.proofs.ToolLaws.{given-on, given-off, and-both, both-and, or-left, or-right, or-cases, by-test, true-not-false, same-test, sum-same, all-more, all-at, all-each, all-same}
-use Rattle.rulebook.proofs.KeptPlaceLaws.{each-index, turnAt, apart-index}
+use Rattle.rule_laws.proofs.ToolLaws.{given-on, given-off, and-both, both-and, or-left, or-right, or-cases, by-test, true-not-false, same-test, sum-same, all-more, all-at, all-each, all-same}
+use Rattle.rule_laws.proofs.KeptPlaceLaws.{each-index, turnAt, apart-index}
 use Rattle.record.specs.Layout.{maskWords, ledgerOf}
 use Rattle.record.specs.Tabled.{Tabled}
 use Rattle.record.proofs.Places.{by-size}

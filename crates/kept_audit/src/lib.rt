@@ -5,7 +5,7 @@ ghost use Rattle.rulebook.specs.Tools.{allTo};
 ghost use Rattle.rulebook.specs.Ledger.{tableOf, certificatesAt, keptAt};
 ghost use Rattle.rulebook.specs.Pool.{placeKind};
 ghost use Rattle.rulebook.specs.WellFormed.{certificateFits, certificatesFit};
-ghost use Rattle.rulebook.proofs.KeptPlaceLaws.{turnAt};
+ghost use Rattle.rule_laws.proofs.KeptPlaceLaws.{turnAt};
 ghost use Rattle.record.specs.Layout.{ledgerOf};
 ghost use Rattle.kept_audit.specs.Judging.{Judging, JudgingPlace, InTurn};
 use certificates::accepts;

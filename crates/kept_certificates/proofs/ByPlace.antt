@@ -12,8 +12,8 @@ use Rattle.rulebook.specs.Certificates.{Kept}
 use Rattle.rulebook.specs.Ledger.{none, noKept, isKept, mostCertificates, places, certificatesAt}
 use Rattle.rulebook.specs.Pool.{placeKind, sameKind, someKept}
 use Rattle.rulebook.specs.WellFormed.{eachKept, keptBlank, certificateFits, inTurn, certificatesApart, certificatesFit}
-use Rattle.rulebook.proofs.ToolLaws.{given-off, all-same, and-both, both-and}
-use Rattle.rulebook.proofs.WordLaws.{some-same}
+use Rattle.rule_laws.proofs.ToolLaws.{given-off, all-same, and-both, both-and}
+use Rattle.rule_laws.proofs.WordLaws.{some-same}
 use Rattle.record.specs.Layout.{wordAt, tabulate, keptAt, maskWords, keptWords, rowStart, keptStart, placesIn, maskFrom, keptFrom, ledgerOf, InSlot, KeptAt}
 use Rattle.record.proofs.Tables.{length-tabulate, getD-tabulate, part-table}
 use Rattle.record.proofs.Places.{row-inside, places-words}

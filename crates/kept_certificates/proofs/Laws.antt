@@ -16,7 +16,7 @@ use Rattle.rulebook.specs.Tools.{allTo}
 use Rattle.rulebook.specs.Certificates.{Kept}
 use Rattle.rulebook.specs.Packets.{joined}
 use Rattle.rulebook.specs.Ledger.{none, places, certificatesAt, putCertificates}
-use Rattle.rulebook.proofs.ToolLaws.{by-test, same-test, all-at, all-each}
+use Rattle.rule_laws.proofs.ToolLaws.{by-test, same-test, all-at, all-each}
 use Rattle.record.specs.Layout.{wordAt, maskWords, placesIn, maskFrom, ledgerOf, InKept, KeptAt}
 use Rattle.record.proofs.Tables.{length-tabulate, part-table}
 use Rattle.record.proofs.Places.{places-words}

@@ -9,8 +9,8 @@ use Rattle.rulebook.specs.Weights.{isLarge, family}
 use Rattle.rulebook.specs.PaperNumbers.{kindIn}
 use Rattle.rulebook.specs.Packets.{wordsIn}
 use Rattle.rulebook.specs.Checker.{isOtherKind}
-use Rattle.rulebook.proofs.ToolLaws.{choose-on, choose-off, part-on, part-off, both-and, by-test}
-use Rattle.rulebook.proofs.KindLaws.{kind-range}
+use Rattle.rule_laws.proofs.ToolLaws.{choose-on, choose-off, part-on, part-off, both-and, by-test}
+use Rattle.rule_laws.proofs.KindLaws.{kind-range}
 use Rattle.record.specs.Layout.{maskWords}
 
 pub family-words : (count kind : ℕ) → isOtherKind (kindIn count kind) ≡ false → wordsIn kind ≡ maskWords count

@@ -20,7 +20,7 @@ use Rattle.rulebook.specs.Ledger.{Ledger, Row, noKept, noRow, isKept, certifica
 use Rattle.rulebook.specs.Pool.{placeKind, sameKind, servesAs, someKept, isFor, keptAs}
 use Rattle.rulebook.specs.Taking.{isRoom, hasRoom, fillKept, isRepeat}
 use Rattle.rulebook.specs.Writers.{findKept}
-use Rattle.rulebook.proofs.ToolLaws.{choose-on, choose-off, by-test, same-test}
+use Rattle.rule_laws.proofs.ToolLaws.{choose-on, choose-off, by-test, same-test}
 use Rattle.kept_places.specs.declared.Sought.{Sought}
 use Rattle.kept_places.specs.declared.Sought.the-variants as sought
 use Rattle.kept_places.specs.Seeking.{suits, wants, seeks, kindOf, fromPlace, toPlace, firstPlace}

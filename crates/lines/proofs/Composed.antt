@@ -8,7 +8,7 @@ use lib.Seq.{take-suc, take-length}
 use lib.Dec.{eqb}
 use borrow.Author.Tests.{eq-eqb, ne-eqb}
 use Rattle.rulebook.specs.PaperNumbers.{Panel}
-use Rattle.rulebook.proofs.ToolLaws.{choose-on, choose-off, given-on, given-off}
+use Rattle.rule_laws.proofs.ToolLaws.{choose-on, choose-off, given-on, given-off}
 use Rattle.lines.specs.Text.{glyph, decimal, hexPair, hexPairs, hexText, recordText, recordsTo, recordsText}
 use Rattle.lines.specs.Put.{Put}
 use Rattle.lines.specs.Answers.{numberLine, answerLine, spaced, votesTo, votesText, missingLine, fiveValues, checkLine}

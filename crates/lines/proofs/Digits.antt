@@ -6,7 +6,7 @@ use Prim.Native.Nat.{ℕ, zero, suc, _+_, _/_, _%_, _≤_, _<_}
 use native.Mathlib.Omega.{arith}
 use lib.Dec.{leb, ltb}
 use borrow.Author.Tests.{le-leb, lt-leb, leb-true, leb-false, lt-ltb, le-ltb}
-use Rattle.rulebook.proofs.ToolLaws.{given-on, given-off, choose-on, choose-off}
+use Rattle.rule_laws.proofs.ToolLaws.{given-on, given-off, choose-on, choose-off}
 use Rattle.lines.specs.Text.{glyph, digitsOf, decimal}
 
 pub glyph-low : (d : ℕ) → d < 10 → 48 + d ≡ glyph d

@@ -5,7 +5,7 @@ use Prim.Native.Nat.{ℕ, suc, _+_, _≤_, _<_}
 use native.Mathlib.Omega.{arith}
 use lib.Dec.{leb}
 use borrow.Author.Tests.{leb-true, leb-false}
-use Rattle.rulebook.proofs.ToolLaws.{by-test}
+use Rattle.rule_laws.proofs.ToolLaws.{by-test}
 use lib.ListN.{length, set, length-append}
 use lib.Seq.{sets, length-sets, set-out}
 use Rattle.numbers.proofs.Stores.{stores-append, stores-lay, laid-front}

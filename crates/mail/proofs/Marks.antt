@@ -23,7 +23,7 @@ use Rattle.rulebook.specs.Inputs.{Fed, keepBlock, timeoutVerdict, verdict, time
 use Rattle.rulebook.specs.Checker.{judge}
 use Rattle.rulebook.specs.Taking.{keptVerdict, keepCertificate, takenOn, taken, Arrival, ofInput, ofPacket, served}
 use Rattle.rulebook.specs.WellFormed.{Shaped}
-use Rattle.rulebook.proofs.AcceptedLaws.{packet-cases}
+use Rattle.rule_laws.proofs.AcceptedLaws.{packet-cases}
 use Rattle.settling.specs.Facts.{Sound}
 use Rattle.settling.specs.Steps.{Came, Lawful, kindFor}
 use Rattle.settling.proofs.Places.{window-low}

@@ -12,7 +12,7 @@ use Rattle.rulebook.specs.Tools.{choose}
 use Rattle.rulebook.specs.Ledger.{Ledger, none, mostBlocks, blocksAt, someBlock, allBlocks, isFree, hasNumber, isBlock, fillBlock, keepsBlock}
 use Rattle.rulebook.specs.Rules.{fallbackWeights}
 use Rattle.rulebook.specs.WellFormed.{inOrder, blocksApart}
-use Rattle.rulebook.proofs.FourthLaws.{Counted, Weighty, no-four-blocks}
+use Rattle.rule_laws.proofs.FourthLaws.{Counted, Weighty, no-four-blocks}
 use Rattle.safety.proofs.Tests.{T-true, not-false, and-T, or-T, T-left, T-right, by-test, or-neither}
 use Rattle.safety.proofs.Behind.{is-block}
 

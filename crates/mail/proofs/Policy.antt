@@ -17,7 +17,7 @@ use Rattle.rulebook.specs.Rules.{fallbackWeights}
 use Rattle.rulebook.specs.Inputs.{badParent, sameBlock, standsAgainst, blockVerdict, keepBlock, verdict, intake}
 use Rattle.rulebook.specs.Taking.{Arrival, ofInput, ofPacket, served}
 use Rattle.rulebook.specs.WellFormed.{keptFits, blocksApart, blocksFit}
-use Rattle.rulebook.proofs.FourthLaws.{Counted}
+use Rattle.rule_laws.proofs.FourthLaws.{Counted}
 use Rattle.settling.specs.Facts.{Sound}
 use Rattle.settling.proofs.FactLaws.{formed}
 use Rattle.settling.proofs.Life.{served-paid}

@@ -18,8 +18,8 @@ use Rattle.rulebook.specs.Run.{made, run}
 use Rattle.rulebook.specs.Inputs.{Fed, keepBlock, verdict, timeOut, intake, fedWith, refusedWith, fedOn, feed}
 use Rattle.rulebook.specs.Checker.{judge}
 use Rattle.rulebook.specs.Taking.{keptVerdict, keepCertificate, takenOn, taken, Arrival, ofInput, ofPacket, served}
-use Rattle.rulebook.proofs.ToolLaws.{given-keeps}
-use Rattle.rulebook.proofs.AcceptedLaws.{packet-cases}
+use Rattle.rule_laws.proofs.ToolLaws.{given-keeps}
+use Rattle.rule_laws.proofs.AcceptedLaws.{packet-cases}
 use Rattle.settling.specs.Facts.{Sound}
 use Rattle.settling.specs.Steps.{kindFor, life}
 use Rattle.settling.proofs.Sounding.{sound-certificate}

@@ -13,7 +13,7 @@ use Rattle.rulebook.specs.Ledger.{Ledger, none, fresh, isArmed}
 use Rattle.rulebook.specs.Rules.{Record}
 use Rattle.rulebook.specs.Run.{mostRecords}
 use Rattle.rulebook.specs.Taking.{Arrival}
-use Rattle.rulebook.proofs.ToolLaws.{part-on, sum-same, sum-le, sum-add, sum-const, sum-term}
+use Rattle.rule_laws.proofs.ToolLaws.{part-on, sum-same, sum-le, sum-add, sum-const, sum-term}
 use Rattle.settling.specs.Facts.{Sound}
 use Rattle.settling.specs.Steps as calls
 use Rattle.settling.proofs.Start.{fresh-sound, start-within}

@@ -19,7 +19,7 @@ use Rattle.rulebook.specs.Rules.{State, stateOf, cast, castSkip, castSkips}
 use Rattle.rulebook.specs.Inputs.{timeoutVerdict, timeOut, verdict, intake, refusedWith, fedOn, feed}
 use Rattle.rulebook.specs.Taking.{Arrival, ofInput, ofPacket, served}
 use Rattle.watchers.specs.Watching.{isDone}
-use Rattle.rulebook.proofs.ToolLaws.{all-at}
+use Rattle.rule_laws.proofs.ToolLaws.{all-at}
 use Rattle.settling.proofs.Places.{first-low, first-high}
 use Rattle.safety.specs.Slot.{skip}
 use Rattle.safety.specs.Moves.{stay}

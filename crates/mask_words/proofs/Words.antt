@@ -14,7 +14,7 @@ use Rattle.rulebook.proofs.Reading as type
 use Rattle.rulebook.specs.declared.Reading.the-variants as reading
 use Rattle.rulebook.specs.declared.Laid.the-variants as laid
 use Rattle.rulebook.specs.Packets.{numberAt, numberBytes, aboveWord, wordThen, maskAt, maskBytes, joined}
-use Rattle.rulebook.proofs.WordLaws.{Words}
+use Rattle.rule_laws.proofs.WordLaws.{Words}
 use Rattle.mask_words.specs.Told.{failedWord, laidAs}
 use Rattle.numbers.specs.Written.{Room, Written}
 use Rattle.mask_words.proofs.Fell.{fell-word}

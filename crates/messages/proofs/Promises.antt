@@ -32,8 +32,8 @@ use Rattle.rulebook.specs.Inputs.{refuseIf, isOther, notInTable, misfits, place
 use Rattle.rulebook.specs.Packets.{numberAt, numberBytes}
 use Rattle.rulebook.specs.Messages.{voteOf, asRead, readOn, readTo, readVote, messageBytes, messageVerdict, writeVote}
 use Rattle.rulebook.specs.Writers.{wroteOn, over}
-use Rattle.rulebook.proofs.RuleLaws.{refuse-fine, wrote-fine, wrote-bytes, wrote-count, over-front}
-use Rattle.rulebook.proofs.NumberLaws.{Read, number-in, number-read}
+use Rattle.rule_laws.proofs.RuleLaws.{refuse-fine, wrote-fine, wrote-bytes, wrote-count, over-front}
+use Rattle.rule_laws.proofs.NumberLaws.{Read, number-in, number-read}
 use Rattle.messages.specs.Promises.{Bytes, WrittenBack, OneSpelling, SixteenHold, PoolAgrees, TakenWritten}
 use Rattle.messages.proofs.Tested.{Tested, tests-fine, fine-tests, message-fine, fine-message, kind-few, slot-few, count-few, message-few}
 

@@ -18,9 +18,9 @@ use Rattle.rulebook.specs.PaperNumbers.{voteNumber}
 use Rattle.rulebook.specs.Inputs.{refuseIf, isOther, notInTable, misfits}
 use Rattle.rulebook.specs.Packets.{groupsOf, numberBytes}
 use Rattle.rulebook.specs.Messages.{voteTests, messageBytes, messageVerdict}
-use Rattle.rulebook.proofs.ToolLaws.{and-both}
-use Rattle.rulebook.proofs.RuleLaws.{refuse-fine}
-use Rattle.rulebook.proofs.NumberLaws.{groups-last, groups-more, number-few}
+use Rattle.rule_laws.proofs.ToolLaws.{and-both}
+use Rattle.rule_laws.proofs.RuleLaws.{refuse-fine}
+use Rattle.rule_laws.proofs.NumberLaws.{groups-last, groups-more, number-few}
 
 -- A vote that passes all four, and what is found later.
 pub record Tested (count : ℕ) (v : Vote) (later : Verdict) : Type 0 where

@@ -7,7 +7,7 @@ use Rattle.rulebook.specs.Tools.{someTo}
 use Rattle.rulebook.specs.Weights.{windowOf, firstOf}
 use Rattle.rulebook.specs.Ledger.{Ledger, ownCell, noInitial}
 use Rattle.rulebook.specs.Rules.{windowOpen}
-use Rattle.rulebook.proofs.ToolLaws.{some-at}
+use Rattle.rule_laws.proofs.ToolLaws.{some-at}
 
 -- No own initial vote in the window's slot i.
 abbrev pub unvoted : Ledger → ℕ → ℕ → Bool

@@ -31,14 +31,14 @@ use Rattle.rulebook.specs.Packets.{wordsIn, certificateAt, certificateBytes, bi
 use Rattle.rulebook.specs.Checker.{good, isOtherKind, blockMisfits, withoutB, badSigners, signed, signedWeight, judgeWeight, judgeKind, judge, acceptedOf, judged, oneOf, oneAt, ended, singleOf, checkCertificate, secondOf, firstIn, proofOf, checkProof}
 use Rattle.rulebook.specs.Writers.{inA, inB, votedFor, keptFor, maskedBy, certificateFor, certificateRoom, proofRoom, certificateVerdict, writeCertificate, proofVerdict, proofBytes, writeProof}
 use Rattle.rulebook.specs.WellFormed.{keptIn}
-use Rattle.rulebook.proofs.ToolLaws.{given-on, given-off, choose-on, choose-off, and-both, both-and, or-cases, by-test, true-not-false, sum-same, sum-const, part-off}
-use Rattle.rulebook.proofs.MaskLaws.{mask-lt, masks-apart, masks-weight, masks-count, count-same}
-use Rattle.rulebook.proofs.WeightLaws.{weight-same}
-use Rattle.rulebook.proofs.NumberLaws.{Fits64, certificate-in}
-use Rattle.rulebook.proofs.KindLaws.{kind-back, kind-small, kind-words}
-use Rattle.rulebook.proofs.CertificateLaws.{Serving, kept-serving, serves-judged, judged-masks}
+use Rattle.rule_laws.proofs.ToolLaws.{given-on, given-off, choose-on, choose-off, and-both, both-and, or-cases, by-test, true-not-false, sum-same, sum-const, part-off}
+use Rattle.rule_laws.proofs.MaskLaws.{mask-lt, masks-apart, masks-weight, masks-count, count-same}
+use Rattle.rule_laws.proofs.WeightLaws.{weight-same}
+use Rattle.rule_laws.proofs.NumberLaws.{Fits64, certificate-in}
+use Rattle.rule_laws.proofs.KindLaws.{kind-back, kind-small, kind-words}
+use Rattle.rule_laws.proofs.CertificateLaws.{Serving, kept-serving, serves-judged, judged-masks}
 use Rattle.packets.specs.Promises.{parts, TableIs, signersFor, acceptedFor, proofParts, proofKind, CertificateBack, ProofBack}
-use Rattle.rulebook.proofs.RuleLaws.{refuse-fine, wrote-fine, wrote-bytes}
+use Rattle.rule_laws.proofs.RuleLaws.{refuse-fine, wrote-fine, wrote-bytes}
 use Rattle.packets.proofs.Spelling.{parts-one, parts-two}
 
 -- ---- a node counts by one of the two masks, and by one only

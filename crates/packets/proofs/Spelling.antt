@@ -9,8 +9,8 @@ use Rattle.rulebook.specs.declared.Accepted.{Accepted}
 use Rattle.rulebook.specs.Certificates.{Certificate}
 use Rattle.rulebook.specs.Certificates as found
 use Rattle.rulebook.specs.Packets.{certificateAt, certificateBytes}
-use Rattle.rulebook.proofs.NumberLaws.{certificate-read, certificate-whole}
-use Rattle.rulebook.proofs.AcceptedLaws.{Proven, one, two, accepted-single, accepted-proof, past-end}
+use Rattle.rule_laws.proofs.NumberLaws.{certificate-read, certificate-whole}
+use Rattle.rule_laws.proofs.AcceptedLaws.{Proven, one, two, accepted-single, accepted-proof, past-end}
 use Rattle.packets.specs.Promises.{Bytes, partFrom, parts, AcceptedByEither, asCertificate, asProof, OnePacket}
 
 -- Certificates, one after the other.

@@ -16,9 +16,9 @@ use Rattle.rulebook.specs.Ledger.{Ledger, none, places, tableOf, certificatesAt
 use Rattle.rulebook.specs.Pool.{placeKind}
 use Rattle.rulebook.specs.Checker.{judgeKind}
 use Rattle.rulebook.specs.WellFormed.{isFine, keptIn, eachKept, certificateFits, certificatesFit, headFits, wellFormed}
-use Rattle.rulebook.proofs.PlaceLaws.{nodes-placed}
-use Rattle.rulebook.proofs.ToolLaws.{given-both, given-on, and-both, all-same, sum-same}
-use Rattle.rulebook.proofs.CertificateLaws.{each-at, kept-within, record-certificates}
+use Rattle.rule_laws.proofs.PlaceLaws.{nodes-placed}
+use Rattle.rule_laws.proofs.ToolLaws.{given-both, given-on, and-both, all-same, sum-same}
+use Rattle.rule_laws.proofs.CertificateLaws.{each-at, kept-within, record-certificates}
 use Rattle.packets.specs.Promises.{TableOfRecord}
 
 -- Stakes that agree below n fit alike, and have the same total.

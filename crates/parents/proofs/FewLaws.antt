@@ -18,8 +18,8 @@ use Rattle.rulebook.specs.Weights.{reaches, missing, weight, stakeIn, totalTo}
 use Rattle.rulebook.specs.Certificates.{Kept}
 use Rattle.rulebook.specs.Ledger.{Ledger, none, noKept, isKept, cellAt, certificatesAt}
 use Rattle.rulebook.specs.Pool.{counts, hasFallback, weigh, weighs, reached, placeKind, servesAs, someKept, isFor, keptAs, held, namesTo, names, signersOf, fifthsOf}
-use Rattle.rulebook.proofs.ToolLaws.{by-test, true-not-false, and-both, given-both, or-cases, or-left, or-right, part-on, part-off, part-le, sum-none, sum-more, sum-mono}
-use Rattle.rulebook.proofs.WeightLaws.{reaches-more, missing-enough, missing-least, missing-within, weight-none, weight-more, weight-mono}
+use Rattle.rule_laws.proofs.ToolLaws.{by-test, true-not-false, and-both, given-both, or-cases, or-left, or-right, part-on, part-off, part-le, sum-none, sum-more, sum-mono}
+use Rattle.rule_laws.proofs.WeightLaws.{reaches-more, missing-enough, missing-least, missing-within, weight-none, weight-more, weight-mono}
 use Rattle.record.specs.Tabled.{Tabled}
 use Rattle.record.proofs.BlockPlaces.{some-first as first-place}
 use Rattle.pool.specs.Weighing.{namedHolds}

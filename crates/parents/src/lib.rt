@@ -26,9 +26,9 @@ use rulebook::Cell;
 use rulebook::CertificateKind;
 use rulebook::Node;
 use rulebook::Slot;
-use rulebook::Threshold;
 use rulebook::Weight;
 use rulebook::Who;
+use thresholds::Threshold;
 
 // Whether b is a parent that slot p holds, or genesis.
 fn parent_held(rec: &[u64], p: Slot, b: u64) -> bool

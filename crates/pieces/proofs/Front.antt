@@ -25,7 +25,7 @@ use Rattle.rulebook.specs.Weights.{stakesFit}
 use Rattle.rulebook.specs.PaperNumbers.{kindIn, numberIn}
 use Rattle.rulebook.specs.Packets.{lastGroup, lastFits, above, numberFrom, placed, numberAt, aboveWord, wordThen, maskAt, wordsIn, andThen, certificateAt}
 use Rattle.rulebook.specs.Checker.{One, good, bad, judged, judge, oneOf, oneAt, ended, secondOf, firstIn, proofOf, checkProof, acceptedOf}
-use Rattle.rulebook.proofs.KindLaws.{words-most}
+use Rattle.rule_laws.proofs.KindLaws.{words-most}
 use Rattle.pieces.specs.State.{frontBytes}
 
 -- ---- a number

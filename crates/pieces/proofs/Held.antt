@@ -9,7 +9,7 @@ use lib.Seq.{paste, take-all, take-nil, drop-nil, drop-at, take-append-le, take-
 use lib.Dec.{leb}
 use borrow.Author.Tests.{le-leb, leb-true, leb-false}
 use Rattle.rulebook.specs.Weights.{stakesFit}
-use Rattle.rulebook.proofs.ToolLaws.{both-and}
+use Rattle.rule_laws.proofs.ToolLaws.{both-and}
 use Rattle.pieces.specs.Pieces.{nothing, since}
 use Rattle.pieces.specs.State.{stateWords, frontBytes, mark, kept, nodes, table, front, blank, isReady, isWhole, withTable, fitting, keptWords, keptFront, wordsOf, bytesOf}
 use Rattle.pieces.proofs.Runs.{zeros-blank}

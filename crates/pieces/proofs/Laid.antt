@@ -10,7 +10,7 @@ use lib.Dec.{leb}
 use borrow.Author.Tests.{leb-true}
 use Rattle.rulebook.specs.Tools.{allTo}
 use Rattle.rulebook.specs.Weights.{mostNodes, mostStake, countFits, stakeIn, totalTo, stakesFit}
-use Rattle.rulebook.proofs.ToolLaws.{and-both}
+use Rattle.rule_laws.proofs.ToolLaws.{and-both}
 use Rattle.pieces.specs.State.{stateWords, frontBytes, mark, withTable, Taking}
 
 -- A table that fits has at most 2,048 nodes.

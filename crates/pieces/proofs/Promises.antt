@@ -15,7 +15,7 @@ use Rattle.rulebook.specs.declared.Refusal.the-variants as refusal
 use Rattle.rulebook.specs.Weights.{stakesFit}
 use Rattle.rulebook.specs.Ledger.{none}
 use Rattle.rulebook.specs.Checker.{checkProof}
-use Rattle.rulebook.proofs.ToolLaws.{given-on, given-off, by-test, true-not-false}
+use Rattle.rule_laws.proofs.ToolLaws.{given-on, given-off, by-test, true-not-false}
 use Rattle.pieces.specs.declared.PieceAnswer.{PieceAnswer}
 use Rattle.pieces.specs.declared.PieceAnswer.the-variants as answer
 use Rattle.pieces.specs.Pieces.{Taken, nothing, since, afterPiece, pieceAnswer, endAnswer, Asked, piece, end, Said, ofPiece, ofEnd, said, afterCall, saidBy, afterCalls, Piece, calls, packet, mores}

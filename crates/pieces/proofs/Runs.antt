@@ -12,7 +12,7 @@ use lib.Seq.{paste, paste-suc, ext-getD, getD-set-same, getD-set-other}
 use borrow.Author.Tests.{eq-eqb, eqb-true}
 use Rattle.rulebook.specs.Tools.{allTo}
 use Rattle.rulebook.specs.Ledger.{none}
-use Rattle.rulebook.proofs.ToolLaws.{all-more, all-at, all-each}
+use Rattle.rule_laws.proofs.ToolLaws.{all-more, all-at, all-each}
 use Rattle.pieces.specs.State.{blank}
 
 -- ---- tested

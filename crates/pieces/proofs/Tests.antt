@@ -11,7 +11,7 @@ use borrow.Author.Tests.{eq-eqb, ne-eqb, eqb-true, le-leb, lt-leb, leb-true}
 use Rattle.rulebook.specs.Tools.{choose}
 use Rattle.rulebook.specs.Weights.{stakesFit}
 use Rattle.rulebook.specs.Ledger.{none}
-use Rattle.rulebook.proofs.ToolLaws.{choose-on, choose-off, and-both, both-and}
+use Rattle.rule_laws.proofs.ToolLaws.{choose-on, choose-off, and-both, both-and}
 use Rattle.pieces.specs.State.{stateWords, frontBytes, mark, kept, nodes, table, blank, isSized, isReady, holdsTable, isWhole, Taking}
 
 -- ---- parts as the code lends them

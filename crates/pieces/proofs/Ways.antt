@@ -12,7 +12,7 @@ use Rattle.rulebook.specs.declared.Refusal.the-variants as refusal
 use Rattle.rulebook.specs.Weights.{stakesFit}
 use Rattle.rulebook.specs.Ledger.{none}
 use Rattle.rulebook.specs.Checker.{checkProof}
-use Rattle.rulebook.proofs.ToolLaws.{given-on, given-off}
+use Rattle.rule_laws.proofs.ToolLaws.{given-on, given-off}
 use Rattle.pieces.proofs.Tests.{firstStakes, first-stakes}
 use Rattle.pieces.specs.declared.PieceAnswer.{PieceAnswer}
 use Rattle.pieces.specs.declared.PieceAnswer.the-variants as answer

@@ -16,8 +16,8 @@ use Rattle.rulebook.specs.Weights.{reaches, missing}
 use Rattle.rulebook.specs.Ledger.{Ledger, none, rowAt}
 use Rattle.rulebook.specs.Pool.{weigh, weighs, reached, missingTo, signersOf, fifthsOf}
 use Rattle.rulebook.specs.Cards.{recount, leader, most}
-use Rattle.rulebook.proofs.ToolLaws.{by-test, and-both, part-on, part-off, part-le, true-not-false}
-use Rattle.rulebook.proofs.WeightLaws.{reaches-more, reaches-missing, none-missing}
+use Rattle.rule_laws.proofs.ToolLaws.{by-test, and-both, part-on, part-off, part-le, true-not-false}
+use Rattle.rule_laws.proofs.WeightLaws.{reaches-more, reaches-missing, none-missing}
 use Rattle.record.specs.Layout.{ledgerOf}
 use Rattle.record.specs.Tabled.{Tabled}
 use Rattle.recounting.proofs.Leading.{lead-recount}

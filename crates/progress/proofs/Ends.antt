@@ -21,8 +21,8 @@ use Rattle.rulebook.specs.Inputs.{verdict, intake, Fed, fedWith, refusedWith, f
 use Rattle.rulebook.specs.Checker.{judge}
 use Rattle.rulebook.specs.Taking.{keptVerdict, keepCertificate, takenOn, taken, Arrival, ofInput, ofPacket, served}
 use Rattle.rulebook.specs.WellFormed.{inOrder, keptFits, blocksApart, blocksFit, blockBlank, rowBlank}
-use Rattle.rulebook.proofs.ToolLaws.{and-both, or-none, true-not-false, same-test, by-test as by-case}
-use Rattle.rulebook.proofs.AcceptedLaws.{packet-cases}
+use Rattle.rule_laws.proofs.ToolLaws.{and-both, or-none, true-not-false, same-test, by-test as by-case}
+use Rattle.rule_laws.proofs.AcceptedLaws.{packet-cases}
 use Rattle.settling.specs.Facts.{Sound}
 use Rattle.settling.specs.Steps.{Settled, kindFor}
 use Rattle.settling.proofs.FactLaws.{formed}

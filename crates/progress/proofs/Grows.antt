@@ -11,7 +11,7 @@ use Rattle.rulebook.specs.Weights.{firstOf}
 use Rattle.rulebook.specs.Ledger.{ownCell, noInitial}
 use Rattle.rulebook.specs.Rules.{State, cast, castSkip, castSkips, windowOpen, mayFallback, castFallback, maySkipFallback, castSkipFallback}
 use Rattle.rulebook.specs.Run.{made}
-use Rattle.rulebook.proofs.ToolLaws.{given-on, given-off, given-keeps}
+use Rattle.rule_laws.proofs.ToolLaws.{given-on, given-off, given-keeps}
 use Rattle.safety.proofs.Tests.{T-true, not-false, or-T, by-test, or-neither}
 
 pub grows-not : (o p : State) → made o < made p → ¬ (p ≡ o)

@@ -10,9 +10,9 @@ use Rattle.rulebook.specs.declared.Cell.{Cell}
 use Rattle.rulebook.specs.Tools.{anyOf, largest}
 use Rattle.rulebook.specs.Ledger.{Ledger, none, cellAt, certificatesAt}
 use Rattle.rulebook.specs.Pool.{hasFallback, named, namesTo, names, certifiable}
-use Rattle.rulebook.proofs.ToolLaws.{or-none, true-not-false}
-use Rattle.rulebook.proofs.LowestLaws.{Among, ZeroFree, among-named, among-name}
-use Rattle.rulebook.proofs.CertificateLaws.{kept-beside}
+use Rattle.rule_laws.proofs.ToolLaws.{or-none, true-not-false}
+use Rattle.rule_laws.proofs.LowestLaws.{Among, ZeroFree, among-named, among-name}
+use Rattle.rule_laws.proofs.CertificateLaws.{kept-beside}
 use Rattle.safety.specs.Slot.{notar, notarFallback}
 use Rattle.safety.specs.Ballots.{has}
 use Rattle.safety.proofs.Tests.{T-true, true-T, not-false, and-T, or-T, T-left, T-right}

@@ -10,7 +10,7 @@ use Rattle.rulebook.specs.Tools.{allTo}
 use Rattle.rulebook.specs.Weights.{placesFor, lastSlot, weight, totalTo, reaches, isFirst, windowOf}
 use Rattle.rulebook.specs.Ledger.{Ledger, none, fresh, cellAt, isWatcher, ownCell, noInitial, isArmed}
 use Rattle.rulebook.specs.Taking.{Arrival}
-use Rattle.rulebook.proofs.ToolLaws.{all-at}
+use Rattle.rule_laws.proofs.ToolLaws.{all-at}
 use Rattle.safety.specs.Slot.{Test, Ballot, notar, notarFallback, skip, skipFallback, Heavy}
 use Rattle.safety.specs.Ballots.{has}
 use Rattle.safety.specs.Moves.{notFor, SameTable}

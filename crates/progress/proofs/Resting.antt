@@ -15,8 +15,8 @@ use Rattle.rulebook.specs.Ledger.{Ledger, none, cellAt, isWatcher, ownCell, noI
 use Rattle.rulebook.specs.Pool.{hasFallback, counts, weigh, weighs, signersOf, fifthsOf, reached, keptAs, held, names, parentHeld, skippedBetween, ready, certifiable, parentNames, someReady}
 use Rattle.rulebook.specs.Rules.{Record, State, stateOf, report, ruleA, ruleD, ruleE, windowOpen, fallbackWeights, mayFallback, parentBacked, isBacked, isGrounded, fallsBack, fallbackBlock, castFallback, skipWeights, maySkipFallback, castSkipFallback}
 use Rattle.rulebook.specs.Run.{made}
-use Rattle.rulebook.proofs.ToolLaws.{given-on, all-each, some-at}
-use Rattle.rulebook.proofs.LowestLaws.{Among, low-le, names-free, heavy-named}
+use Rattle.rule_laws.proofs.ToolLaws.{given-on, all-each, some-at}
+use Rattle.rule_laws.proofs.LowestLaws.{Among, low-le, names-free, heavy-named}
 use Rattle.settling.proofs.RunLaws.{rule-A, rule-D, rule-E}
 use Rattle.safety.specs.Slot.{notar, notarFallback, skip, skipFallback, final}
 use Rattle.safety.specs.Ballots.{has}

@@ -18,7 +18,7 @@ use Rattle.rulebook.specs.Rules.{fallbackWeights}
 use Rattle.rulebook.specs.Inputs.{Fed, refusedWith}
 use Rattle.rulebook.specs.Taking.{Arrival, ofInput, served}
 use Rattle.rulebook.specs.WellFormed.{outboxWords}
-use Rattle.rulebook.proofs.ToolLaws.{given-on, by-test}
+use Rattle.rule_laws.proofs.ToolLaws.{given-on, by-test}
 use Rattle.settling.proofs.FeedLaws.{step-short}
 use Rattle.watchers.specs.Watching.{isDone}
 use Rattle.record.specs.Layout.{ledgerOf}

@@ -22,9 +22,9 @@ use Rattle.rulebook.specs.Packets.{certificateBytes}
 use Rattle.rulebook.specs.Checker.{isOtherKind, blockMisfits}
 use Rattle.rulebook.specs.Taking.{Arrival}
 use Rattle.rulebook.specs.Writers.{certificateFor, Wrote, wroteOn, certificateRoom, certificateVerdict, writeCertificate}
-use Rattle.rulebook.proofs.ToolLaws.{both-and}
-use Rattle.rulebook.proofs.RuleLaws.{refuse-none}
-use Rattle.rulebook.proofs.KindLaws.{kind-back}
+use Rattle.rule_laws.proofs.ToolLaws.{both-and}
+use Rattle.rule_laws.proofs.RuleLaws.{refuse-none}
+use Rattle.rule_laws.proofs.KindLaws.{kind-back}
 use Rattle.record.specs.Layout.{ledgerOf}
 use Rattle.safety.specs.Slot.{Test, notar}
 use Rattle.safety.specs.Ballots.{has}

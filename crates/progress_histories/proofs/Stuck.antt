@@ -10,8 +10,8 @@ use Rattle.rulebook.specs.Tools.{anyOf}
 use Rattle.rulebook.specs.Weights.{weight}
 use Rattle.rulebook.specs.Ledger.{Ledger, none, cellAt, certificatesAt}
 use Rattle.rulebook.specs.Pool.{hasFallback, counts, weigh, weighs, signersOf, fifthsOf, reached, keptAs, held, names, certifiable}
-use Rattle.rulebook.proofs.LowestLaws.{Among}
-use Rattle.rulebook.proofs.CertificateLaws.{kept-serving, kept-name}
+use Rattle.rule_laws.proofs.LowestLaws.{Among}
+use Rattle.rule_laws.proofs.CertificateLaws.{kept-serving, kept-name}
 use Rattle.safety.specs.Slot.{notar, notarFallback}
 use Rattle.safety.specs.Ballots.{has}
 use Rattle.safety.proofs.Tests.{T-true, not-false, and-T, T-and, or-T, T-left, T-right, or-neither, yes, not-not}

@@ -12,7 +12,7 @@ use Rattle.rulebook.specs.Weights.{lastSlot, weight, reaches, isFirst, stakesFi
 use Rattle.rulebook.specs.Ledger.{Ledger, none, fresh, cellAt, ownCell, noInitial, isArmed, keepsBlock, blocksAt}
 use Rattle.rulebook.specs.Inputs.{startVerdict}
 use Rattle.rulebook.specs.Taking.{Arrival}
-use Rattle.rulebook.proofs.ToolLaws.{all-at, some-find}
+use Rattle.rule_laws.proofs.ToolLaws.{all-at, some-find}
 use Rattle.safety.specs.Slot.{Ballot, notar}
 use Rattle.safety.specs.Ballots.{has}
 use Rattle.safety.specs.Ring.{afterAll, castBy, FewOthers, Ring}

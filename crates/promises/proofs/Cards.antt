@@ -12,7 +12,7 @@ use Rattle.rulebook.specs.Tools.{choose}
 use Rattle.rulebook.specs.Weights.{slotOk}
 use Rattle.rulebook.specs.Ledger.{Ledger, rowAt}
 use Rattle.rulebook.specs.Inputs.{refuseIf, verdict, feed}
-use Rattle.rulebook.proofs.ToolLaws.{by-test}
+use Rattle.rule_laws.proofs.ToolLaws.{by-test}
 use Rattle.record.specs.Layout.{ledgerOf}
 use Rattle.soundness.specs.Sound.{soundWords}
 use Rattle.soundness.proofs.Laws.{disagreeing-unsound}

@@ -23,9 +23,9 @@ use Rattle.rulebook.specs.Checker.{badSigners, signed, signedWeight, lacking, j
 use Rattle.rulebook.specs.Taking.{hasRoom, isRepeat, keptVerdict}
 use Rattle.rulebook.specs.Writers.{maskedBy}
 use Rattle.rulebook.specs.WellFormed.{keptIn, eachKept, certificateFits, inTurn, certificatesApart, certificatesFit, wellFormed, outboxWords}
-use Rattle.rulebook.proofs.ToolLaws.{and-both, by-test, true-not-false}
-use Rattle.rulebook.proofs.KindLaws.{kind-back}
-use Rattle.rulebook.proofs.CertificateLaws.{kind-same, apart-at, record-certificates}
+use Rattle.rule_laws.proofs.ToolLaws.{and-both, by-test, true-not-false}
+use Rattle.rule_laws.proofs.KindLaws.{kind-back}
+use Rattle.rule_laws.proofs.CertificateLaws.{kind-same, apart-at, record-certificates}
 use Rattle.packets.proofs.Table.{table-of-record}
 use Rattle.record.specs.Layout.{ledgerOf}
 use Rattle.soundness.specs.Sound.{soundWords}

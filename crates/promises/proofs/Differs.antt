@@ -10,7 +10,7 @@ use borrow.Author.Tests.{leb-true, leb-false}
 use Rattle.rulebook.specs.declared.Vote.{Vote}
 use Rattle.rulebook.specs.PaperNumbers.{Panel, refusalNumber}
 use Rattle.rulebook.specs.Writers.{over}
-use Rattle.rulebook.proofs.ToolLaws.{given-on, given-off, by-test}
+use Rattle.rule_laws.proofs.ToolLaws.{given-on, given-off, by-test}
 use Rattle.record.specs.Layout.{ledgerOf}
 use Rattle.soundness.specs.Sound.{soundWords}
 use Rattle.differences.specs.declared.DifferAnswer.{DifferAnswer}

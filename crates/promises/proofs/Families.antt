@@ -24,10 +24,10 @@ use Rattle.rulebook.specs.Inputs.{refuseIf}
 use Rattle.rulebook.specs.Packets.{certificateAt}
 use Rattle.rulebook.specs.Checker.{isOtherKind, judgeKind, judge, judged, oneOf, oneAt, acceptedOf, singleOf, checkCertificate, proofOf, checkProof}
 use Rattle.rulebook.specs.Writers.{certificateRoom, wroteOn, certificateVerdict, writeCertificate}
-use Rattle.rulebook.proofs.ToolLaws.{given-on}
-use Rattle.rulebook.proofs.RuleLaws.{refuse-fine}
-use Rattle.rulebook.proofs.KindLaws.{kind-range, number-back}
-use Rattle.rulebook.proofs.AcceptedLaws.{accepted-single, accepted-proof, Proven, one, two}
+use Rattle.rule_laws.proofs.ToolLaws.{given-on}
+use Rattle.rule_laws.proofs.RuleLaws.{refuse-fine}
+use Rattle.rule_laws.proofs.KindLaws.{kind-range, number-back}
+use Rattle.rule_laws.proofs.AcceptedLaws.{accepted-single, accepted-proof, Proven, one, two}
 use Rattle.record.specs.Layout.{ledgerOf}
 use Rattle.soundness.specs.Sound.{soundWords}
 use Rattle.writers.specs.Writing.{kindOn, certificateOn}

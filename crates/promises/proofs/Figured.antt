@@ -24,7 +24,7 @@ use Rattle.rulebook.specs.Pool.{weigh, weighs, signersOf, fifthsOf, reached, ke
 use Rattle.rulebook.specs.Inputs.{refuseIf}
 use Rattle.rulebook.specs.Packets.{certificateAt}
 use Rattle.rulebook.specs.Checker.{One, good, bad, isOtherKind, blockMisfits, badSigners, signedWeight, lacking, judgeWeight, judgeKind, judge, acceptedOf, judged, oneOf, oneAt, ended, singleOf, checkCertificate, secondOf, firstIn, proofOf, checkProof}
-use Rattle.rulebook.proofs.WeightLaws.{reaches-fact, short-fact, missing-enough, missing-least, reached-missing}
+use Rattle.rule_laws.proofs.WeightLaws.{reaches-fact, short-fact, missing-enough, missing-least, reached-missing}
 use Rattle.promises.specs.Figures.{Least, ReachedAsBefore, firstFailed, JudgedAsBefore, FirstOf, first, OneOf, theFirst, theSecond, ShortBy, FigureTold, CertificateFigure, ProofFigure, FaceCertificateFigure, FaceProofFigure}
 
 -- ---- certificates that the stored votes reach

@@ -20,7 +20,7 @@ use Rattle.rulebook.specs.Rules.{isFinal}
 use Rattle.rulebook.specs.Inputs.{refuseIf}
 use Rattle.rulebook.specs.Packets.{certificateBytes}
 use Rattle.rulebook.specs.Writers.{Wrote, certificateFor, certificateRoom, proofRoom, wroteOn, certificateVerdict, writeCertificate, proofVerdict, proofBytes, writeProof}
-use Rattle.rulebook.proofs.ToolLaws.{given-on, given-off, by-test, true-not-false}
+use Rattle.rule_laws.proofs.ToolLaws.{given-on, given-off, by-test, true-not-false}
 use Rattle.record.specs.Layout.{ledgerOf}
 use Rattle.soundness.specs.Sound.{soundWords}
 use Rattle.writers.specs.Writing.{unsound, kindOn, certificateOn, proofOn}

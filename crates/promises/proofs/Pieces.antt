@@ -24,7 +24,7 @@ use Rattle.rulebook.specs.Ledger.{none}
 use Rattle.rulebook.specs.Inputs.{refuseIf}
 use Rattle.rulebook.specs.Packets.{certificateAt}
 use Rattle.rulebook.specs.Checker.{judgeWeight, judgeKind, judge, checkProof}
-use Rattle.rulebook.proofs.ToolLaws.{given-on, by-test}
+use Rattle.rule_laws.proofs.ToolLaws.{given-on, by-test}
 use Rattle.pieces.specs.declared.PieceAnswer.{PieceAnswer}
 use Rattle.pieces.specs.declared.PieceAnswer.the-variants as answer
 use Rattle.pieces.specs.Pieces.{Taken, nothing, since, afterPiece, pieceAnswer, endAnswer, piecePanel, Asked, piece, end, afterCall, afterCalls, Piece, calls, packet}

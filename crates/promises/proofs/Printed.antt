@@ -3,7 +3,7 @@ use mathlib.Core.Path.{_≡_, ap, _∙_}
 use mathlib.Core.List.{List}
 use Prim.Native.Nat.{ℕ}
 use lib.ListN.{take}
-use Rattle.rulebook.proofs.RuleLaws.{over-front}
+use Rattle.rule_laws.proofs.RuleLaws.{over-front}
 use Rattle.lines.specs.Answers.{numberLine, startLine, stepLine, trayLine, packetLine, messageLine, checkLine}
 use Rattle.lines.proofs.Putting.{stands-whole}
 use Rattle.tray_rules.specs.Trays.{wholeVotes}

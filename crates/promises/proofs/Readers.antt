@@ -13,7 +13,7 @@ use Rattle.rulebook.specs.PaperNumbers.{refusalNumber, verdictNumber, writePane
 use Rattle.rulebook.specs.Weights.{slotOk}
 use Rattle.rulebook.specs.Inputs.{refuseIf, notInTable}
 use Rattle.rulebook.specs.Writers.{Wrote, wroteOn, over}
-use Rattle.rulebook.proofs.ToolLaws.{by-test}
+use Rattle.rule_laws.proofs.ToolLaws.{by-test}
 use Rattle.record.specs.Layout.{ledgerOf}
 use Rattle.soundness.specs.Sound.{soundWords}
 use Rattle.readers.specs.declared.FinalAnswer.{FinalAnswer}

@@ -25,8 +25,8 @@ use Rattle.rulebook.specs.WellFormed.{wellFormed, outboxWords, step, takeCertif
 use Rattle.rulebook.specs.Writers.{Wrote, wroteOn, writeCertificate, writeProof, certificateVerdict, proofVerdict, proofBytes, certificateFor, over, Writes}
 use Rattle.rulebook.specs.Packets.{certificateBytes}
 use Rattle.rulebook.specs.Messages.{messageBytes, messageVerdict, writeVote}
-use Rattle.rulebook.proofs.ToolLaws.{given-on, given-off, given-keeps, by-test}
-use Rattle.rulebook.proofs.RuleLaws as rules
+use Rattle.rule_laws.proofs.ToolLaws.{given-on, given-off, given-keeps, by-test}
+use Rattle.rule_laws.proofs.RuleLaws as rules
 use Rattle.record.specs.Layout.{ledgerOf}
 use Rattle.record.specs.Spelling.{wordsOf, isSpelled}
 use Rattle.record.proofs.Spelled.{spelled-words}

@@ -30,7 +30,7 @@ use Rattle.rulebook.specs.WellFormed.{wellFormed, outboxWords, step, takeCertif
 use Rattle.rulebook.specs.Packets.{certificateAt, certificateBytes}
 use Rattle.rulebook.specs.Checker.{judge, judged, oneOf, oneAt}
 use Rattle.rulebook.specs.Writers.{Wrote, certificateFor, wroteOn, writeCertificate, certificateVerdict, writeProof, proofVerdict, proofBytes}
-use Rattle.rulebook.proofs.ToolLaws.{given-on, given-off, by-test}
+use Rattle.rule_laws.proofs.ToolLaws.{given-on, given-off, by-test}
 use Rattle.packets.proofs.Table.{table-of-record}
 use Rattle.record.specs.Layout.{ledgerOf}
 use Rattle.record.specs.Spelling.{isSpelled}

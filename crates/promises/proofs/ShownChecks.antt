@@ -22,10 +22,10 @@ use Rattle.rulebook.specs.Weights.{stakesFit}
 use Rattle.rulebook.specs.Inputs.{refuseIf}
 use Rattle.rulebook.specs.Packets.{certificateAt}
 use Rattle.rulebook.specs.Checker.{One, good, bad, judgeKind, judge, acceptedOf, judged, oneOf, oneAt, ended, singleOf, checkCertificate, secondOf, firstIn, proofOf, checkProof}
-use Rattle.rulebook.proofs.ToolLaws.{given-on}
-use Rattle.rulebook.proofs.RuleLaws.{refuse-fine}
-use Rattle.rulebook.proofs.KindLaws.{number-back}
-use Rattle.rulebook.proofs.AcceptedLaws.{Proven, one, two, accepted-single, accepted-proof}
+use Rattle.rule_laws.proofs.ToolLaws.{given-on}
+use Rattle.rule_laws.proofs.RuleLaws.{refuse-fine}
+use Rattle.rule_laws.proofs.KindLaws.{number-back}
+use Rattle.rule_laws.proofs.AcceptedLaws.{Proven, one, two, accepted-single, accepted-proof}
 use Rattle.promises.specs.Panels.{besideIt, shown, elseThen, wholeThen, nothingAfter, certificateChecked, firstThen, secondChecked, proofChecked, toldOf, CertificateCheckShown, ProofCheckShown}
 
 -- A kind that passes has the number that it was read from.

@@ -17,7 +17,7 @@ use Rattle.rulebook.specs.Weights.{countFits}
 use Rattle.rulebook.specs.Inputs.{refuseIf}
 use Rattle.rulebook.specs.Packets.{numberAt}
 use Rattle.rulebook.specs.Messages.{voteOf, voteTests, asRead, readOn, readTo, readVote, messageBytes, messageVerdict, writeVote}
-use Rattle.rulebook.proofs.RuleLaws.{refuse-fine}
+use Rattle.rule_laws.proofs.RuleLaws.{refuse-fine}
 use Rattle.messages.proofs.Promises.{kind-number}
 use Rattle.promises.specs.Panels.{besideIt, shown, nothingAfter, numberThen, fourThen, readJudged, fourOf, MessageShown, ReadShown}
 use Rattle.promises.proofs.Shown.{wrote-shown}

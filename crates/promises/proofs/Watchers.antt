@@ -29,9 +29,9 @@ use Rattle.rulebook.specs.Certificates.{Certificate}
 use Rattle.rulebook.specs.Inputs.{Fed, refuseIf, isOther, misfits, placeVerdict, voteVerdict, timeoutVerdict, watchVerdict, verdict, fedWith, refusedWith, fedOn, feed}
 use Rattle.rulebook.specs.Taking.{keptVerdict, takenOn, taken, Arrival, ofInput, ofPacket, served}
 use Rattle.rulebook.specs.WellFormed.{wellFormed, outboxWords, step, takeCertificate}
-use Rattle.rulebook.proofs.ToolLaws.{given-on, given-keeps, by-test}
-use Rattle.rulebook.proofs.RuleLaws.{refuse-fine}
-use Rattle.rulebook.proofs.AcceptedLaws.{packet-cases}
+use Rattle.rule_laws.proofs.ToolLaws.{given-on, given-keeps, by-test}
+use Rattle.rule_laws.proofs.RuleLaws.{refuse-fine}
+use Rattle.rule_laws.proofs.AcceptedLaws.{packet-cases}
 use Rattle.settling.specs.Facts.{Sound}
 use Rattle.settling.specs.Steps.{life}
 use Rattle.settling.proofs.Start.{watching-sound}

@@ -19,7 +19,7 @@ use Rattle.rulebook.specs.Ledger.{Ledger}
 use Rattle.rulebook.specs.Packets.{certificateBytes}
 use Rattle.rulebook.specs.Checker.{checkCertificate, checkProof}
 use Rattle.rulebook.specs.Writers.{Wrote, certificateFor, wroteOn, certificateVerdict, writeCertificate, proofVerdict, proofBytes, writeProof, over, Writes}
-use Rattle.rulebook.proofs.ToolLaws.{given-on, by-test}
+use Rattle.rule_laws.proofs.ToolLaws.{given-on, by-test}
 use Rattle.record.specs.Layout.{ledgerOf}
 use Rattle.soundness.specs.Sound.{soundWords}
 use Rattle.soundness.proofs.Laws.{sound-formed}

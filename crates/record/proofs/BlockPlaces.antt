@@ -14,7 +14,7 @@ use Rattle.rulebook.specs.Ledger.{Ledger, Row, noBlock, noRow, blocksAt, someBl
 use Rattle.rulebook.specs.Rules.{findBlock}
 use Rattle.rulebook.specs.Inputs.{keepBlock}
 use Rattle.rulebook.specs.WellFormed.{inOrder, blocksApart}
-use Rattle.rulebook.proofs.ToolLaws.{choose-on, choose-off, all-same}
+use Rattle.rule_laws.proofs.ToolLaws.{choose-on, choose-off, all-same}
 use Rattle.record.specs.BlockPlaces.{freePlace, behind}
 
 -- ---- a test of every place, of some place

@@ -12,7 +12,7 @@ use lib.Dec.{leb, ltb}
 use borrow.Author.Tests.{leb-true, leb-false, ltb-true, ltb-false, lt-ltb, le-ltb}
 use Rattle.rulebook.specs.Weights.{lastSlot, isLarge}
 use Rattle.rulebook.specs.Ledger.{mostBlocks, mostCertificates, places}
-use Rattle.rulebook.proofs.ToolLaws.{choose-on, choose-off, by-test}
+use Rattle.rule_laws.proofs.ToolLaws.{choose-on, choose-off, by-test}
 use Rattle.record.specs.Layout.{wordAt, stakeStart, headWords, keptAt, rowHead, rowWords, blockWords, keptWords, maskWords, cellWords, rowStart, blockStart, keptStart, cellStart, timeoutAt, bareWords, placeWords, largeWords, masksOf, recordWords, placesIn, Long, ledgerAt, ledgerOf, InSlot, InBlocks, InKept, Placed, InTable, Counted, RowAt, BlockAt, CardAt, KeptAt, CellAt}
 use Rattle.record.proofs.Tables.{lt-or-gt, length-tabulate}
 

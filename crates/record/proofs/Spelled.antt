@@ -16,8 +16,8 @@ use Rattle.rulebook.specs.Packets as packets
 use Rattle.rulebook.specs.Ledger.{Ledger, Row, cardOf, noRow, noCell, noBlock, noKept, mostBlocks, mostCertificates, places, rowAt, blocksAt, certificatesAt, putRow}
 use Rattle.rulebook.specs.Votes.{storeVote}
 use Rattle.rulebook.specs.WellFormed.{Shaped}
-use Rattle.rulebook.proofs.ToolLaws.{and-both, both-and, true-not-false, same-test}
-use Rattle.rulebook.proofs.WordLaws.{Words}
+use Rattle.rule_laws.proofs.ToolLaws.{and-both, both-and, true-not-false, same-test}
+use Rattle.rule_laws.proofs.WordLaws.{Words}
 use Rattle.record.specs.Layout.{wordAt, armedStart, stakeStart, headWords, blockWords, maskWords, keptWords, cellWords, timeoutAt, cardAt, cardWords, cardStart, rowWords, rowStart, blockStart, keptStart, cellStart, recordWords, placesIn, tabulate, blockFrom, blockOf, keptFrom, keptOf, cellFrom, cellOf, rowOf, ledgerAt, ledgerOf, Long}
 use Rattle.record.specs.Spelling.{joined, spellCell, spellBlock, spellMask, spellKept, spellMarks, spellRow, wordsOf, sameWords, isSpelled}
 use Rattle.record.proofs.Tables.{length-tabulate, tabulate-same, tabulate-getD, tabulate-back}

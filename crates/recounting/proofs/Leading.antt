@@ -13,8 +13,8 @@ use Rattle.rulebook.specs.Tools.{anyOf, choose, part, largest}
 use Rattle.rulebook.specs.Ledger.{Ledger, none}
 use Rattle.rulebook.specs.Pool.{weigh, names}
 use Rattle.rulebook.specs.Cards.{leads, most, isMost, leader}
-use Rattle.rulebook.proofs.ToolLaws.{by-test, and-both, both-and, or-cases, or-none, or-left, or-right, true-not-false, part-on, part-off}
-use Rattle.rulebook.proofs.LowestLaws.{Among, low-find, low-le, large-at, names-free, heavy-named}
+use Rattle.rule_laws.proofs.ToolLaws.{by-test, and-both, both-and, or-cases, or-none, or-left, or-right, true-not-false, part-on, part-off}
+use Rattle.rule_laws.proofs.LowestLaws.{Among, low-find, low-le, large-at, names-free, heavy-named}
 
 -- Block b leads slot s at weight w: both are 0 where there is no notar vote, else b has weight w, no block has more, and none
 -- below b has as much.

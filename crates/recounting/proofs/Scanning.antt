@@ -14,8 +14,8 @@ use Rattle.rulebook.specs.Ledger.{Ledger, none, cellAt}
 use Rattle.rulebook.specs.Pool.{counts, weigh}
 use Rattle.rulebook.specs.Rules.{fallbackWeights}
 use Rattle.rulebook.specs.Cards.{most, leader}
-use Rattle.rulebook.proofs.ToolLaws.{by-test, and-both, or-cases, some-each}
-use Rattle.rulebook.proofs.WeightLaws.{reaches-fact, short-fact, weight-none}
+use Rattle.rule_laws.proofs.ToolLaws.{by-test, and-both, or-cases, some-each}
+use Rattle.rule_laws.proofs.WeightLaws.{reaches-fact, short-fact, weight-none}
 use Rattle.recounting.proofs.Leading.{lead-recount}
 use Rattle.recounting.proofs.Using.{notar-apart, initial-within, most-any}
 

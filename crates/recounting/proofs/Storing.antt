@@ -20,7 +20,7 @@ use Rattle.rulebook.specs.Pool.{counts, weigh}
 use Rattle.rulebook.specs.Votes.{placeIf, placeOf, fillFallback, withVote}
 use Rattle.rulebook.specs.Inputs.{misfits}
 use Rattle.rulebook.specs.Cards.{leads, tallied, most, leader, recount, adds, changeOf}
-use Rattle.rulebook.proofs.ToolLaws.{choose-off, and-both, part-on, part-off, sum-change}
+use Rattle.rule_laws.proofs.ToolLaws.{choose-off, and-both, part-on, part-off, sum-change}
 use Rattle.recounting.proofs.Leading.{Lead, lead-one, lead-recount, lead-same, blank-leads, lead-more}
 
 -- A free place: not the very vote, and room.

@@ -19,11 +19,11 @@ use Rattle.rulebook.specs.Ledger.{Ledger, none, noCell, noKept, noCard, cardOf,
 use Rattle.rulebook.specs.Pool.{counts, weigh, weighs, signersOf, fifthsOf, reached, placeKind, servesAs, someKept, isFor, keptAs, held, named, names, keptNames, certifiable}
 use Rattle.rulebook.specs.Rules.{fallbackWeights, skipWeights, isFinal, isNewcomer}
 use Rattle.rulebook.specs.Cards.{Light, most, leader, recount, sameCard}
-use Rattle.rulebook.proofs.ToolLaws.{by-test, and-both, both-and, or-cases, same-test, true-not-false}
-use Rattle.rulebook.proofs.WeightLaws.{reaches-fact, short-fact, fact-short, reaches-more, reaches-fewer, reaches-nothing, weight-none, weight-same, weight-mono, weight-both, weight-total, weight-apart}
-use Rattle.rulebook.proofs.LowestLaws.{Among, among-name, named-cases, free-none, free-named, free-positive, lowest-same, names-free, heavy-named}
-use Rattle.rulebook.proofs.CertificateLaws.{some-place, kept-free, kept-name, kept-beside, kept-names-cases}
-use Rattle.rulebook.proofs.FourthLaws.{weights-more}
+use Rattle.rule_laws.proofs.ToolLaws.{by-test, and-both, both-and, or-cases, same-test, true-not-false}
+use Rattle.rule_laws.proofs.WeightLaws.{reaches-fact, short-fact, fact-short, reaches-more, reaches-fewer, reaches-nothing, weight-none, weight-same, weight-mono, weight-both, weight-total, weight-apart}
+use Rattle.rule_laws.proofs.LowestLaws.{Among, among-name, named-cases, free-none, free-named, free-positive, lowest-same, names-free, heavy-named}
+use Rattle.rule_laws.proofs.CertificateLaws.{some-place, kept-free, kept-name, kept-beside, kept-names-cases}
+use Rattle.rule_laws.proofs.FourthLaws.{weights-more}
 use Rattle.recounting.proofs.Leading.{Lead, lead-one, lead-recount, lead-same}
 
 -- ---- a slot whose cells stay, a blank slot, weights within the sizes

@@ -11,7 +11,7 @@ use Rattle.rulebook.specs.Weights.{lastSlot, totalTo}
 use Rattle.rulebook.specs.Ledger.{isWatcher}
 use Rattle.rulebook.specs.Rules.{State, ruleG}
 use Rattle.rulebook.specs.Run.{made, ruleAt, firstRule, firstSlot, scan, run}
-use Rattle.rulebook.proofs.ToolLaws.{by-test, and-both, both-and, true-not-false}
+use Rattle.rule_laws.proofs.ToolLaws.{by-test, and-both, both-and, true-not-false}
 use Rattle.record.specs.Layout.{recordWords, placesIn, ledgerOf}
 use Rattle.record.specs.Tabled.{Tabled}
 use Rattle.record.proofs.Places.{places-words}

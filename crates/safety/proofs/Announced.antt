@@ -22,7 +22,7 @@ use Rattle.rulebook.specs.Rules.{Record, State, stateOf, recordOf, report}
 use Rattle.rulebook.specs.Checker.{judgeKind}
 use Rattle.rulebook.specs.Taking.{fillKept, keptOf, Arrival}
 use Rattle.rulebook.specs.WellFormed.{Shaped}
-use Rattle.rulebook.proofs.CertificateLaws.{same-kind, fill-at}
+use Rattle.rule_laws.proofs.CertificateLaws.{same-kind, fill-at}
 use Rattle.safety.specs.Ballots.{sameRecord, among, announces, Hands}
 use Rattle.safety.specs.Grounds.{FinalIn, Behind}
 use Rattle.safety.specs.Moves.{SameRest, Handed, Onward}

@@ -17,9 +17,9 @@ use Rattle.rulebook.specs.Certificates.{Kept}
 use Rattle.rulebook.specs.Pool.{hasFallback, counts, weigh, weighs, signersOf, fifthsOf, reached, placeKind, servesAs, someKept, isFor, keptAs, held, parentHeld, skippedBetween, ready}
 use Rattle.rulebook.specs.Checker.{isOtherKind, blockMisfits}
 use Rattle.rulebook.specs.Rules.{parentFits, fallbackWeights, parentBacked, isBacked, isGrounded, isFinal, findBlock}
-use Rattle.rulebook.proofs.ToolLaws.{all-at}
-use Rattle.rulebook.proofs.BlockLaws.{find-kept}
-use Rattle.rulebook.proofs.CertificateLaws.{some-place, serves-on}
+use Rattle.rule_laws.proofs.ToolLaws.{all-at}
+use Rattle.rule_laws.proofs.BlockLaws.{find-kept}
+use Rattle.rule_laws.proofs.CertificateLaws.{some-place, serves-on}
 use Rattle.safety.specs.Slot.{notar, notarFallback, skip}
 use Rattle.safety.specs.Ballots.{has}
 use Rattle.safety.specs.Grounds.{signs, weightOf, Held, byVotes, byKept, BackedAt, ReadyParent, HeldParent, NotarGrounds, FinalIn, fast, slow}

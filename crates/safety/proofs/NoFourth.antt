@@ -3,7 +3,7 @@ use mathlib.Core.List.{List}
 use Prim.Native.Nat.{ℕ, _≤_}
 use lib.Dec.{T}
 use Rattle.rulebook.specs.Weights.{weight, totalTo, dWeights}
-use Rattle.rulebook.proofs.FourthLaws as laws
+use Rattle.rule_laws.proofs.FourthLaws as laws
 use Rattle.safety.specs.Slot.{Test}
 use Rattle.safety.proofs.Tests.{T-true, true-T}
 

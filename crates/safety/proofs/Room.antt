@@ -26,9 +26,9 @@ use Rattle.rulebook.specs.Inputs.{refuseIf, refusedWith}
 use Rattle.rulebook.specs.Checker.{isOtherKind, blockMisfits, withoutB, judgeKind, judge}
 use Rattle.rulebook.specs.Taking.{hasRoom, isRepeat, keptVerdict, takePacket, Arrival}
 use Rattle.rulebook.specs.WellFormed.{eachKept, inTurn, certificateFits, certificatesApart, certificatesFit, wellFormed, outboxWords, takeCertificate}
-use Rattle.rulebook.proofs.ToolLaws.{and-both, both-and, true-not-false, sum-add, sum-le, sum-const, some-find}
-use Rattle.rulebook.proofs.CertificateLaws.{kind-same, place-some, no-room, apart-at, record-certificates}
-use Rattle.rulebook.proofs.AcceptedLaws.{packet-eight}
+use Rattle.rule_laws.proofs.ToolLaws.{and-both, both-and, true-not-false, sum-add, sum-le, sum-const, some-find}
+use Rattle.rule_laws.proofs.CertificateLaws.{kind-same, place-some, no-room, apart-at, record-certificates}
+use Rattle.rule_laws.proofs.AcceptedLaws.{packet-eight}
 use Rattle.safety.specs.Slot.{Test, notar, notarFallback, Quorum}
 use Rattle.safety.specs.Ballots.{has}
 use Rattle.safety.specs.Ring.{afterAll, castBy, Ring, Genuine}

@@ -9,7 +9,7 @@ use lib.ListN.{length, drop, getD, drop-of-length-le}
 use lib.Seq.{drop-cons}
 use lib.Dec.{eqb, leb, ltb}
 use borrow.Author.Tests.{ltb-true, ltb-false, leb-true, leb-false, eqb-true, eqb-false, le-leb, lt-leb}
-use Rattle.rulebook.proofs.ToolLaws.{given-on, given-off, and-both}
+use Rattle.rule_laws.proofs.ToolLaws.{given-on, given-off, and-both}
 use Rattle.script.specs.declared.Decimal.{Decimal}
 use Rattle.script.specs.declared.Decimal.the-variants as decimal
 use Rattle.script.specs.Digits.{isDigit, fits64, decimalFrom, decimalOf}

@@ -7,7 +7,7 @@ use native.Mathlib.Numerals.{add-one}
 use native.Mathlib.Omega.{arith}
 use lib.ListN.{length, drop, getD, drop-of-length-le}
 use lib.Seq.{drop-cons}
-use Rattle.rulebook.proofs.ToolLaws.{given-on, given-off}
+use Rattle.rule_laws.proofs.ToolLaws.{given-on, given-off}
 use Rattle.script.specs.Words.{leading}
 
 module _ (p : ℕ → Bool) (s : List ℕ) (i : ℕ) where

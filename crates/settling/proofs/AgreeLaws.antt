@@ -16,7 +16,7 @@ use Rattle.rulebook.specs.Run.{ruleAt, run}
 use Rattle.rulebook.specs.Inputs.{startVerdict, refusedWith, feed}
 use Rattle.rulebook.specs.Taking.{takePacket, Arrival}
 use Rattle.rulebook.specs.WellFormed.{wellFormed, step}
-use Rattle.rulebook.proofs.ToolLaws.{by-test, given-off}
+use Rattle.rule_laws.proofs.ToolLaws.{by-test, given-off}
 use Rattle.recounting.proofs.Leading.{Lead, lead-recount}
 use Rattle.settling.specs.Facts.{Sound}
 use Rattle.settling.specs.Steps.{after}

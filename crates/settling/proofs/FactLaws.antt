@@ -13,8 +13,8 @@ use Rattle.rulebook.specs.Weights.{mostNodes, placesFor, mostStake, lastSlot, w
 use Rattle.rulebook.specs.Ledger.{Ledger, Row, none, noCell, places, tableOf, rowAt, cellAt}
 use Rattle.rulebook.specs.Cards.{sameCard, recount}
 use Rattle.rulebook.specs.WellFormed.{flag, inOrder, cellFits, cellBlank, cellsFit, blocksFit, certificatesFit, ownFits, rowFits, cardFits, rowBlank, headFits, wellFormed}
-use Rattle.rulebook.proofs.ToolLaws.{given-both, given-on, given-off, and-both, both-and, or-left, or-right, or-cases, by-test, true-not-false, all-at, all-each}
-use Rattle.rulebook.proofs.PlaceLaws.{nodes-placed}
+use Rattle.rule_laws.proofs.ToolLaws.{given-both, given-on, given-off, and-both, both-and, or-left, or-right, or-cases, by-test, true-not-false, all-at, all-each}
+use Rattle.rule_laws.proofs.PlaceLaws.{nodes-placed}
 use Rattle.recounting.proofs.Using.{same-card, card-same}
 use Rattle.settling.specs.Facts.{CellFacts, RowFacts, HeadFacts, Formed}
 

@@ -30,8 +30,8 @@ use Rattle.rulebook.specs.Run.{run}
 use Rattle.rulebook.specs.Inputs.{Fed, misfits, startVerdict, keepBlock, verdict, timeOut, intake, fedWith, refusedWith, fedOn, feed}
 use Rattle.rulebook.specs.Checker.{judge}
 use Rattle.rulebook.specs.Taking.{fillKept, keptVerdict, keptOf, keepCertificate, takenOn, taken, takePacket, Arrival, ofInput, ofPacket, served}
-use Rattle.rulebook.proofs.AcceptedLaws.{packet-cases}
-use Rattle.rulebook.proofs.ToolLaws.{given-keeps, by-test, part-le, part-on, part-off}
+use Rattle.rule_laws.proofs.AcceptedLaws.{packet-cases}
+use Rattle.rule_laws.proofs.ToolLaws.{given-keeps, by-test, part-le, part-on, part-off}
 use Rattle.rulebook.specs.WellFormed.{Shaped}
 use Rattle.settling.specs.Spare.{one, fallbacksLeft}
 use Rattle.settling.specs.Facts.{Sound}

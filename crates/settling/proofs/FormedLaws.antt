@@ -22,8 +22,8 @@ use Rattle.rulebook.specs.Cards.{tallied, recount, changeOf, sameCard}
 use Rattle.rulebook.specs.Inputs.{badParent, misfits}
 use Rattle.rulebook.specs.Certificates.{Kept}
 use Rattle.rulebook.specs.WellFormed.{Shaped, inOrder, cellFits, cellBlank, cellsFit, keptFits, blocksApart, blocksFit, certificatesFit, eachKept, blockBlank, keptBlank, ownFits, rowBlank}
-use Rattle.rulebook.proofs.ToolLaws.{given-on, and-both, both-and, or-left, or-right, or-cases, or-none, by-test, true-not-false}
-use Rattle.rulebook.proofs.BlockLaws.{all-mono, fill-all, fill-apart}
+use Rattle.rule_laws.proofs.ToolLaws.{given-on, and-both, both-and, or-left, or-right, or-cases, or-none, by-test, true-not-false}
+use Rattle.rule_laws.proofs.BlockLaws.{all-mono, fill-all, fill-apart}
 use Rattle.settling.specs.Facts.{CellFacts, RowFacts, Formed}
 use Rattle.settling.specs.Steps.{weighed, BlockFine}
 use Rattle.settling.proofs.Places.{row-else, row-cases, cell-cases, window-low}

@@ -21,11 +21,11 @@ use Rattle.rulebook.specs.Packets.{bit}
 use Rattle.rulebook.specs.Checker.{isOtherKind, blockMisfits, badSigners, signed, signedWeight, lacking, judgeWeight, judgeKind}
 use Rattle.rulebook.specs.Taking.{fillKept, keptOf}
 use Rattle.rulebook.specs.WellFormed.{isFine, keptIn, eachKept, certificateFits, certificatesApart, certificatesFit}
-use Rattle.rulebook.proofs.ToolLaws.{given-on, and-both, both-and, by-test, true-not-false, sum-term}
-use Rattle.rulebook.proofs.WeightLaws.{reaches-nothing, weight-none}
-use Rattle.rulebook.proofs.MaskLaws.{zero-bit}
-use Rattle.rulebook.proofs.RuleLaws.{refuse-fine}
-use Rattle.rulebook.proofs.CertificateLaws.{same-kind, fill-each, fill-kept-apart}
+use Rattle.rule_laws.proofs.ToolLaws.{given-on, and-both, both-and, by-test, true-not-false, sum-term}
+use Rattle.rule_laws.proofs.WeightLaws.{reaches-nothing, weight-none}
+use Rattle.rule_laws.proofs.MaskLaws.{zero-bit}
+use Rattle.rule_laws.proofs.RuleLaws.{refuse-fine}
+use Rattle.rule_laws.proofs.CertificateLaws.{same-kind, fill-each, fill-kept-apart}
 use Rattle.settling.specs.Facts.{HeadFacts, Formed}
 use Rattle.settling.specs.Steps.{kindFor, CertificateFine}
 use Rattle.settling.proofs.FactLaws.{count-placed}

@@ -23,8 +23,8 @@ use Rattle.rulebook.specs.Inputs.{Fed, keepBlock, verdict, timeOut, intake, fed
 use Rattle.rulebook.specs.Checker.{judge}
 use Rattle.rulebook.specs.Taking.{fillKept, keptVerdict, keptOf, keepCertificate, takenOn, taken, takePacket, Arrival, ofInput, ofPacket, served}
 use Rattle.rulebook.specs.WellFormed.{wellFormed, outboxWords, step, takeCertificate}
-use Rattle.rulebook.proofs.ToolLaws.{given-keeps}
-use Rattle.rulebook.proofs.AcceptedLaws.{packet-cases}
+use Rattle.rule_laws.proofs.ToolLaws.{given-keeps}
+use Rattle.rule_laws.proofs.AcceptedLaws.{packet-cases}
 use Rattle.settling.specs.Steps.{SameNode, Came, Paid, VoteFine, BlockFine, kindFor, CertificateFine, Settled, after, life}
 use Rattle.settling.specs.Facts.{Sound}
 use Rattle.settling.proofs.FactLaws.{formed}

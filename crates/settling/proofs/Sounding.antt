@@ -23,10 +23,10 @@ use Rattle.rulebook.specs.Inputs.{misfits, badParent, keepBlock}
 use Rattle.rulebook.specs.Certificates.{Certificate, Kept}
 use Rattle.rulebook.specs.Taking.{fillKept, keptOf, keepCertificate}
 use Rattle.rulebook.specs.WellFormed.{Shaped, keptFits, blocksApart, blocksFit}
-use Rattle.rulebook.proofs.ToolLaws.{given-on, and-both, sum-term}
-use Rattle.rulebook.proofs.BlockLaws.{fill-length, find-all}
-use Rattle.rulebook.proofs.CertificateLaws.{fill-long}
-use Rattle.rulebook.proofs.FourthLaws.{Counted}
+use Rattle.rule_laws.proofs.ToolLaws.{given-on, and-both, sum-term}
+use Rattle.rule_laws.proofs.BlockLaws.{fill-length, find-all}
+use Rattle.rule_laws.proofs.CertificateLaws.{fill-long}
+use Rattle.rule_laws.proofs.FourthLaws.{Counted}
 use Rattle.settling.specs.Facts.{CellFacts, HeadFacts, Sound}
 use Rattle.settling.specs.Steps.{weighed, BlockFine, kindFor, CertificateFine, WalkParent}
 use Rattle.settling.proofs.Places.{shaped-row, shaped-armed}

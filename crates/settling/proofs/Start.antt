@@ -17,12 +17,12 @@ use Rattle.rulebook.specs.Cards.{sameCard}
 use Rattle.rulebook.specs.Inputs.{startVerdict, watchVerdict}
 use Rattle.rulebook.specs.Taking.{Arrival}
 use Rattle.rulebook.specs.WellFormed.{Shaped, inOrder, cellFits, cellBlank, cellsFit, keptFits, blocksApart, blocksFit, blockBlank, eachKept, certificateFits, certificatesApart, certificatesFit, keptBlank, backs, ownFits, rowBlank}
-use Rattle.rulebook.proofs.PlaceLaws.{nodes-placed}
-use Rattle.rulebook.proofs.ToolLaws.{given-off, and-both, or-none, all-at, all-each, sum-same}
+use Rattle.rule_laws.proofs.PlaceLaws.{nodes-placed}
+use Rattle.rule_laws.proofs.ToolLaws.{given-off, and-both, or-none, all-at, all-each, sum-same}
 use Rattle.recounting.proofs.Using.{recount-none}
 use Rattle.settling.specs.Facts.{RowFacts, Formed, Sound}
 use Rattle.settling.specs.Steps.{after, life}
-use Rattle.rulebook.proofs.RuleLaws.{refuse-fine}
+use Rattle.rule_laws.proofs.RuleLaws.{refuse-fine}
 use Rattle.settling.proofs.FactLaws.{well-formed}
 use Rattle.settling.proofs.SpareLaws.{spare-most}
 use Rattle.settling.proofs.Life.{life-paid}

@@ -10,7 +10,7 @@ use Rattle.rulebook.specs.declared.Block.{Block}
 use Rattle.rulebook.specs.Tools.{given}
 use Rattle.rulebook.specs.Ledger.{none, rowAt, blocksAt}
 use Rattle.rulebook.specs.Rules.{State, tellFinal, findBlock, walkTo, walkStep, walkFor, ruleG}
-use Rattle.rulebook.proofs.ToolLaws.{and-both}
+use Rattle.rule_laws.proofs.ToolLaws.{and-both}
 
 given-same : {A : Type 0} (b : Bool) (x : A) (f g : Unit {0} → A) → (b ≡ true → f tt ≡ g tt) → given b x f ≡ given b x g
 unfolding given

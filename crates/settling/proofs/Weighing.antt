@@ -18,9 +18,9 @@ use Rattle.rulebook.specs.Cards.{tallied, changeOf}
 use Rattle.rulebook.specs.Votes.{placeOf, withVote, fillFallback, storeVote}
 use Rattle.rulebook.specs.Rules.{fallbackWeights}
 use Rattle.rulebook.specs.WellFormed.{Shaped, inOrder, backs, ownFits}
-use Rattle.rulebook.proofs.ToolLaws.{and-both, both-and, or-left, or-right, or-cases, or-none, by-test, true-not-false}
-use Rattle.rulebook.proofs.WeightLaws.{weight-mono}
-use Rattle.rulebook.proofs.FourthLaws.{weights-more, Counted, Weighty, no-four-blocks}
+use Rattle.rule_laws.proofs.ToolLaws.{and-both, both-and, or-left, or-right, or-cases, or-none, by-test, true-not-false}
+use Rattle.rule_laws.proofs.WeightLaws.{weight-mono}
+use Rattle.rule_laws.proofs.FourthLaws.{weights-more, Counted, Weighty, no-four-blocks}
 use Rattle.settling.specs.Facts.{CellFacts, Grown, SameTable}
 use Rattle.settling.specs.Steps.{weighed}
 use Rattle.settling.proofs.Places.{row-cases, cell-cases}

@@ -14,7 +14,7 @@ use Rattle.rulebook.specs.Tools.{choose, given, part, sumTo, someTo}
 use Rattle.rulebook.specs.Weights.{lastSlot, slotOk}
 use Rattle.rulebook.specs.Ledger.{Ledger, Row, none, blankRow, noRow, noCell, noBlock, mostBlocks, places, rowAt, cellAt, blocksAt, isBlock, keepsBlock}
 use Rattle.rulebook.specs.WellFormed.{cellBlank}
-use Rattle.rulebook.proofs.ToolLaws.{by-test, choose-on, choose-off, given-on, given-off, and-both, both-and, part-le, sum-le, sum-const, some-none, some-more}
+use Rattle.rule_laws.proofs.ToolLaws.{by-test, choose-on, choose-off, given-on, given-off, and-both, both-and, part-le, sum-le, sum-const, some-none, some-more}
 use Rattle.record.specs.Layout.{Long, ledgerOf}
 use Rattle.record.specs.Spelling.{isSpelled}
 use Rattle.record.specs.Setting.{noLedger}

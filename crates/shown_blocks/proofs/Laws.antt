@@ -11,9 +11,9 @@ use Rattle.rulebook.specs.declared.Cell.{Cell}
 use Rattle.rulebook.specs.Tools.{lower, lowest}
 use Rattle.rulebook.specs.Ledger.{Ledger, none, cellAt}
 use Rattle.rulebook.specs.Pool.{named, namesTo, names}
-use Rattle.rulebook.proofs.ToolLaws.{by-test}
+use Rattle.rule_laws.proofs.ToolLaws.{by-test}
 use Rattle.pool.proofs.NameLaws.{names-none, names-more}
-use Rattle.rulebook.proofs.LowestLaws.{lower-off, lowest-none, lowest-skip, lowest-take}
+use Rattle.rule_laws.proofs.LowestLaws.{lower-off, lowest-none, lowest-skip, lowest-take}
 use Rattle.shown_blocks.specs.Blocks.{lowerNamed}
 
 -- ---- the lowest block that passes

@@ -9,9 +9,9 @@ use borrow.Author.Tests.{not-true, lt-ltb, le-ltb, le-leb, leb-true, eqb-false, 
 use Rattle.rulebook.specs.declared.Cell.{Cell}
 use Rattle.rulebook.specs.Tools.{part, lower}
 use Rattle.rulebook.specs.Ledger.{Ledger, none, cellAt}
-use Rattle.rulebook.proofs.ToolLaws.{and-both, both-and, true-not-false, sum-none, sum-more}
+use Rattle.rule_laws.proofs.ToolLaws.{and-both, both-and, true-not-false, sum-none, sum-more}
 use Rattle.pool.specs.Weighing.{countedBefore}
-use Rattle.rulebook.proofs.LowestLaws.{lower-off, lower-cases}
+use Rattle.rule_laws.proofs.LowestLaws.{lower-off, lower-cases}
 use Rattle.shown_heavy.specs.Heavy.{isHeavy, heavyPast, lightName, lightNames, lightTo}
 use Rattle.shown.proofs.Laws.{one-most, sum-most}
 use Rattle.shown_blocks.proofs.Laws.{after-none}

@@ -17,10 +17,10 @@ use record::total;
 use rulebook::Cell;
 use rulebook::Node;
 use rulebook::Slot;
-use rulebook::Threshold;
 use rulebook::Who;
 use shown::part;
 use soundness::sound;
+use thresholds::Threshold;
 
 // Whether a fifth of the stake stands behind a block, by notar and notar-fallback votes.
 fn is_heavy(rec: &[u64], s: Slot, b: u64) -> bool

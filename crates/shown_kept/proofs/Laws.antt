@@ -14,8 +14,8 @@ use Rattle.rulebook.specs.Packets.{joined, bit, countOf}
 use Rattle.rulebook.specs.Ledger.{Ledger, noKept, mostCertificates, places, tableOf, certificatesAt, keptAt, isKept}
 use Rattle.rulebook.specs.Pool.{placeKind}
 use Rattle.rulebook.specs.Checker.{signed, signedWeight}
-use Rattle.rulebook.proofs.ToolLaws.{by-test, given-on, given-off, both-and}
-use Rattle.rulebook.proofs.PlaceLaws.{placed-each}
+use Rattle.rule_laws.proofs.ToolLaws.{by-test, given-on, given-off, both-and}
+use Rattle.rule_laws.proofs.PlaceLaws.{placed-each}
 use Rattle.record.specs.Layout.{maskWords, ledgerOf}
 use Rattle.record.proofs.Reading.{ledger-shaped}
 use Rattle.stakes.specs.declared.StakeTable.{StakeTable}

@@ -9,8 +9,8 @@ use Rattle.rulebook.specs.Tools.{part, sumTo}
 use Rattle.rulebook.specs.Weights.{weight, stakeIn}
 use Rattle.rulebook.specs.Ledger.{Ledger, cellAt}
 use Rattle.rulebook.specs.WellFormed.{cellBlank}
-use Rattle.rulebook.proofs.ToolLaws.{choose-on, choose-off, sum-none, sum-more}
-use Rattle.rulebook.proofs.WeightLaws.{weight-room}
+use Rattle.rule_laws.proofs.ToolLaws.{choose-on, choose-off, sum-none, sum-more}
+use Rattle.rule_laws.proofs.WeightLaws.{weight-room}
 use Rattle.record.specs.Tabled.{Tabled}
 use Rattle.shown.specs.Shown.{voted}
 use Rattle.shown_votes.specs.Votes.{firstFrom, votesIn, storedIn}

@@ -14,7 +14,7 @@ use Rattle.rulebook.specs.Ledger.{noKept, isKept}
 use Rattle.rulebook.specs.Pool.{placeKind, sameKind}
 use Rattle.rulebook.specs.Taking.{isRepeat}
 use Rattle.rulebook.specs.Writers.{findKept, keptFor}
-use Rattle.rulebook.proofs.ToolLaws.{choose-on, choose-off, and-both}
+use Rattle.rule_laws.proofs.ToolLaws.{choose-on, choose-off, and-both}
 use Rattle.kept_places.specs.declared.Sought.the-variants as sought
 use Rattle.kept_places.specs.Seeking.{seeks, firstPlace}
 use Rattle.kept_places.proofs.Laws.{find-place}

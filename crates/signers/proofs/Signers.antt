@@ -15,8 +15,8 @@ use Rattle.rulebook.specs.Ledger.{Ledger, cellAt}
 use Rattle.rulebook.specs.Packets.{maskOf, joined}
 use Rattle.rulebook.specs.PaperNumbers.{numberIn}
 use Rattle.rulebook.specs.Writers.{votedFor}
-use Rattle.rulebook.proofs.MaskLaws.{mask-in, mask-out}
-use Rattle.rulebook.proofs.WordLaws.{joined-built}
+use Rattle.rule_laws.proofs.MaskLaws.{mask-in, mask-out}
+use Rattle.rule_laws.proofs.WordLaws.{joined-built}
 use Rattle.stakes.proofs.Laws.{one-up}
 use Rattle.signers.specs.declared.Mask.the-variants as mask
 use Rattle.signers.specs.Masks.{inMask}

@@ -9,7 +9,7 @@ use Rattle.rulebook.specs.declared.Block.{Block}
 use Rattle.rulebook.specs.Ledger.{Ledger, Row, none, noBlock, noCard, places, tableOf, rowAt, blocksAt, allBlocks, isFree, certificatesAt}
 use Rattle.rulebook.specs.Cards.{sameCard}
 use Rattle.rulebook.specs.WellFormed.{flag, blockBlank, keptBlank, eachKept, cellsFit, blocksFit, certificatesFit, rowBlank}
-use Rattle.rulebook.proofs.ToolLaws.{and-both, both-and}
+use Rattle.rule_laws.proofs.ToolLaws.{and-both, both-and}
 use Rattle.kept_certificates.proofs.ByPlace as kept
 use Rattle.blank_rows.specs.Blank.{nothingIn}
 use Rattle.audit.proofs.Summing.{votes-blank}

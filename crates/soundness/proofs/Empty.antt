@@ -8,7 +8,7 @@ use borrow.Author.Tests.{eq-eqb, eqb-true}
 use Rattle.rulebook.specs.declared.Block.{Block}
 use Rattle.rulebook.specs.Ledger.{Ledger, none, noBlock, allBlocks, isFree}
 use Rattle.rulebook.specs.WellFormed.{inOrder, keptFits, blocksApart, blocksFit, blockBlank}
-use Rattle.rulebook.proofs.ToolLaws.{given-off, by-test}
+use Rattle.rule_laws.proofs.ToolLaws.{given-off, by-test}
 
 and-more : (a b c : Bool) → ((a && b) && c) ≡ (a && (b && c))
 and-more true b c = refl

@@ -16,8 +16,8 @@ use Rattle.rulebook.specs.Ledger as ledgers
 use Rattle.rulebook.specs.Rules.{fallbackWeights}
 use Rattle.rulebook.specs.Cards.{CardsAgree, recount}
 use Rattle.rulebook.specs.WellFormed.{flag, inOrder, cellFits, cellBlank, cellsFit, keptFits, blocksFit, certificatesFit, backs, ownFits, rowFits, cardFits, rowBlank, headFits, wellFormed}
-use Rattle.rulebook.proofs.ToolLaws.{given-on, given-off, given-both, and-both, both-and, by-test, true-not-false, same-test, all-at, all-each, all-more, all-same}
-use Rattle.rulebook.proofs.PlaceLaws.{placed-each}
+use Rattle.rule_laws.proofs.ToolLaws.{given-on, given-off, given-both, and-both, both-and, by-test, true-not-false, same-test, all-at, all-each, all-more, all-same}
+use Rattle.rule_laws.proofs.PlaceLaws.{placed-each}
 use Rattle.recounting.proofs.Using.{same-card}
 use Rattle.stakes.specs.declared.StakeTable.{StakeTable}
 use Rattle.stakes.specs.declared.Made.{Made}

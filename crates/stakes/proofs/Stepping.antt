@@ -18,10 +18,10 @@ use borrow.Author.Tests.{lt-ltb, le-ltb, ltb-true, ltb-false, leb-true, leb-fals
 use Rattle.rulebook.specs.Tools.{part, sumTo}
 use Rattle.rulebook.specs.Weights.{mostStake, stakeIn, weight, totalTo}
 use Rattle.rulebook.specs.Packets.{bit, maskOf, countOf, joined}
-use Rattle.rulebook.proofs.ToolLaws.{by-test, part-le, part-on, part-off, sum-same, sum-le, sum-const, sum-mono}
-use Rattle.rulebook.proofs.MaskLaws.{zero-bit, past-bit, mask-lt, mask-bit, or-bit, count-le}
-use Rattle.rulebook.proofs.WeightLaws.{weight-total}
-use Rattle.rulebook.proofs.WordLaws.{Words, word-bit, past-words, sum-split}
+use Rattle.rule_laws.proofs.ToolLaws.{by-test, part-le, part-on, part-off, sum-same, sum-le, sum-const, sum-mono}
+use Rattle.rule_laws.proofs.MaskLaws.{zero-bit, past-bit, mask-lt, mask-bit, or-bit, count-le}
+use Rattle.rule_laws.proofs.WeightLaws.{weight-total}
+use Rattle.rule_laws.proofs.WordLaws.{Words, word-bit, past-words, sum-split}
 use Rattle.stakes.specs.declared.Weighed.{Weighed}
 use Rattle.stakes.specs.Table.{Lent, weighed}
 use Rattle.stakes.specs.Masks.{firstNodes, WordIn}

@@ -18,14 +18,14 @@ use Rattle.rulebook.specs.declared.Refusal.the-variants as refusal
 use Rattle.rulebook.specs.Weights.{mostNodes, placesFor, stakesFit, totalTo}
 use Rattle.rulebook.specs.Ledger.{Ledger, none, fresh}
 use Rattle.rulebook.specs.Inputs.{refuseIf, startVerdict, watchVerdict}
-use Rattle.rulebook.proofs.ToolLaws.{or-none}
+use Rattle.rule_laws.proofs.ToolLaws.{or-none}
 use Rattle.stakes.specs.declared.StakeTable.{StakeTable}
 use Rattle.stakes.specs.declared.Made.{Made}
 use Rattle.stakes.specs.Table.{madeOf}
 use Rattle.stakes.proofs.Laws.{made-fits, made-table, fit-few}
-use Rattle.rulebook.proofs.RuleLaws.{refuse-fine}
-use Rattle.rulebook.proofs.PlaceLaws.{nodes-placed}
-use Rattle.rulebook.proofs.WordLaws.{Words}
+use Rattle.rule_laws.proofs.RuleLaws.{refuse-fine}
+use Rattle.rule_laws.proofs.PlaceLaws.{nodes-placed}
+use Rattle.rule_laws.proofs.WordLaws.{Words}
 use Rattle.settling.specs.Facts.{Sound}
 use Rattle.settling.proofs.Start.{fresh-sound, watching-sound}
 use Rattle.record.specs.Layout.{recordWords, ledgerAt, ledgerOf}

@@ -16,7 +16,7 @@ use Rattle.rulebook.specs.Ledger.{Ledger, Row, noRow, rowAt, cellAt, putCell, p
 use Rattle.rulebook.specs.Pool.{weigh}
 use Rattle.rulebook.specs.Cards.{Light, tallied, adds, changeOf}
 use Rattle.rulebook.specs.Votes.{withVote, storeVote}
-use Rattle.rulebook.proofs.ToolLaws.{sum-term}
+use Rattle.rule_laws.proofs.ToolLaws.{sum-term}
 use Rattle.record.specs.Layout.{InSlot, Placed, InTable, ledgerOf}
 use Rattle.record.specs.Tabled.{Tabled}
 use Rattle.recounting.proofs.Using.{recount-light}

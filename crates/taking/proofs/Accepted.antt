@@ -25,10 +25,10 @@ use Rattle.rulebook.specs.Inputs.{refuseIf}
 use Rattle.rulebook.specs.Checker.{good, isOtherKind, acceptedOf, judgeKind, judge, judged, oneOf, oneAt, checkCertificate}
 use Rattle.rulebook.specs.Taking.{hasRoom, fillKept, isRepeat, keptVerdict, keepCertificate, taken, takePacket}
 use Rattle.rulebook.specs.WellFormed.{headFits, wellFormed}
-use Rattle.rulebook.proofs.ToolLaws.{given-both, and-both}
-use Rattle.rulebook.proofs.RuleLaws.{refuse-fine}
-use Rattle.rulebook.proofs.PlaceLaws.{placed-each}
-use Rattle.rulebook.proofs.AcceptedLaws.{Single, accepted-single}
+use Rattle.rule_laws.proofs.ToolLaws.{given-both, and-both}
+use Rattle.rule_laws.proofs.RuleLaws.{refuse-fine}
+use Rattle.rule_laws.proofs.PlaceLaws.{placed-each}
+use Rattle.rule_laws.proofs.AcceptedLaws.{Single, accepted-single}
 use Rattle.settling.specs.Facts.{HeadFacts}
 use Rattle.settling.specs.Steps.{kindFor, CertificateFine}
 use Rattle.settling.proofs.FeedLaws.{packet-whole}

@@ -18,9 +18,9 @@ use Rattle.rulebook.specs.Inputs.{Fed, refusedWith}
 use Rattle.rulebook.specs.Checker.{checkCertificate}
 use Rattle.rulebook.specs.Taking.{keptVerdict, keepCertificate, takePacket}
 use Rattle.rulebook.specs.WellFormed.{wellFormed, outboxWords, takeCertificate}
-use Rattle.rulebook.proofs.ToolLaws.{given-on, given-off, by-test}
-use Rattle.rulebook.proofs.WordLaws.{Words}
-use Rattle.rulebook.proofs.AcceptedLaws.{checked-refused}
+use Rattle.rule_laws.proofs.ToolLaws.{given-on, given-off, by-test}
+use Rattle.rule_laws.proofs.WordLaws.{Words}
+use Rattle.rule_laws.proofs.AcceptedLaws.{checked-refused}
 use Rattle.record.specs.Layout.{ledgerOf}
 use Rattle.record.specs.Spelling.{isSpelled}
 use Rattle.record.proofs.Spelled.{long-spelled}

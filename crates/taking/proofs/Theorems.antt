@@ -7,7 +7,7 @@ use lib.ListN.{length}
 use Rattle.rulebook.specs.declared.Refusal.the-variants as refusal
 use Rattle.rulebook.specs.declared.StepAnswer.{StepAnswer}
 use Rattle.rulebook.specs.WellFormed.{takeCertificate}
-use Rattle.rulebook.proofs.ToolLaws.{given-on}
+use Rattle.rule_laws.proofs.ToolLaws.{given-on}
 use Rattle.record.specs.Layout.{ledgerOf}
 use Rattle.record.specs.Spelling.{isSpelled}
 use Rattle.soundness.specs.Sound.{soundWords}

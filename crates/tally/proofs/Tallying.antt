@@ -9,7 +9,7 @@ use Rattle.rulebook.specs.declared.VoteKind.{VoteKind}
 use Rattle.rulebook.specs.declared.VoteKind.the-variants as vote
 use Rattle.rulebook.specs.Ledger.{none}
 use Rattle.rulebook.specs.Cards.{leads, tallied, Light, adds}
-use Rattle.rulebook.proofs.ToolLaws.{choose-on, choose-off, part-le}
+use Rattle.rule_laws.proofs.ToolLaws.{choose-on, choose-off, part-le}
 
 -- The three sums, and a leader with its weight.
 abbrev pub added : Tally → Tally → ℕ → ℕ → Tally

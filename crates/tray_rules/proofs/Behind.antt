@@ -17,7 +17,7 @@ use Rattle.rulebook.specs.Ledger.{none, noInitial, rowAt, ownCell, blocksAt, fi
 use Rattle.rulebook.specs.Pool.{held, certifiable, someReady}
 use Rattle.rulebook.specs.Rules.{Record, State, stateOf, cast, castSkip, castSkips, ruleA, ruleB, ruleC, ruleD, ruleE, isNewcomer, tellClash, tellFinal, ruleF, findBlock, walkTo, walkStep, walkFor, ruleG, parentFits, mayFinal, mayFallback, fallbackBlock, castFallback, windowOpen, maySkipFallback, skipWeights, castSkipFallback}
 use Rattle.rulebook.specs.Run.{voting, ruleAt, made, quiet, firstRule, firstSlot, scan, runFor, run}
-use Rattle.rulebook.proofs.ToolLaws.{same-test}
+use Rattle.rule_laws.proofs.ToolLaws.{same-test}
 
 module _ (rs : List Record) where
   -- The state with the records behind its own.

@@ -14,7 +14,7 @@ use Rattle.rulebook.specs.Rules.{Record, State}
 use Rattle.rulebook.specs.Inputs.{Fed, feed}
 use Rattle.rulebook.specs.Messages.{voteOf}
 use Rattle.rulebook.specs.Writers.{over}
-use Rattle.rulebook.proofs.WordLaws.{Words}
+use Rattle.rule_laws.proofs.WordLaws.{Words}
 use Rattle.record.specs.Layout.{ledgerOf}
 use Rattle.record.specs.Spelling.{wordsOf}
 use Rattle.record.proofs.Spelled.{long-spelled}

@@ -21,7 +21,7 @@ use Rattle.rulebook.specs.Run.{mostRecords}
 use Rattle.rulebook.specs.Inputs.{Fed, feed}
 use Rattle.rulebook.specs.Taking.{Arrival, ofInput, served}
 use Rattle.rulebook.specs.WellFormed.{wellFormed, outboxWords}
-use Rattle.rulebook.proofs.ToolLaws.{given-on, given-keeps, both-and}
+use Rattle.rule_laws.proofs.ToolLaws.{given-on, given-keeps, both-and}
 use Rattle.settling.specs.Facts.{Sound}
 use Rattle.settling.specs.Steps.{after, life}
 use Rattle.settling.proofs.FeedLaws.{step-fed}

@@ -13,7 +13,7 @@ use Rattle.rulebook.specs.declared.StepAnswer.the-variants as answer
 use Rattle.rulebook.specs.Tools.{given}
 use Rattle.rulebook.specs.WellFormed.{wellFormed, outboxWords}
 use Rattle.rulebook.specs.Writers.{over}
-use Rattle.rulebook.proofs.ToolLaws.{given-on, given-off, by-test, both-and}
+use Rattle.rule_laws.proofs.ToolLaws.{given-on, given-off, by-test, both-and}
 use Rattle.record.specs.Layout.{ledgerOf}
 use Rattle.record.specs.Spelling.{isSpelled}
 use Rattle.record.proofs.Spelled.{spelled-words}

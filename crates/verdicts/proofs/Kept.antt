@@ -9,7 +9,7 @@ use Rattle.rulebook.specs.Tools.{someTo}
 use Rattle.rulebook.specs.Weights.{lastSlot}
 use Rattle.rulebook.specs.Ledger.{noBlock, mostBlocks, blocksAt, someBlock, isFree, hasNumber}
 use Rattle.rulebook.specs.Inputs.{standsAgainst}
-use Rattle.rulebook.proofs.ToolLaws.{some-more}
+use Rattle.rule_laws.proofs.ToolLaws.{some-more}
 use Rattle.record.specs.Layout.{ledgerOf}
 use Rattle.record.proofs.Reading.{ledger-shaped}
 use Rattle.record.proofs.BlockPlaces.{some-places}

@@ -29,8 +29,8 @@ use Rattle.rulebook.specs.Run.{run}
 use Rattle.rulebook.specs.Checker.{One, good, bad, oneAt}
 use Rattle.rulebook.specs.Inputs.{Fed, refuseIf, isOther, misfits, placeVerdict, badParent, sameBlock, standsAgainst, voteVerdict, blockVerdict, verdict, keepBlock, timeOut, intake, fedWith, refusedWith, feed, startVerdict, watchVerdict}
 use Rattle.rulebook.specs.Taking.{keptVerdict, keepCertificate, taken, takePacket, Arrival, ofInput, ofPacket, served}
-use Rattle.rulebook.proofs.ToolLaws.{given-keeps, by-test, both-and, true-not-false}
-use Rattle.rulebook.proofs.AcceptedLaws.{one-good}
+use Rattle.rule_laws.proofs.ToolLaws.{given-keeps, by-test, both-and, true-not-false}
+use Rattle.rule_laws.proofs.AcceptedLaws.{one-good}
 use Rattle.settling.specs.Facts.{Sound}
 use Rattle.settling.specs.Steps.{Lawful, AndVotes, kindFor, after}
 use Rattle.settling.proofs.LawfulRules.{voter-casting, skips-keep, run-keeps}

@@ -17,7 +17,7 @@ use Rattle.rulebook.specs.Votes.{placeOf}
 use Rattle.rulebook.specs.Rules.{Record, recordOf}
 use Rattle.rulebook.specs.Inputs.{isOther}
 use Rattle.rulebook.specs.Taking.{Arrival, ofInput, served}
-use Rattle.rulebook.proofs.ToolLaws.{given-on, given-off, and-both, both-and}
+use Rattle.rule_laws.proofs.ToolLaws.{given-on, given-off, and-both, both-and}
 use Rattle.settling.specs.Facts.{Sound}
 use Rattle.settling.specs.Steps.{after}
 use Rattle.watchers.specs.Watching.{tellsVote, voteIn, asVotes, isDone, allTaken, SamePool}

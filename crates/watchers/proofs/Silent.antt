@@ -17,8 +17,8 @@ use Rattle.rulebook.specs.Rules.{State, stateOf, recordOf}
 use Rattle.rulebook.specs.Checker.{judge}
 use Rattle.rulebook.specs.Inputs.{Fed, verdict, keepBlock, intake, fedWith, refusedWith, fedOn, feed}
 use Rattle.rulebook.specs.Taking.{keptVerdict, keepCertificate, takenOn, taken, takePacket, Arrival, ofInput, ofPacket, served}
-use Rattle.rulebook.proofs.ToolLaws.{true-not-false}
-use Rattle.rulebook.proofs.AcceptedLaws.{packet-cases}
+use Rattle.rule_laws.proofs.ToolLaws.{true-not-false}
+use Rattle.rule_laws.proofs.AcceptedLaws.{packet-cases}
 use Rattle.settling.specs.Facts.{Sound}
 use Rattle.settling.specs.Steps.{Lawful, kindFor, life}
 use Rattle.settling.proofs.LawfulRules.{run-keeps}

@@ -23,12 +23,12 @@ use Rattle.rulebook.specs.PaperNumbers.{kindIn, numberIn}
 use Rattle.rulebook.specs.Checker.{isOtherKind}
 use Rattle.rulebook.specs.Packets.{wordsIn, certificateOf, certificateBytes}
 use Rattle.rulebook.specs.Writers.{Wrote, votedFor, keptFor, maskedBy, certificateFor, certificateRoom, proofRoom, wroteOn, certificateVerdict, writeCertificate, proofVerdict, proofBytes, writeProof, over, Writes}
-use Rattle.rulebook.proofs.ToolLaws.{choose-on, choose-off, given-on, given-off, and-both, or-cases, by-test, true-not-false}
-use Rattle.rulebook.proofs.WeightLaws.{reached-missing}
-use Rattle.rulebook.proofs.PlaceLaws.{placed-each}
-use Rattle.rulebook.proofs.CertificateLaws.{kept-within, kept-serving}
-use Rattle.rulebook.proofs.NumberLaws.{certificate-few}
-use Rattle.rulebook.proofs.KindLaws.{kind-back, kind-small, kind-words, certificate-room, proof-room}
+use Rattle.rule_laws.proofs.ToolLaws.{choose-on, choose-off, given-on, given-off, and-both, or-cases, by-test, true-not-false}
+use Rattle.rule_laws.proofs.WeightLaws.{reached-missing}
+use Rattle.rule_laws.proofs.PlaceLaws.{placed-each}
+use Rattle.rule_laws.proofs.CertificateLaws.{kept-within, kept-serving}
+use Rattle.rule_laws.proofs.NumberLaws.{certificate-few}
+use Rattle.rule_laws.proofs.KindLaws.{kind-back, kind-small, kind-words, certificate-room, proof-room}
 use Rattle.certificate_numbers.specs.Told.{Masks}
 use Rattle.certificate_numbers.proofs.Whole.{words-few}
 use Rattle.numbers.specs.Written.{Room, Written}

@@ -17,7 +17,7 @@ use Rattle.rulebook.specs.Rules.{isFinal}
 use Rattle.rulebook.specs.Inputs.{refuseIf}
 use Rattle.rulebook.specs.Checker.{isOtherKind, blockMisfits}
 use Rattle.rulebook.specs.Writers.{certificateRoom, proofRoom, certificateVerdict, proofVerdict}
-use Rattle.rulebook.proofs.ToolLaws.{and-both}
+use Rattle.rule_laws.proofs.ToolLaws.{and-both}
 
 -- ---- the chains, exit by exit
 

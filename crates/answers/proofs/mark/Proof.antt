@@ -1,6 +1,6 @@
 -- Both ways.
 use mathlib.Core.Path.{sym}
-use Rattle.rulebook.proofs.ToolLaws.{part-on, part-off}
+use Rattle.rule_laws.proofs.ToolLaws.{part-on, part-off}
 use Rattle.answers.proofs.mark.Statement.{statement}
 use Rattle.answers.proofs.mark.Tie as tie
 

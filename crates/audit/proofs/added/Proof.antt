@@ -1,7 +1,7 @@
 -- By whether the node counts.
 use native.Mathlib.Omega.{arith}
 use borrow.Author.Needs.{needs}
-use Rattle.rulebook.proofs.ToolLaws.{part-on, part-off}
+use Rattle.rule_laws.proofs.ToolLaws.{part-on, part-off}
 use Rattle.audit.proofs.added.Statement.{statement}
 use Rattle.audit.proofs.added.Tie as tie
 

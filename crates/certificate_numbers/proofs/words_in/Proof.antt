@@ -1,6 +1,6 @@
 -- The two widths.
 use mathlib.Core.Path.{sym}
-use Rattle.rulebook.proofs.ToolLaws.{choose-on, choose-off}
+use Rattle.rule_laws.proofs.ToolLaws.{choose-on, choose-off}
 use Rattle.rulebook.specs.Packets.{wordsIn}
 use Rattle.certificate_numbers.proofs.words_in.Statement.{statement}
 use Rattle.certificate_numbers.proofs.words_in.Tie as tie

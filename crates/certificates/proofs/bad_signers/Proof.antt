@@ -13,7 +13,7 @@ use Rattle.rulebook.specs.Ledger.{none}
 use Rattle.rulebook.specs.Tools.{someTo}
 use Rattle.rulebook.specs.Packets.{bit, joined, certificateOf}
 use Rattle.rulebook.specs.Checker.{withoutB, badSigners}
-use Rattle.rulebook.proofs.MaskLaws.{overlap-past}
+use Rattle.rule_laws.proofs.MaskLaws.{overlap-past}
 use Rattle.stakes.specs.Masks.{misplacedIn}
 use Rattle.certificates.proofs.Judged.{some-named}
 use Rattle.certificates.proofs.bad_signers.Statement.{statement}

@@ -2,7 +2,7 @@
 use mathlib.Core.Path.{_∙_, sym}
 use Prim.Native.Nat.{_-_}
 use borrow.Author.Needs.{needs}
-use Rattle.rulebook.proofs.ToolLaws.{choose-on, choose-off}
+use Rattle.rule_laws.proofs.ToolLaws.{choose-on, choose-off}
 use Rattle.commands.specs.Commands.{inputOf}
 use Rattle.commands.proofs.input_of.Statement.{statement}
 use Rattle.commands.proofs.input_of.Tie as tie

@@ -2,7 +2,7 @@
 use lib.Dec.{eqb}
 use mathlib.Core.Path.{sym}
 use borrow.Author.Tests.{eq-eqb, ne-eqb}
-use Rattle.rulebook.proofs.ToolLaws.{choose-on, choose-off}
+use Rattle.rule_laws.proofs.ToolLaws.{choose-on, choose-off}
 use Rattle.comparing.proofs.listed.Statement.{statement}
 use Rattle.comparing.proofs.listed.Tie as tie
 

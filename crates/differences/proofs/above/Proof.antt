@@ -5,7 +5,7 @@ use native.Mathlib.Omega.{arith}
 use lib.Dec.{ltb}
 use borrow.Author.Tests.{le-ltb, lt-ltb}
 use Rattle.rulebook.specs.Tools.{lower}
-use Rattle.rulebook.proofs.LowestLaws.{lower-off, lower-stays, lower-goes}
+use Rattle.rule_laws.proofs.LowestLaws.{lower-off, lower-stays, lower-goes}
 use Rattle.differences.proofs.above.Statement.{statement}
 use Rattle.differences.proofs.above.Tie as tie
 

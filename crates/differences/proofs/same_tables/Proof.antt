@@ -6,7 +6,7 @@ use lib.Dec.{eqb}
 use Rattle.rulebook.specs.Tools.{allTo}
 use Rattle.rulebook.specs.Weights.{stakeIn}
 use Rattle.record.specs.Layout.{ledgerOf}
-use Rattle.rulebook.proofs.ToolLaws.{all-none}
+use Rattle.rule_laws.proofs.ToolLaws.{all-none}
 use Rattle.soundness.proofs.Laws.{sound-long, sound-placed, all-step}
 use Rattle.differences.proofs.TableLaws.{other-count, same-count}
 use borrow.Author.Needs.{needs}

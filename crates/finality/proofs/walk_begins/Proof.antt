@@ -7,7 +7,7 @@ use borrow.Author.Needs.{needs}
 use borrow.Author.Tests.{leb-false}
 use Rattle.rulebook.specs.Ledger.{blocksAt}
 use Rattle.rulebook.specs.Rules.{findBlock}
-use Rattle.rulebook.proofs.ToolLaws.{or-none}
+use Rattle.rule_laws.proofs.ToolLaws.{or-none}
 use Rattle.record.specs.Layout.{ledgerOf}
 use Rattle.finality.proofs.FinalLaws.{begins-nowhere, begins-below}
 use Rattle.finality.proofs.walk_begins.Statement.{statement}

@@ -1,5 +1,5 @@
 -- The three ranges of digits, first to last.
-use Rattle.rulebook.proofs.ToolLaws.{choose-on, choose-off}
+use Rattle.rule_laws.proofs.ToolLaws.{choose-on, choose-off}
 use Rattle.script.proofs.Digits.{digit-says, between}
 use Rattle.hex.specs.Bytes.{hexDigit}
 use mathlib.Core.Path.{_∙_, sym}

@@ -1,5 +1,5 @@
 -- Two digits below 16 make a byte.
-use Rattle.rulebook.proofs.ToolLaws.{choose-on, choose-off}
+use Rattle.rule_laws.proofs.ToolLaws.{choose-on, choose-off}
 use Rattle.script.proofs.Digits.{both-small}
 use Rattle.hex.specs.Bytes.{hexPair}
 use mathlib.Core.Path.{sym}

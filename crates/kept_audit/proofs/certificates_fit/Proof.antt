@@ -7,7 +7,7 @@ use native.Mathlib.Omega.{arith}
 use lib.ListN.{length}
 use borrow.Author.Needs.{needs}
 use borrow.Author.Tests.{not-true, not-false}
-use Rattle.rulebook.proofs.ToolLaws.{and-both, both-and, all-none, all-more}
+use Rattle.rule_laws.proofs.ToolLaws.{and-both, both-and, all-none, all-more}
 use Rattle.rulebook.specs.Ledger.{tableOf, certificatesAt, keptAt}
 use Rattle.rulebook.specs.Tools.{allTo}
 use Rattle.rulebook.specs.WellFormed.{certificateFits}

@@ -4,7 +4,7 @@ use Prim.Native.Nat.{ℕ, _+_}
 use native.Mathlib.Omega.{arith}
 use borrow.Author.Needs.{needs}
 use Rattle.rulebook.specs.PaperNumbers.{numberIn}
-use Rattle.rulebook.proofs.KindLaws.{kind-small}
+use Rattle.rule_laws.proofs.KindLaws.{kind-small}
 use Rattle.kinds.proofs.number_in.Statement.{statement}
 use Rattle.kinds.proofs.number_in.Tie as tie
 

@@ -3,7 +3,7 @@ use Rattle.numbers.specs.Written.{Written}
 use mathlib.Core.List.{List}
 use mathlib.Core.Path.{subst}
 use Rattle.mask_words.proofs.Words.{Put, put-none, put-room, put-more, put-all, mask-spelled}
-use Rattle.rulebook.proofs.WordLaws.{Words}
+use Rattle.rule_laws.proofs.WordLaws.{Words}
 use lib.ListN.{length}
 use denote.Ref.{now}
 use mathlib.Core.Path.{_≡_, refl, ap, sym}

@@ -7,7 +7,7 @@ use native.Mathlib.Numerals.{add-one}
 use lib.ListN.{length, set, length-set}
 use lib.Seq.{sets}
 use Rattle.rulebook.specs.Packets.{groupsOf, numberBytes}
-use Rattle.rulebook.proofs.NumberLaws.{groups-last}
+use Rattle.rule_laws.proofs.NumberLaws.{groups-last}
 use Rattle.numbers.proofs.Turns.{write-more}
 use Rattle.numbers.proofs.Stores.{stores-lay}
 use Rattle.numbers.proofs.write_number.Statement.{statement}

@@ -3,7 +3,7 @@ use mathlib.Core.Path.{_∙_, sym}
 use lib.Dec.{eqb}
 use Rattle.rulebook.specs.Pool.{held}
 use Rattle.rulebook.specs.declared.CertificateKind.the-variants as certificate
-use Rattle.rulebook.proofs.ToolLaws.{or-none}
+use Rattle.rule_laws.proofs.ToolLaws.{or-none}
 use Rattle.record.specs.Layout.{ledgerOf}
 use Rattle.parents.proofs.FewLaws.{unkept-held}
 use Rattle.parents.proofs.AnyLaws.{holds-on, holds-off, holds-earlier}

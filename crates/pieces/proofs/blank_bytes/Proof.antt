@@ -6,7 +6,7 @@ use lib.ListN.{length, getD}
 use borrow.Author.Needs.{needs}
 use Rattle.rulebook.specs.Tools.{allTo}
 use Rattle.rulebook.specs.Ledger.{none}
-use Rattle.rulebook.proofs.ToolLaws.{all-none}
+use Rattle.rule_laws.proofs.ToolLaws.{all-none}
 use Rattle.pieces.proofs.Runs.{tested-more, tested-all}
 use Rattle.pieces.proofs.blank_bytes.Statement.{statement}
 use Rattle.pieces.proofs.blank_bytes.Tie as tie

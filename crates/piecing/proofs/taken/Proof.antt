@@ -2,7 +2,7 @@
 use lib.Dec.{eqb}
 use lib.Seq.{sets}
 use Rattle.piecing.specs.Answer.{pieceLine}
-use Rattle.rulebook.proofs.ToolLaws.{choose-on, choose-off}
+use Rattle.rule_laws.proofs.ToolLaws.{choose-on, choose-off}
 use borrow.Author.Tests.{eq-eqb, ne-eqb}
 use mathlib.Core.Path.{_∙_, ap, sym}
 use borrow.Author.Needs.{needs}

@@ -2,7 +2,7 @@
 use mathlib.Core.Path.{sym}
 use lib.Dec.{eqb}
 use borrow.Author.Tests.{eq-eqb, ne-eqb}
-use Rattle.rulebook.proofs.ToolLaws.{part-on, part-off}
+use Rattle.rule_laws.proofs.ToolLaws.{part-on, part-off}
 use Rattle.pool.specs.OnCard.{leadWeight}
 use Rattle.pool.proofs.lead_weight.Statement.{statement}
 use Rattle.pool.proofs.lead_weight.Tie as tie

@@ -3,7 +3,7 @@ use mathlib.Core.Path.{_∙_, sym, ap}
 use Prim.Native.Nat.{ℕ}
 use lib.Dec.{eqb}
 use borrow.Author.Needs.{needs}
-use Rattle.rulebook.proofs.WeightLaws.{reached-missing}
+use Rattle.rule_laws.proofs.WeightLaws.{reached-missing}
 use Rattle.record.specs.Layout.{ledgerOf}
 use Rattle.pool.proofs.CardLaws.{card-is, card-behind}
 use Rattle.pool.proofs.reached.Statement.{statement}

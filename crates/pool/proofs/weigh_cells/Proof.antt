@@ -7,7 +7,7 @@ use native.Mathlib.Omega.{arith}
 use borrow.Author.Needs.{needs}
 use Rattle.rulebook.specs.Weights.{stakeIn}
 use Rattle.rulebook.specs.Ledger.{cellAt}
-use Rattle.rulebook.proofs.ToolLaws.{part-on, part-off}
+use Rattle.rule_laws.proofs.ToolLaws.{part-on, part-off}
 use Rattle.record.specs.Layout.{ledgerOf}
 use Rattle.pool.proofs.HeldLaws.{weighTo, weigh-none, weigh-done, weigh-more, weigh-room}
 use Rattle.pool.proofs.weigh_cells.Statement.{statement}

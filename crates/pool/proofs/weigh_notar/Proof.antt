@@ -10,7 +10,7 @@ use borrow.Author.Tests.{eq-eqb, ne-eqb}
 use Rattle.rulebook.specs.declared.Who.the-variants as who
 use Rattle.rulebook.specs.Weights.{stakeIn}
 use Rattle.rulebook.specs.Ledger.{cellAt}
-use Rattle.rulebook.proofs.ToolLaws.{part-on, part-off}
+use Rattle.rule_laws.proofs.ToolLaws.{part-on, part-off}
 use Rattle.record.specs.Layout.{ledgerOf}
 use Rattle.pool.proofs.HeldLaws.{notar-counts, weighTo, weigh-none, weigh-done, weigh-more, weigh-room}
 use Rattle.pool.proofs.weigh_notar.Statement.{statement}

@@ -8,7 +8,7 @@ use lib.Dec.{eqb}
 use borrow.Author.Needs.{needs}
 use Rattle.rulebook.specs.declared.Who.the-variants as who
 use Rattle.rulebook.specs.Weights.{stakeIn}
-use Rattle.rulebook.proofs.ToolLaws.{part-on, part-off}
+use Rattle.rule_laws.proofs.ToolLaws.{part-on, part-off}
 use Rattle.record.specs.Layout.{ledgerOf}
 use Rattle.pool.proofs.HeldLaws.{either-counts, weighTo, weigh-none, weigh-done, weigh-more, weigh-room}
 use Rattle.pool.proofs.weigh_notar_or_fallback.Statement.{statement}

@@ -1,7 +1,7 @@
 -- As many as the stakes, up to the limit.
 use mathlib.Core.Path.{sym}
 use native.Mathlib.Omega.{arith}
-use Rattle.rulebook.proofs.PlaceLaws.{placed-each, placed-most}
+use Rattle.rule_laws.proofs.PlaceLaws.{placed-each, placed-most}
 use Rattle.record.proofs.places_for.Statement.{statement}
 use Rattle.record.proofs.places_for.Tie as tie
 

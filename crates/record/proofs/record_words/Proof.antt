@@ -3,7 +3,7 @@ use mathlib.Core.Path.{_≡_, _∙_, ap}
 use native.Mathlib.Omega.{arith}
 use borrow.Author.Needs.{needs}
 use Rattle.rulebook.specs.Weights.{placesFor}
-use Rattle.rulebook.proofs.PlaceLaws.{places-few}
+use Rattle.rule_laws.proofs.PlaceLaws.{places-few}
 use Rattle.record.specs.Layout.{maskWords}
 use Rattle.record.proofs.Places.{mask-few, record-long}
 use Rattle.record.proofs.record_words.Statement.{statement}

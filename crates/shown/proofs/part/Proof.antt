@@ -1,6 +1,6 @@
 -- Both ways.
 use mathlib.Core.Path.{sym}
-use Rattle.rulebook.proofs.ToolLaws.{part-on, part-off}
+use Rattle.rule_laws.proofs.ToolLaws.{part-on, part-off}
 use Rattle.shown.proofs.part.Statement.{statement}
 use Rattle.shown.proofs.part.Tie as tie
 

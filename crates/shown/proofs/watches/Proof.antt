@@ -4,7 +4,7 @@ use mathlib.Core.Path.{_∙_, sym}
 use borrow.Author.Tests.{not-true, not-false}
 use borrow.Author.Needs.{needs}
 use Rattle.rulebook.specs.Ledger.{isWatcher}
-use Rattle.rulebook.proofs.ToolLaws.{given-on, given-off}
+use Rattle.rule_laws.proofs.ToolLaws.{given-on, given-off}
 use Rattle.record.specs.Layout.{ledgerOf}
 use Rattle.record.specs.Spelling.{isSpelled}
 use Rattle.shown.specs.Shown.{watcherShown}

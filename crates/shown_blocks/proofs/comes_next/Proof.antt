@@ -6,7 +6,7 @@ use native.Mathlib.Omega.{arith}
 use lib.Dec.{ltb}
 use borrow.Author.Tests.{le-ltb, lt-ltb}
 use Rattle.rulebook.specs.Tools.{lower}
-use Rattle.rulebook.proofs.LowestLaws.{lower-off, lower-stays, lower-goes}
+use Rattle.rule_laws.proofs.LowestLaws.{lower-off, lower-stays, lower-goes}
 use Rattle.shown_blocks.proofs.comes_next.Statement.{statement}
 use Rattle.shown_blocks.proofs.comes_next.Tie as tie
 

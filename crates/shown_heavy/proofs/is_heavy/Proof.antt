@@ -3,7 +3,7 @@ use mathlib.Core.Path.{_∙_, sym}
 use borrow.Author.Needs.{needs}
 use Rattle.rulebook.specs.Pool.{weighs}
 use Rattle.rulebook.specs.Weights.{reaches}
-use Rattle.rulebook.proofs.WeightLaws.{reaches-found}
+use Rattle.rule_laws.proofs.WeightLaws.{reaches-found}
 use Rattle.shown_heavy.specs.Heavy.{isHeavy}
 use Rattle.shown_heavy.proofs.is_heavy.Statement.{statement}
 use Rattle.shown_heavy.proofs.is_heavy.Tie as tie

@@ -4,7 +4,7 @@ use mathlib.Core.Path.{_≡_}
 use Prim.Native.Nat.{_-_, _≤_}
 use native.Mathlib.Omega.{arith}
 use borrow.Author.Needs.{needs}
-use Rattle.rulebook.proofs.ToolLaws.{part-le}
+use Rattle.rule_laws.proofs.ToolLaws.{part-le}
 use Rattle.record.specs.Layout.{ledgerOf}
 use Rattle.shown_votes.proofs.Laws.{castTo, votersTo, weightTo, cast-room, voters-room, votes-few, cast-more, voters-more, weight-further, stored-start, weight-fits, stored-done}
 use Rattle.shown_votes.proofs.count_stored.Statement.{statement}

@@ -2,7 +2,7 @@
 use mathlib.Core.Path.{_∙_, sym}
 use Prim.Native.Nat.{_-_}
 use borrow.Author.Needs.{needs}
-use Rattle.rulebook.proofs.ToolLaws.{choose-on, choose-off}
+use Rattle.rule_laws.proofs.ToolLaws.{choose-on, choose-off}
 use Rattle.shown_weights.specs.Weights.{shortOf}
 use Rattle.shown_weights.proofs.short_of.Statement.{statement}
 use Rattle.shown_weights.proofs.short_of.Tie as tie

@@ -8,7 +8,7 @@ use denote.Ref.{now}
 use borrow.Author.Needs.{needs}
 use Rattle.rulebook.specs.Ledger.{cellAt}
 use Rattle.rulebook.specs.Packets.{maskOf}
-use Rattle.rulebook.proofs.MaskLaws.{mask-none}
+use Rattle.rule_laws.proofs.MaskLaws.{mask-none}
 use Rattle.record.specs.Layout.{ledgerOf}
 use Rattle.signers.specs.Masks.{inMask}
 use Rattle.signers.proofs.Signers.{signer-in, signer-out}

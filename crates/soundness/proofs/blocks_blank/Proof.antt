@@ -4,7 +4,7 @@ use Prim.Native.Nat.{_-_, _≤_}
 use native.Mathlib.Omega.{arith}
 use lib.ListN.{getD}
 use borrow.Author.Needs.{needs}
-use Rattle.rulebook.proofs.ToolLaws.{all-none}
+use Rattle.rule_laws.proofs.ToolLaws.{all-none}
 use Rattle.rulebook.specs.WellFormed.{blockBlank}
 use Rattle.rulebook.specs.Ledger.{noBlock, blocksAt}
 use Rattle.rulebook.specs.Tools.{allTo}

@@ -3,7 +3,7 @@ use mathlib.Core.Path.{_≡_, _∙_, ap, sym}
 use Prim.Native.Nat.{_-_, _≤_}
 use native.Mathlib.Omega.{arith}
 use borrow.Author.Needs.{needs}
-use Rattle.rulebook.proofs.ToolLaws.{all-none}
+use Rattle.rule_laws.proofs.ToolLaws.{all-none}
 use Rattle.rulebook.specs.WellFormed.{inOrder}
 use Rattle.rulebook.specs.Ledger.{blocksAt}
 use Rattle.rulebook.specs.declared.Block.{Block}

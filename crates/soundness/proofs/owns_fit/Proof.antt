@@ -6,7 +6,7 @@ use native.Mathlib.Numerals.{add-one}
 use native.Mathlib.Omega.{arith}
 use borrow.Author.Needs.{needs}
 use borrow.Author.Tests.{not-true, not-false}
-use Rattle.rulebook.proofs.ToolLaws.{all-none}
+use Rattle.rule_laws.proofs.ToolLaws.{all-none}
 use Rattle.rulebook.specs.Tools.{allTo}
 use Rattle.record.specs.Layout.{ledgerOf}
 use Rattle.rulebook.specs.WellFormed.{ownFits}

@@ -10,8 +10,8 @@ use lib.ListN.{length, getD}
 use borrow.Author.Needs.{needs}
 use Rattle.rulebook.specs.Tools.{someTo}
 use Rattle.rulebook.specs.Packets.{bit, joined}
-use Rattle.rulebook.proofs.ToolLaws.{some-none, some-more}
-use Rattle.rulebook.proofs.WordLaws.{Words, beyond-words, both-more}
+use Rattle.rule_laws.proofs.ToolLaws.{some-none, some-more}
+use Rattle.rule_laws.proofs.WordLaws.{Words, beyond-words, both-more}
 use Rattle.stakes.specs.Masks.{misplacedIn}
 use Rattle.stakes.proofs.misplaced.Statement.{statement}
 use Rattle.stakes.proofs.misplaced.Tie as tie

@@ -1,6 +1,6 @@
 -- `word_overlap` finds by and whether some of the 64 nodes is in both words. Assumes nothing.
 use Prim.Native.Nat.{_-_}
-use Rattle.rulebook.proofs.MaskLaws.{overlap-is}
+use Rattle.rule_laws.proofs.MaskLaws.{overlap-is}
 use Rattle.stakes.proofs.word_overlap.Statement.{statement}
 use Rattle.stakes.proofs.word_overlap.Tie as tie
 

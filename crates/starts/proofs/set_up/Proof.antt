@@ -5,7 +5,7 @@ use native.Mathlib.Omega.{arith}
 use lib.ListN.{length}
 use borrow.Author.Needs.{needs}
 use Rattle.rulebook.specs.Weights.{placesFor}
-use Rattle.rulebook.proofs.PlaceLaws.{nodes-placed}
+use Rattle.rule_laws.proofs.PlaceLaws.{nodes-placed}
 use Rattle.record.specs.Layout.{recordWords, ledgerOf}
 use Rattle.record.proofs.Places.{sized-long, sized-places}
 use Rattle.starts.specs.Starting.{freshTo}

@@ -4,7 +4,7 @@ use Prim.Native.Nat.{_-_, _≤_}
 use native.Mathlib.Omega.{arith}
 use lib.ListN.{getD}
 use borrow.Author.Needs.{needs}
-use Rattle.rulebook.proofs.ToolLaws.{some-none}
+use Rattle.rule_laws.proofs.ToolLaws.{some-none}
 use Rattle.rulebook.specs.Ledger.{noBlock, blocksAt, isFree, hasNumber}
 use Rattle.rulebook.specs.Tools.{someTo}
 use Rattle.rulebook.specs.declared.Block.{Block}

@@ -7,13 +7,13 @@ use Prim.Native.Nat.{ℕ, _+_, _*_, _≤_, _<_}
 use native.Mathlib.Omega.{arith}
 use lib.Dec.{eqb}
 use borrow.Author.Tests.{not-true, eqb-true, eqb-false}
 use Rattle.rulebook.specs.declared.Cell.{Cell}
 use Rattle.rulebook.specs.Weights.{weight, totalTo, reaches, dWeights}
 use Rattle.rulebook.specs.Ledger.{Ledger, none, cellAt}
 use Rattle.rulebook.specs.Pool.{counts, weigh}
 use Rattle.rulebook.specs.Rules.{fallbackWeights}
-use Rattle.rulebook.proofs.ToolLaws.{and-both, both-and, or-cases, or-left, or-right, by-test, true-not-false}
-use Rattle.rulebook.proofs.WeightLaws.{reaches-fact, reaches-more, weight-none, weight-both, weight-apart}
+use Rattle.rule_laws.proofs.ToolLaws.{and-both, both-and, or-cases, or-left, or-right, by-test, true-not-false}
+use Rattle.rule_laws.proofs.WeightLaws.{reaches-fact, reaches-more, weight-none, weight-both, weight-apart}
 
 -- ---- rule D's weights, over three numbers
 

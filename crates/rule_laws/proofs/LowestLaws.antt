@@ -9,12 +9,12 @@ use native.Mathlib.Omega.{arith}
 use native.Mathlib.Nat.{eq-or-lt-of-le, min-eq-left, min-eq-right, le-max-left, le-max-right}
 use lib.Dec.{eqb, leb, ltb}
 use borrow.Author.Tests.{eq-eqb, ne-eqb, eqb-true, eqb-false, leb-true, leb-false, ltb-true, lt-ltb, not-true}
 use Rattle.rulebook.specs.Tools.{anyOf, someTo, lower, lowest, largest}
 use Rattle.rulebook.specs.declared.Who.the-variants as who
 use Rattle.rulebook.specs.Ledger.{Ledger, none, cellAt}
 use Rattle.rulebook.specs.Pool.{counts, weigh, named, namesTo, names}
-use Rattle.rulebook.proofs.ToolLaws.{given-on, given-off, by-test, and-both, both-and, or-cases, or-left, or-right, or-none, true-not-false, some-find, some-each}
-use Rattle.rulebook.proofs.WeightLaws.{weight-none}
+use Rattle.rule_laws.proofs.ToolLaws.{given-on, given-off, by-test, and-both, both-and, or-cases, or-left, or-right, or-none, true-not-false, some-find, some-each}
+use Rattle.rule_laws.proofs.WeightLaws.{weight-none}
 
 -- The block stands in the list.
 abbrev pub Among : ℕ → List ℕ → Type 0

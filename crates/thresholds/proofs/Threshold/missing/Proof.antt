@@ -2,9 +2,9 @@
 use native.Mathlib.Omega.{arith}
 use native.Mathlib.Nat.{mul-le-mul-right}
 use borrow.Author.Needs.{needs}
 use Rattle.rulebook.specs.Weights.{missing}
-use Rattle.rulebook.proofs.Threshold.missing.Statement.{statement}
-use Rattle.rulebook.proofs.Threshold.missing.Tie as tie
+use Rattle.thresholds.proofs.Threshold.missing.Statement.{statement}
+use Rattle.thresholds.proofs.Threshold.missing.Tie as tie
 
 mul-needed : tie.Need-mul-needed
 mul-needed c = let h = mul-le-mul-right (c .before .before .args .t .0) (c .before .before .pre .fifths) in omega arith

@@ -8,26 +8,26 @@ use native.Mathlib.Omega.{arith}
 use lib.ListN.{length, getD}
 use lib.Dec.{eqb, leb}
 use borrow.Author.Tests.{not-true, not-false, leb-true, leb-false, eqb-true, eqb-false, eq-eqb}
 use Rattle.rulebook.specs.declared.CertificateKind.{CertificateKind}
 use Rattle.rulebook.specs.declared.CertificateKind.the-variants as certificate
 use Rattle.rulebook.specs.declared.Refusal.the-variants as refusal
 use Rattle.rulebook.specs.declared.Verdict.the-variants.{Fine}
 use Rattle.rulebook.specs.Tools.{choose, given, allTo, someTo}
 use Rattle.rulebook.specs.Certificates.{Certificate, Kept}
 use Rattle.rulebook.specs.PaperNumbers.{certificateNumber, kindIn, numberIn}
 use Rattle.rulebook.specs.Weights.{lastSlot, family, slotOk, totalTo, reaches}
 use Rattle.rulebook.specs.Ledger.{Ledger, none, noKept, tableOf, rowAt, blocksAt, certificatesAt, isKept}
 use Rattle.rulebook.specs.Pool.{fifthsOf, placeKind, sameKind, servesAs, someKept, isFor, keptNames}
 use Rattle.rulebook.specs.Packets.{bit}
 use Rattle.rulebook.specs.Checker.{isOtherKind, blockMisfits, withoutB, badSigners, signed, signedWeight, judgeWeight, judgeKind}
 use Rattle.rulebook.specs.Taking.{isRoom, hasRoom, fillKept, isRepeat}
 use Rattle.rulebook.specs.Writers.{findKept, keptFor}
 use Rattle.rulebook.specs.WellFormed.{flag, blocksFit, eachKept, inTurn, certificatesApart, certificatesFit, rowFits, rowBlank, headFits, wellFormed}
-use Rattle.rulebook.proofs.ToolLaws.{and-both, both-and, or-left, or-right, or-cases, or-none, by-test, true-not-false, given-on, given-off, given-both, choose-on, choose-off, all-at}
-use Rattle.rulebook.proofs.LowestLaws.{Among, ZeroFree, among-name, among-named, named-cases, free-named}
-use Rattle.rulebook.proofs.WeightLaws.{reaches-fewer}
-use Rattle.rulebook.proofs.KindLaws.{kind-back}
-use Rattle.rulebook.proofs.RuleLaws.{refuse-fine, refuse-none}
+use Rattle.rule_laws.proofs.ToolLaws.{and-both, both-and, or-left, or-right, or-cases, or-none, by-test, true-not-false, given-on, given-off, given-both, choose-on, choose-off, all-at}
+use Rattle.rule_laws.proofs.LowestLaws.{Among, ZeroFree, among-name, among-named, named-cases, free-named}
+use Rattle.rule_laws.proofs.WeightLaws.{reaches-fewer}
+use Rattle.rule_laws.proofs.KindLaws.{kind-back}
+use Rattle.rule_laws.proofs.RuleLaws.{refuse-fine, refuse-none}
 
 -- ---- kinds
 

@@ -10,11 +10,11 @@ use lib.ListN.{length, getD}
 use lib.Pow.{pow-add, pow-pos, pow-mono, shr-shr}
 use lib.Dec.{leb, eqb}
 use borrow.Author.Tests.{le-leb, lt-leb, leb-true, leb-false}
 use Rattle.rulebook.specs.Tools.{part, sumTo, someTo}
 use Rattle.rulebook.specs.Packets.{bit, maskOf, joined}
-use Rattle.rulebook.proofs.ToolLaws.{same-test, or-left, or-right, or-cases, sum-same}
-use Rattle.rulebook.proofs.MaskLaws.{zero-bit, mask-lt}
-use Rattle.rulebook.proofs.NumberLaws.{words-low}
+use Rattle.rule_laws.proofs.ToolLaws.{same-test, or-left, or-right, or-cases, sum-same}
+use Rattle.rule_laws.proofs.MaskLaws.{zero-bit, mask-lt}
+use Rattle.rule_laws.proofs.NumberLaws.{words-low}
 
 -- Each word has 64 bits.
 abbrev pub Words : List ℕ → Type 0

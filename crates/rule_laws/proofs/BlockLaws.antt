@@ -6,12 +6,12 @@ use Prim.Native.Nat.{ℕ, suc}
 use lib.ListN.{length}
 use lib.Dec.{eqb}
 use borrow.Author.Tests.{not-true, eq-eqb}
 use Rattle.rulebook.specs.declared.Block.{Block}
 use Rattle.rulebook.specs.Tools.{choose}
 use Rattle.rulebook.specs.Ledger.{none, someBlock, allBlocks, isFree, hasNumber, isBlock, fillBlock}
 use Rattle.rulebook.specs.Rules.{findBlock}
 use Rattle.rulebook.specs.WellFormed.{inOrder, blocksApart}
-use Rattle.rulebook.proofs.ToolLaws.{and-both, both-and, or-left, or-right, or-cases, or-none, true-not-false}
+use Rattle.rule_laws.proofs.ToolLaws.{and-both, both-and, or-left, or-right, or-cases, or-none, true-not-false}
 
 -- The places stay as many.
 pub fill-length : (k : Block) (bs : List Block) → length (fillBlock k bs) ≡ length bs

@@ -7,16 +7,16 @@ use native.Mathlib.Omega.{arith}
 use lib.ListN.{length, getD, set, drop}
 use lib.Dec.{eqb}
 use borrow.Author.Tests.{not-true}
 use Rattle.rulebook.specs.declared.CertificateKind.{CertificateKind}
 use Rattle.rulebook.specs.Certificates.{Kept}
 use Rattle.rulebook.specs.Tools.{choose, given, allTo, someTo}
 use Rattle.rulebook.specs.Ledger.{noKept, isKept}
 use Rattle.rulebook.specs.Pool.{placeKind, sameKind, someKept, named, keptNames}
 use Rattle.rulebook.specs.Taking.{isRoom, hasRoom, fillKept}
 use Rattle.rulebook.specs.Writers.{findKept}
 use Rattle.rulebook.specs.WellFormed.{eachKept, inTurn, certificatesApart}
-use Rattle.rulebook.proofs.ToolLaws.{choose-on, choose-off, given-on, given-off, and-both, both-and, or-left, or-right, or-cases, by-test, true-not-false, same-test, all-at, all-each, some-at, some-find}
-use Rattle.rulebook.proofs.CertificateLaws.{some-place, place-some, each-at, kept-within, no-room, apart-at}
+use Rattle.rule_laws.proofs.ToolLaws.{choose-on, choose-off, given-on, given-off, and-both, both-and, or-left, or-right, or-cases, by-test, true-not-false, same-test, all-at, all-each, some-at, some-find}
+use Rattle.rule_laws.proofs.CertificateLaws.{some-place, place-some, each-at, kept-within, no-room, apart-at}
 
 -- Counted from place 0.
 from-zero : (n : ℕ) → 0 + n ≡ n
