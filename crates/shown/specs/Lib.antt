@@ -1,2 +1,3 @@
 -- What a record shows to people.
 pub mod Shown
+pub mod CornersOfShown
