@@ -6,8 +6,8 @@ ghost use Prim.Native.Nat.{_+_, _≤_, _^_};
 ghost use lib.Dec.{eqb};
 ghost use Rattle.rulebook.specs.Tools.{part};
 ghost use Rattle.rulebook.specs.Weights.{stakeIn};
-ghost use Rattle.rulebook.specs.Ledger.{noCard, cellAt};
-ghost use Rattle.rulebook.specs.Cards.{most, leader, sameCard};
+ghost use Rattle.rulebook.specs.Ledger.{cellAt};
+ghost use Rattle.rulebook.specs.Cards.{most, leader};
 ghost use Rattle.rulebook.specs.WellFormed.{inOrder, cellFits, cellBlank, cellsFit, cardFits};
 ghost use Rattle.record.specs.Layout.{ledgerOf};
 ghost use Rattle.pool.specs.Weighing.{Weighing};
@@ -130,22 +130,21 @@ fn with_plain(sums: Sums, c: Cell, w: Weight, b: u64) -> Sums
     }
 }
 
-// The sums with a node's cell in a slot. Most are plain, and a blank one changes nothing.
+// The sums with a node's cell in a slot. Most are plain, and a blank one changes nothing. The stake is read where it is added.
 fn with_node(rec: &[u64], s: Slot, n: Node, b: u64, sums: Sums) -> Sums
     requires { ⌜ Adding (now rec) (s .0) (n .0) sums ⌝ }
     ensures { λ r. ⌜ r ≡ withCell sums (cellAt (ledgerOf (now (rec .entry))) (s .0) (n .0)) (stakeIn (ledgerOf (now (rec .entry)) .stakes) (n .0)) b ⌝ }
 {
     let c = load_cell(rec, s, n);
-    let w = stake(rec, n);
     if c.notar != 0 {
         if (c.skip | (c.skipfallback | c.fallback3)) == 0 {
-            return with_plain(sums, c, w, b);
+            return with_plain(sums, c, stake(rec, n), b);
         }
     }
     if cell_blank(c) {
         return sums;
     }
-    with_cell(sums, c, w, b)
+    with_cell(sums, c, stake(rec, n), b)
 }
 
 // The sums of no cell.
@@ -194,18 +193,6 @@ fn leader_fits(rec: &[u64], s: Slot, t: Tally, sums: Sums) -> bool
         return true;
     }
     !is_led(rec, s, b, v, any)
-}
-
-// A card with nothing on it.
-pub fn card_blank(t: Tally) -> bool
-    ensures { λ r. ⌜ r ≡ sameCard t noCard ⌝ }
-{
-    let skip = t.skip;
-    let finals = t.finals;
-    let skipcert = t.skipcert;
-    let weight = t.weight;
-    let sums = (skip.0 == 0) & ((finals.0 == 0) & (skipcert.0 == 0));
-    sums & ((t.leader == 0) & (weight.0 == 0))
 }
 
 // Whether a slot's cells fit, and its card is what a recount of its votes gives.

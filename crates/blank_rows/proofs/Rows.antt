@@ -156,8 +156,8 @@ module _ (ws : List ℕ) (s k p w : ℕ) (h : InSlot ws s) (at : KeptAt ws s 0 k
       ∙ none-table (20 + 13 * (1 + 2 * w) + 7 * p) (λ j. wordAt ws (k - 20 + j))
       ∙ row-none
 
--- A part of eight words or more has eight.
-pub row-long : (ws : List ℕ) (from end n : ℕ) → 8 ≤ n → from + n ≤ length ws → end ≡ from + n → 8 ≤ length (take (end - from) (drop from ws))
+-- A part of sixteen words or more has sixteen.
+pub row-long : (ws : List ℕ) (from end n : ℕ) → 16 ≤ n → from + n ≤ length ws → end ≡ from + n → 16 ≤ length (take (end - from) (drop from ws))
 row-long ws from end n h b e =
     let size : end - from ≡ n = omega arith in
     let long : length (take (end - from) (drop from ws)) ≡ n =

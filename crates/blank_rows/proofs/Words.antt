@@ -1,8 +1,8 @@
--- Words that are all 0, eight in a turn. Assumes nothing.
+-- Words that are all 0, sixteen in a turn. Assumes nothing.
 use mathlib.Core.Path.{_≡_, refl, sym, ap, ap₂, _∙_}
 use mathlib.Core.Bool.{Bool, true, false, _&&_}
 use mathlib.Core.List.{List}
-use Prim.Native.Nat.{ℕ, _+_, _-_, _*_, _/_, _≤_}
+use Prim.Native.Nat.{ℕ, _+_, _-_, _*_, _/_, _≤_, _<_}
 use native.Mathlib.Omega.{arith}
 use lib.ListN.{length}
 use lib.Dec.{eqb, ltb}
@@ -14,7 +14,7 @@ use Rattle.rule_laws.proofs.ToolLaws.{by-test, same-test, and-both, both-and, a
 use Rattle.record.specs.Layout.{wordAt}
 use Rattle.kept_certificates.specs.Kept.{allNone}
 use Rattle.kept_certificates.proofs.ByPlace.{all-split, all-parts}
-use Rattle.blank_rows.specs.Blank.{noneFrom}
+use Rattle.blank_rows.specs.Blank.{noneFrom, secondsNone}
 
 -- ---- words or-ed together
 
@@ -37,6 +37,22 @@ exchange false b c d = refl
 exchange true true c d = refl
 exchange true false true d = refl
 exchange true false false d = refl
+
+and-true : (t : Bool) → t ≡ (t && true)
+and-true true = refl
+and-true false = refl
+
+and-more : (x y z : Bool) → ((x && y) && z) ≡ (x && (y && z))
+and-more true y z = refl
+and-more false y z = refl
+
+-- Eight tests, four by four.
+all-four : (f : ℕ → Bool) → allTo 4 f ≡ ((f 0 && f 1) && (f 2 && f 3))
+unfolding allTo
+all-four f = and-more (f 0 && f 1) (f 2) (f 3)
+
+all-eight : (f : ℕ → Bool) → allTo 8 f ≡ (((f 0 && f 1) && (f 2 && f 3)) && ((f 4 && f 5) && (f 6 && f 7)))
+all-eight f = all-split 4 4 f ∙ ap₂ (λ (x y : Bool). x && y) (all-four f) (all-four (λ j. f (4 + j)))
 
 -- ---- runs of words
 
@@ -70,78 +86,84 @@ module _ (ws : List ℕ) where
   pub three-none : (a : ℕ) → noneFrom ws a 3 ≡ (word a && (word (a + 1) && word (a + 2)))
   three-none a = from-split a 1 2 ∙ ap₂ (λ (x y : Bool). x && y) (one-none a) (two-none (a + 1) ∙ ap (λ (i : ℕ). word (a + 1) && word i) (omega arith))
 
-  runs-four : (a : ℕ) → noneFrom ws a 4 ≡ ((word a && word (a + 1)) && (word (a + 2) && word (a + 3)))
-  runs-four a = from-split a 2 2 ∙ ap₂ (λ (x y : Bool). x && y) (two-none a) (two-none (a + 2) ∙ ap (λ (i : ℕ). word (a + 2) && word i) (omega arith))
+  -- Eight words or-ed together, every second one.
+  pub seconds-none : (a : ℕ)
+      → none (bitOr (bitOr (bitOr (wordAt ws a) (wordAt ws (a + 2))) (bitOr (wordAt ws (a + 4)) (wordAt ws (a + 6)))) (bitOr (bitOr (wordAt ws (a + 8)) (wordAt ws (a + 10))) (bitOr (wordAt ws (a + 12)) (wordAt ws (a + 14)))))
+      ≡ secondsNone ws a
+  unfolding secondsNone
+  seconds-none a =
+      let e : a ≡ a + 2 * 0 = omega arith in
+      or-none (bitOr (bitOr (wordAt ws a) (wordAt ws (a + 2))) (bitOr (wordAt ws (a + 4)) (wordAt ws (a + 6)))) (bitOr (bitOr (wordAt ws (a + 8)) (wordAt ws (a + 10))) (bitOr (wordAt ws (a + 12)) (wordAt ws (a + 14))))
+      ∙ ap₂ (λ (x y : Bool). x && y) (four-none (wordAt ws a) (wordAt ws (a + 2)) (wordAt ws (a + 4)) (wordAt ws (a + 6))) (four-none (wordAt ws (a + 8)) (wordAt ws (a + 10)) (wordAt ws (a + 12)) (wordAt ws (a + 14)))
+      ∙ ap (λ (i : ℕ). ((word i && word (a + 2)) && (word (a + 4) && word (a + 6))) && ((word (a + 8) && word (a + 10)) && (word (a + 12) && word (a + 14)))) e
+      ∙ sym (all-eight (λ j. word (a + 2 * j)))
 
-  runs-eight : (a : ℕ)
-      → noneFrom ws a 8 ≡ (((word a && word (a + 1)) && (word (a + 2) && word (a + 3))) && ((word (a + 4) && word (a + 5)) && (word (a + 6) && word (a + 7))))
-  runs-eight a =
-      let x : a + 4 + 1 ≡ a + 5 = omega arith in
-      let y : a + 4 + 2 ≡ a + 6 = omega arith in
-      let z : a + 4 + 3 ≡ a + 7 = omega arith in
-      from-split a 4 4 ∙ ap₂ (λ (x y : Bool). x && y) (runs-four a) (runs-four (a + 4) ∙ (λ i. (word (a + 4) && word (x i)) && (word (y i) && word (z i))))
-
-  -- Eight words in their order.
-  pub eight-none : (a : ℕ)
-      → none (bitOr (bitOr (bitOr (wordAt ws a) (wordAt ws (a + 1))) (bitOr (wordAt ws (a + 2)) (wordAt ws (a + 3)))) (bitOr (bitOr (wordAt ws (a + 4)) (wordAt ws (a + 5))) (bitOr (wordAt ws (a + 6)) (wordAt ws (a + 7)))))
-      ≡ noneFrom ws a 8
-  eight-none a =
-      or-none (bitOr (bitOr (wordAt ws a) (wordAt ws (a + 1))) (bitOr (wordAt ws (a + 2)) (wordAt ws (a + 3)))) (bitOr (bitOr (wordAt ws (a + 4)) (wordAt ws (a + 5))) (bitOr (wordAt ws (a + 6)) (wordAt ws (a + 7))))
-      ∙ ap₂ (λ (x y : Bool). x && y) (four-none (wordAt ws a) (wordAt ws (a + 1)) (wordAt ws (a + 2)) (wordAt ws (a + 3))) (four-none (wordAt ws (a + 4)) (wordAt ws (a + 5)) (wordAt ws (a + 6)) (wordAt ws (a + 7)))
-      ∙ sym (runs-eight a)
-
-  -- Those behind the turns so far, and the eight of one turn more: every second word to either sum.
-  abbrev pub withEven : ℕ → ℕ → ℕ
-  withEven even i = bitOr even (bitOr (bitOr (wordAt ws i) (wordAt ws (i + 2))) (bitOr (wordAt ws (i + 4)) (wordAt ws (i + 6))))
-
-  abbrev pub withOdd : ℕ → ℕ → ℕ
-  withOdd odd i = bitOr odd (bitOr (bitOr (wordAt ws (i + 1)) (wordAt ws (i + 3))) (bitOr (wordAt ws (i + 5)) (wordAt ws (i + 7))))
-
-  pub no-turn : (none 0 && none 0) ≡ noneFrom ws 0 (8 * 0)
-  unfolding noneFrom allTo
-  no-turn = refl
-
-  pub one-turn : (k even odd : ℕ) → (none even && none odd) ≡ noneFrom ws 0 (8 * k)
-      → (none (withEven even (8 * k)) && none (withOdd odd (8 * k))) ≡ noneFrom ws 0 (8 * (k + 1))
-  one-turn k even odd e =
-      let i : ℕ = 8 * k in
-      let more : 8 * k + 8 ≡ 8 * (k + 1) = omega arith in
-      let start : 0 + 8 * k ≡ 8 * k = omega arith in
-      ap₂ (λ (x y : Bool). x && y)
-      (or-none even _ ∙ ap (λ (t : Bool). none even && t) (four-none (wordAt ws i) (wordAt ws (i + 2)) (wordAt ws (i + 4)) (wordAt ws (i + 6))))
-      (or-none odd _ ∙ ap (λ (t : Bool). none odd && t) (four-none (wordAt ws (i + 1)) (wordAt ws (i + 3)) (wordAt ws (i + 5)) (wordAt ws (i + 7))))
-      ∙ exchange (none even) ((word i && word (i + 2)) && (word (i + 4) && word (i + 6))) (none odd) ((word (i + 1) && word (i + 3)) && (word (i + 5) && word (i + 7)))
-      ∙ ap₂ (λ (x y : Bool). x && y) e
-      (exchange (word i && word (i + 2)) (word (i + 4) && word (i + 6)) (word (i + 1) && word (i + 3)) (word (i + 5) && word (i + 7))
-      ∙ ap₂ (λ (x y : Bool). x && y) (exchange (word i) (word (i + 2)) (word (i + 1)) (word (i + 3))) (exchange (word (i + 4)) (word (i + 6)) (word (i + 5)) (word (i + 7)))
-      ∙ sym (runs-eight i)
-      ∙ ap (λ (a : ℕ). noneFrom ws a 8) (sym start))
-      ∙ sym (from-split 0 (8 * k) 8)
-      ∙ ap (noneFrom ws 0) more
-
-  pub turns-done : (even odd k n : ℕ) → (none even && none odd) ≡ noneFrom ws 0 (8 * k) → k ≡ n → none (bitOr even odd) ≡ noneFrom ws 0 (8 * n)
-  turns-done even odd k n e q = or-none even odd ∙ e ∙ ap (λ (m : ℕ). noneFrom ws 0 (8 * m)) q
-
-  -- All whole turns and the last eight words are all the words.
-  pub all-words : (most last : ℕ) → 8 ≤ length ws → none most ≡ noneFrom ws 0 (8 * (length ws / 8)) → none last ≡ noneFrom ws (length ws - 8) 8
-      → eqb (bitOr most last) 0 ≡ allNone ws
-  unfolding noneFrom allNone
-  all-words most last h m l =
-      let turns : ℕ = 8 * (length ws / 8) in
-      let behind : ℕ = length ws - 8 in
-      or-none most last
-      ∙ ap₂ (λ (x y : Bool). x && y) m l
-      ∙ same-test (allTo turns (λ j. word (0 + j)) && allTo 8 (λ j. word (behind + j))) (allTo (length ws) word)
+  -- Those from a place on and from the next one on are sixteen in a row.
+  pub both-seconds : (a : ℕ) → (secondsNone ws a && secondsNone ws (a + 1)) ≡ noneFrom ws a 16
+  unfolding secondsNone noneFrom
+  both-seconds a =
+      let even : ℕ → Bool = λ j. word (a + 2 * j) in
+      let odd : ℕ → Bool = λ j. word (a + 1 + 2 * j) in
+      let all : ℕ → Bool = λ j. word (a + j) in
+      same-test (allTo 8 even && allTo 8 odd) (allTo 16 all)
       (λ t.
-      let p = and-both (allTo turns (λ j. word (0 + j))) (allTo 8 (λ j. word (behind + j))) t in
+      let p = and-both (allTo 8 even) (allTo 8 odd) t in
+      all-each 16 all
+      (λ j b. by-test (ltb (2 * (j / 2)) j)
+      (λ q.
+      let c : 2 * (j / 2) < j = ltb-true (2 * (j / 2)) j q in
+      let e : a + j ≡ a + 1 + 2 * (j / 2) = omega arith in
+      ap word e ∙ all-at 8 (j / 2) odd (p .1) (omega arith))
+      (λ q.
+      let c : j ≤ 2 * (j / 2) = ltb-false (2 * (j / 2)) j q in
+      let e : a + j ≡ a + 2 * (j / 2) = omega arith in
+      ap word e ∙ all-at 8 (j / 2) even (p .0) (omega arith))))
+      (λ t.
+      both-and (allTo 8 even) (allTo 8 odd)
+      (all-each 8 even (λ j b. all-at 16 (2 * j) all t (omega arith)))
+      (all-each 8 odd (λ j b. let e : a + 1 + 2 * j ≡ a + (1 + 2 * j) = omega arith in ap word e ∙ all-at 16 (1 + 2 * j) all t (omega arith))))
+
+  -- The last sixteen words and those of the first k turns.
+  abbrev pub seenTo : ℕ → Bool
+  seenTo k = noneFrom ws (length ws - 16) 16 && noneFrom ws 0 (16 * k)
+
+  pub no-turn : (even odd last : ℕ) → last ≡ length ws - 16 → none even ≡ secondsNone ws last → none odd ≡ secondsNone ws (last + 1)
+      → (none even && none odd) ≡ seenTo 0
+  unfolding noneFrom allTo
+  no-turn even odd last e f g =
+      ap₂ (λ (x y : Bool). x && y) f g ∙ both-seconds last ∙ ap (λ (a : ℕ). noneFrom ws a 16) e ∙ and-true (noneFrom ws (length ws - 16) 16)
+
+  pub one-turn : (k even odd e o : ℕ) → (none even && none odd) ≡ seenTo k → none e ≡ secondsNone ws (16 * k) → none o ≡ secondsNone ws (16 * k + 1)
+      → (none (bitOr even e) && none (bitOr odd o)) ≡ seenTo (k + 1)
+  one-turn k even odd e o seen f g =
+      let more : 16 * k + 16 ≡ 16 * (k + 1) = omega arith in
+      let start : 16 * k ≡ 0 + 16 * k = omega arith in
+      let last : Bool = noneFrom ws (length ws - 16) 16 in
+      ap₂ (λ (x y : Bool). x && y) (or-none even e) (or-none odd o)
+      ∙ exchange (none even) (none e) (none odd) (none o)
+      ∙ ap₂ (λ (x y : Bool). x && y) seen (ap₂ (λ (x y : Bool). x && y) f g ∙ both-seconds (16 * k) ∙ ap (λ (a : ℕ). noneFrom ws a 16) start)
+      ∙ and-more last (noneFrom ws 0 (16 * k)) (noneFrom ws (0 + 16 * k) 16)
+      ∙ ap (λ (t : Bool). last && t) (sym (from-split 0 (16 * k) 16) ∙ ap (noneFrom ws 0) more)
+
+  -- After so many turns all words have been looked at.
+  pub turns-done : (even odd k : ℕ) → 16 ≤ length ws → (none even && none odd) ≡ seenTo k → k ≡ (length ws - 1) / 16 → eqb (bitOr even odd) 0 ≡ allNone ws
+  unfolding noneFrom allNone
+  turns-done even odd k h seen done =
+      let turns : ℕ = 16 * k in
+      let behind : ℕ = length ws - 16 in
+      or-none even odd
+      ∙ seen
+      ∙ same-test (allTo 16 (λ j. word (behind + j)) && allTo turns (λ j. word (0 + j))) (allTo (length ws) word)
+      (λ t.
+      let p = and-both (allTo 16 (λ j. word (behind + j))) (allTo turns (λ j. word (0 + j))) t in
       all-each (length ws) word
       (λ i b. by-test (ltb i turns)
-      (λ q. let e : i ≡ 0 + i = omega arith in ap word e ∙ all-at turns i (λ j. word (0 + j)) (p .0) (ltb-true i turns q))
+      (λ q. let e : i ≡ 0 + i = omega arith in ap word e ∙ all-at turns i (λ j. word (0 + j)) (p .1) (ltb-true i turns q))
       (λ q.
       let c : turns ≤ i = ltb-false i turns q in
       let e : i ≡ behind + (i - behind) = omega arith in
-      ap word e ∙ all-at 8 (i - behind) (λ j. word (behind + j)) (p .1) (omega arith))))
+      ap word e ∙ all-at 16 (i - behind) (λ j. word (behind + j)) (p .0) (omega arith))))
       (λ t.
-      both-and (allTo turns (λ j. word (0 + j))) (allTo 8 (λ j. word (behind + j)))
-      (all-each turns (λ j. word (0 + j)) (λ j b. all-at (length ws) (0 + j) word t (omega arith)))
-      (all-each 8 (λ j. word (behind + j)) (λ j b. all-at (length ws) (behind + j) word t (omega arith))))
+      both-and (allTo 16 (λ j. word (behind + j))) (allTo turns (λ j. word (0 + j)))
+      (all-each 16 (λ j. word (behind + j)) (λ j b. all-at (length ws) (behind + j) word t (omega arith)))
+      (all-each turns (λ j. word (0 + j)) (λ j b. all-at (length ws) (0 + j) word t (omega arith))))

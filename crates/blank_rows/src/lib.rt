@@ -1,11 +1,11 @@
 // Rows of a record with nothing in them, found by or-ing all words of a slot's row.
 ghost use mathlib.Core.Path.{_≡_};
-ghost use Prim.Native.Nat.{_-_, _*_, _/_, _≤_};
+ghost use Prim.Native.Nat.{_+_, _≤_};
 ghost use lib.ListN.{length};
 ghost use Rattle.rulebook.specs.Ledger.{none};
 ghost use Rattle.record.specs.Layout.{InSlot, ledgerOf};
 ghost use Rattle.kept_certificates.specs.Kept.{allNone};
-ghost use Rattle.blank_rows.specs.Blank.{noneFrom, nothingIn};
+ghost use Rattle.blank_rows.specs.Blank.{secondsNone, nothingIn};
 use record::MOST_CERTIFICATES;
 use record::kept_start;
 use record::mask_words;
@@ -17,40 +17,30 @@ const KEPT_AT: usize = 20;
 
 const CELL_WORDS: usize = 7;
 
-// The last eight words or-ed together.
-fn last_eight(words: &[u64]) -> u64
-    requires { ⌜ 8 ≤ length (now words) ⌝ }
-    ensures { λ r. ⌜ none r ≡ noneFrom (now (words .entry)) (length (now (words .entry)) - 8) 8 ⌝ }
+// Eight words or-ed together, every second one from a place on.
+fn every_second(words: &[u64], i: usize) -> u64
+    requires { ⌜ i + 15 ≤ length (now words) ⌝ }
+    ensures { λ r. ⌜ none r ≡ secondsNone (now (words .entry)) i ⌝ }
 {
-    let i = words.len() - 8;
-    let before = (words[i] | words[i + 1]) | (words[i + 2] | words[i + 3]);
-    let behind = (words[i + 4] | words[i + 5]) | (words[i + 6] | words[i + 7]);
-    before | behind
+    let front = (words[i] | words[i + 2]) | (words[i + 4] | words[i + 6]);
+    front | ((words[i + 8] | words[i + 10]) | (words[i + 12] | words[i + 14]))
 }
 
-// All words or-ed together, but for the last that are less than eight: eight in a turn and two by two, as a machine can.
-fn eights(words: &[u64]) -> u64
-    ensures { λ r. ⌜ none r ≡ noneFrom (now (words .entry)) 0 (8 * (length (now (words .entry)) / 8)) ⌝ }
-{
-    let mut even: u64 = 0;
-    let mut odd: u64 = 0;
-    let turns = words.len() / 8;
-    for k in 0..turns {
-        let i = 8 * k;
-        even = even | ((words[i] | words[i + 2]) | (words[i + 4] | words[i + 6]));
-        odd = odd | ((words[i + 1] | words[i + 3]) | (words[i + 5] | words[i + 7]));
-    }
-    even | odd
-}
-
-// Whether eight words or more are all 0. The last eight may be looked at twice, which changes nothing.
+// Whether sixteen words or more are all 0: the last sixteen, then sixteen in a turn from the front, two by two, as a machine can. Some of
+// the last may be looked at twice, which changes nothing.
 fn all_none(words: &[u64]) -> bool
-    requires { ⌜ 8 ≤ length (now words) ⌝ }
+    requires { ⌜ 16 ≤ length (now words) ⌝ }
     ensures { λ r. ⌜ r ≡ allNone (now (words .entry)) ⌝ }
 {
-    let most = eights(words);
-    let last = last_eight(words);
-    (most | last) == 0
+    let last = words.len() - 16;
+    let mut even = every_second(words, last);
+    let mut odd = every_second(words, last + 1);
+    let turns = (words.len() - 1) / 16;
+    for k in 0..turns {
+        even = even | every_second(words, 16 * k);
+        odd = odd | every_second(words, 16 * k + 1);
+    }
+    (even | odd) == 0
 }
 
 // Whether nothing stands in a slot's row: all its words are 0.

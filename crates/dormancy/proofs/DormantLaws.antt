@@ -24,7 +24,7 @@ use Rattle.rulebook.specs.Rules.{State, ruleA, ruleG, isFinal, isNewcomer, find
 use Rattle.rulebook.specs.Cards.{leader, most, recount}
 use Rattle.rulebook.specs.Run.{firstRule}
 use Rattle.rulebook.specs.WellFormed.{inOrder, keptFits, blocksApart, blocksFit, eachKept, keptBlank}
-use Rattle.rule_laws.proofs.ToolLaws.{choose-off, and-both, both-and, or-cases, or-none, by-test, true-not-false, all-at, some-none, some-more, some-at, some-each, some-find}
+use Rattle.rule_laws.proofs.ToolLaws.{choose-off, and-both, both-and, or-cases, or-none, by-test, true-not-false, all-at, some-more, some-at, some-each, some-find}
 use Rattle.rule_laws.proofs.WeightLaws.{weight-none, reaches-nothing, reaches-fewer}
 use Rattle.rule_laws.proofs.LowestLaws.{named-off, lower-off, lowest-none, lowest-skip, lowest-take}
 use Rattle.rule_laws.proofs.CertificateLaws.{some-place, kept-name}
@@ -300,22 +300,6 @@ module _ (l : Ledger) (s : ℕ) (a : Bool) (none : a ≡ eachKept (λ i q. keptB
   pub supported-voted : (x : Bool) → a ≡ true → x ≡ someNode l s supports → x ≡ isSupported l s
   unfolding isSupported
   supported-voted x e h = h ∙ (λ k. not ((sym e ∙ none) k) || someNode l s supports)
-
--- ---- the places for certificates, looked at one by one
-
-abbrev pub namedTo : Ledger → ℕ → ℕ → Bool
-namedTo l s n = someTo n (λ i. not (none (keptAt l s i .block)))
-
-module _ (l : Ledger) (s : ℕ) where
-  pub named-start : false ≡ namedTo l s 0
-  named-start = sym (some-none (λ i. not (none (keptAt l s i .block))))
-
-  pub named-more : (n b : ℕ) (x : Bool) → b ≡ keptAt l s n .block → x ≡ namedTo l s n → (x || not (eqb b 0)) ≡ namedTo l s (n + 1)
-  named-more n b x e h = (λ k. h k || not (none (e k))) ∙ sym (some-more n (λ i. not (none (keptAt l s i .block))))
-
-  pub named-end : (n : ℕ) (x : Bool) → n ≡ length (certificatesAt l s) → x ≡ namedTo l s n → x ≡ namesKept l s
-  unfolding namesKept
-  named-end n x e h = h ∙ ap (λ (k : ℕ). namedTo l s k) e
 
 -- ---- no rule applies in a dormant slot
 

@@ -1,6 +1,7 @@
 -- Slots in which no rule applies, as far as a look tells that weighs nothing.
 use mathlib.Core.Bool.{Bool, not, _&&_, _||_}
-use Prim.Native.Nat.{ℕ, _-_}
+use mathlib.Core.List.{List}
+use Prim.Native.Nat.{ℕ, _+_, _-_, _*_}
 use lib.ListN.{length}
 use lib.Dec.{eqb}
 use Rattle.rulebook.specs.declared.Cell.{Cell}
@@ -9,6 +10,7 @@ use Rattle.rulebook.specs.Weights.{isFirst, reaches}
 use Rattle.rulebook.specs.Ledger.{Ledger, none, rowAt, firstBlock, cellAt, ownCell, noInitial, isArmed, certificatesAt, keptAt}
 use Rattle.rulebook.specs.Cards.{leader, most}
 use Rattle.rulebook.specs.WellFormed.{eachKept, keptBlank}
+use Rattle.record.specs.Layout.{wordAt}
 
 -- What is kept of some node in slot s passes the test.
 unfoldable pub someNode : Ledger → ℕ → (Cell → Bool) → Bool
@@ -28,9 +30,14 @@ isSupported l s = not (eachKept (λ i q. keptBlank q) 0 (certificatesAt l s)) ||
 unfoldable pub seeksParent : Ledger → ℕ → Bool
 seeksParent l s = (isFirst s && not (isArmed l s)) && (eqb s 1 || isSupported l (s - 1))
 
--- Nothing for B to E and for G: no own initial vote, which C, D and E ask for, and no kept block, which B asks for and G walks by.
+-- Nothing for B to E and for G: no own initial vote, which C, D and E ask for, and nothing in the first place for a kept block, which is
+-- filled before the others: B asks for a kept block, and G walks by one.
 unfoldable pub isBare : Ledger → ℕ → Bool
 isBare l s = noInitial (ownCell l s) && none (firstBlock l s .number)
+
+-- One of the first n words is not 0, from a word on and so many apart.
+unfoldable pub namesFrom : List ℕ → ℕ → ℕ → ℕ → Bool
+namesFrom ws from apart n = someTo n (λ i. not (none (wordAt ws (from + apart * i))))
 
 -- Some place for certificates of slot s names a block.
 unfoldable pub namesKept : Ledger → ℕ → Bool

@@ -1,23 +1,33 @@
 // Whether a look that weighs nothing shows that no rule applies in a slot.
 ghost use mathlib.Core.Path.{_≡_};
+ghost use Prim.Native.Nat.{_+_, _*_, _≤_};
+ghost use lib.ListN.{length};
+ghost use Rattle.rulebook.specs.Ledger.{mostCertificates};
 ghost use Rattle.record.specs.Layout.{InSlot, ledgerOf};
 ghost use Rattle.pool.specs.Weighing.{Carded};
-ghost use Rattle.dormancy.specs.Dormant.{someNode, supports, isSupported, seeksParent, isBare, namesKept, leadsAnew, isDormant};
-use kept_certificates::block_at;
+ghost use Rattle.dormancy.specs.Dormant.{someNode, supports, isSupported, seeksParent, isBare, namesFrom, namesKept, leadsAnew, isDormant};
 use kept_certificates::nothing_kept;
 use parents::leader_held;
 use record::MOST_CERTIFICATES;
 use record::count;
 use record::final_block;
+use record::kept_start;
 use record::load_block;
 use record::load_card;
 use record::load_cell;
+use record::mask_words;
 use record::own_cell;
+use record::places_in;
 use rulebook::Cell;
 use rulebook::Node;
 use rulebook::Slot;
 use rules::may_arm;
 use voter::no_initial;
+
+// The words of a place for certificates where masks have one word, and where they have 32.
+const SMALL_WORDS: usize = 3;
+
+const LARGE_WORDS: usize = 65;
 
 // Whether a cell has a vote that helps to make a parent ready: every vote but a final.
 fn supports(c: Cell) -> bool
@@ -82,17 +92,44 @@ fn is_bare(rec: &[u64], s: Slot) -> bool
     no_initial(own_cell(rec, s)) & (b.number == 0)
 }
 
-// Whether a kept certificate of a slot names a block: all places are asked, with no branch between them.
+// Whether one of a slot's places for certificates names a block, where masks have one word; from is the first place's word. All are asked,
+// with no branch between them.
+fn few_name(rec: &[u64], from: usize) -> bool
+    requires { ⌜ from + mostCertificates * 3 ≤ length (now rec) ⌝ }
+    ensures { λ r. ⌜ r ≡ namesFrom (now (rec .entry)) from 3 mostCertificates ⌝ }
+{
+    let mut named = false;
+    for n in 0..MOST_CERTIFICATES {
+        let b = rec[from + SMALL_WORDS * n];
+        named = named | (b != 0);
+    }
+    named
+}
+
+// Likewise where masks have 32 words, up to the first that names one.
+fn many_name(rec: &[u64], from: usize) -> bool
+    requires { ⌜ from + mostCertificates * 65 ≤ length (now rec) ⌝ }
+    ensures { λ r. ⌜ r ≡ namesFrom (now (rec .entry)) from 65 mostCertificates ⌝ }
+{
+    for n in 0..MOST_CERTIFICATES {
+        if rec[from + LARGE_WORDS * n] != 0 {
+            return true;
+        }
+    }
+    false
+}
+
+// Whether a kept certificate of a slot names a block. In small records and in large ones it is known how far the places are apart, so that
+// they are read without a loop.
 fn names_kept(rec: &[u64], s: Slot) -> bool
     requires { ⌜ InSlot (now rec) (s .0) ⌝ }
     ensures { λ r. ⌜ r ≡ namesKept (ledgerOf (now (rec .entry))) (s .0) ⌝ }
 {
-    let mut named = false;
-    for n in 0..MOST_CERTIFICATES {
-        let b = block_at(rec, s, n);
-        named = named | (b != 0);
+    let from = kept_start(rec, s, 0);
+    if mask_words(places_in(rec)) == 1 {
+        return few_name(rec, from);
     }
-    named
+    many_name(rec, from)
 }
 
 // Whether votes may make another block final than the slot's final one: the leader is another and reaches 60.

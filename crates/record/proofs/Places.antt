@@ -166,6 +166,13 @@ long-same ws ws' e h = e ∙ h ∙ ap recordWords (sym (same-places ws ws' e))
 pub words-in : (ws : List ℕ) → Long ws → length ws ≡ bareWords (maskWords (placesIn ws)) + placeWords * placesIn ws
 words-in ws e = e ∙ record-long (placesIn ws)
 
+-- It has the words of no place at least, w being the words of a mask.
+pub long-some : (ws : List ℕ) (w : ℕ) → w ≡ masksOf (length ws) → Long ws → bareWords w ≤ length ws
+long-some ws w e h =
+    let n = words-in ws h in
+    by-size (placesIn ws) (λ l m. omega (arith, n, e, masks-small (length ws) (omega (arith, n))))
+    (λ l m. omega (arith, n, e, masks-large (length ws) (omega (arith, n))))
+
 -- ---- as code computes it: no sum and no product wraps, since all lie within the words
 
 module _ (ws : List ℕ) (p : ℕ) (e : p ≡ places (ledgerOf ws)) where

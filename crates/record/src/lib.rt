@@ -129,6 +129,15 @@ pub fn places_in(rec: &[u64]) -> usize
     (rec.len() - bare) / PLACE_WORDS
 }
 
+// Likewise of words that spell a ledger: they are not too few, which need not be asked at every row.
+fn places_of(rec: &[u64]) -> usize
+    requires { ⌜ Long (now rec) ⌝ }
+    ensures { λ r. ⌜ r ≡ places (ledgerOf (now (rec .entry))) ⌝ }
+{
+    let bare = BARE_WORDS + MASK_WORDS * masks_of(rec.len());
+    (rec.len() - bare) / PLACE_WORDS
+}
+
 // Whether the words spell a ledger: they are as many as their places ask for.
 pub fn is_long(rec: &[u64]) -> bool
     ensures { λ r. ⌜ r ≡ isSpelled (now (rec .entry)) ⌝ }
@@ -149,7 +158,7 @@ fn row_start(rec: &[u64], s: Slot) -> usize
     requires { ⌜ InSlot (now rec) (s .0) ⌝ }
     ensures { λ r. ⌜ RowAt (now (rec .entry)) (s .0) r ⌝ }
 {
-    let p = places_in(rec);
+    let p = places_of(rec);
     STAKE_START + p + (row_head(p) + CELL_WORDS * p) * s.0
 }
 
@@ -158,7 +167,7 @@ fn cell_start(rec: &[u64], s: Slot, n: Node) -> usize
     requires { ⌜ Placed (now rec) (s .0) (n .0) ⌝ }
     ensures { λ r. ⌜ CellAt (now (rec .entry)) (s .0) (n .0) r ⌝ }
 {
-    row_start(rec, s) + row_head(places_in(rec)) + CELL_WORDS * n.0
+    row_start(rec, s) + row_head(places_of(rec)) + CELL_WORDS * n.0
 }
 
 // What the pool keeps of a node in a slot.
@@ -385,7 +394,7 @@ pub fn kept_start(rec: &[u64], s: Slot, n: usize) -> usize
     requires { ⌜ InKept (now rec) (s .0) n ⌝ }
     ensures { λ r. ⌜ KeptAt (now (rec .entry)) (s .0) n r ⌝ }
 {
-    row_start(rec, s) + KEPT_AT + (1 + 2 * mask_words(places_in(rec))) * n
+    row_start(rec, s) + KEPT_AT + (1 + 2 * mask_words(places_of(rec))) * n
 }
 
 // The word that marks a window as armed, whatever stands in it.

@@ -254,6 +254,10 @@ pub short-unsound : (ws : List ℕ) → isSpelled ws ≡ false → false ≡ sou
 unfolding soundWords
 short-unsound ws e = rw e
 
+given-and : (a b : Bool) → given a false (λ _. b) ≡ (a && b)
+given-and true b = given-on true false _ refl
+given-and false b = given-off false false _ refl
+
 module _ (ws : List ℕ) (spelled : isSpelled ws ≡ true) where
   pub test-whole : soundWords ws ≡ wellFormed (ledgerOf ws)
   unfolding soundWords
@@ -263,28 +267,24 @@ module _ (ws : List ℕ) (spelled : isSpelled ws ≡ true) where
   unfolding wellFormed
   head-unsound h = sym (test-whole ∙ given-off (headFits (ledgerOf ws)) false _ h)
 
-  pub blank-unsound : headFits (ledgerOf ws) ≡ true → rowBlank (ledgerOf ws) ≡ false → false ≡ soundWords ws
-  unfolding wellFormed
-  blank-unsound h b = sym (test-whole ∙ given-on (headFits (ledgerOf ws)) false _ h ∙ given-off (rowBlank (ledgerOf ws)) false _ b)
-
   -- The rows are looked at only where the head is in range.
   pub rows-headed : headFits (ledgerOf ws) ≡ true → Headed ws
   rows-headed h =
       let f = head-facts (ledgerOf ws) h in
       record { long = spelled-long ws spelled; table = head-tabled (ledgerOf ws) f; few = f .few; full = f .room ∙ placed-each (ledgerOf ws .count) (f .few) }
 
-  pub rows-unsound : headFits (ledgerOf ws) ≡ true → rowBlank (ledgerOf ws) ≡ true → standing (ledgerOf ws) ≡ false → false ≡ soundWords ws
+  -- Where the head is in range, row 0, the other rows and what own fallbacks lean on decide.
+  rows-decide : headFits (ledgerOf ws) ≡ true → soundWords ws ≡ ((rowBlank (ledgerOf ws) && standing (ledgerOf ws)) && owned (ledgerOf ws))
   unfolding wellFormed
-  rows-unsound h b r =
-      sym (test-whole ∙ given-on (headFits (ledgerOf ws)) false _ h ∙ given-on (rowBlank (ledgerOf ws)) false _ b
-      ∙ rows-split (ledgerOf ws) ∙ ap (λ (t : Bool). t && owned (ledgerOf ws)) r)
+  rows-decide h =
+      test-whole ∙ given-on (headFits (ledgerOf ws)) false _ h ∙ given-and (rowBlank (ledgerOf ws)) _ ∙ ap (λ (t : Bool). rowBlank (ledgerOf ws) && t) (rows-split (ledgerOf ws))
+      ∙ and-more (rowBlank (ledgerOf ws)) (standing (ledgerOf ws)) (owned (ledgerOf ws))
 
-  pub owns-decide : (r : Bool) → headFits (ledgerOf ws) ≡ true → rowBlank (ledgerOf ws) ≡ true → standing (ledgerOf ws) ≡ true
-      → r ≡ owned (ledgerOf ws) → r ≡ soundWords ws
-  unfolding wellFormed
-  owns-decide r h b f d =
-      d ∙ sym (test-whole ∙ given-on (headFits (ledgerOf ws)) false _ h ∙ given-on (rowBlank (ledgerOf ws)) false _ b
-      ∙ rows-split (ledgerOf ws) ∙ ap (λ (t : Bool). t && owned (ledgerOf ws)) f)
+  pub rows-unsound : headFits (ledgerOf ws) ≡ true → (rowBlank (ledgerOf ws) && standing (ledgerOf ws)) ≡ false → false ≡ soundWords ws
+  rows-unsound h r = sym (rows-decide h ∙ ap (λ (t : Bool). t && owned (ledgerOf ws)) r)
+
+  pub owns-decide : (r : Bool) → headFits (ledgerOf ws) ≡ true → (rowBlank (ledgerOf ws) && standing (ledgerOf ws)) ≡ true → r ≡ owned (ledgerOf ws) → r ≡ soundWords ws
+  owns-decide r h f d = d ∙ sym (rows-decide h ∙ ap (λ (t : Bool). t && owned (ledgerOf ws)) f)
 
 -- ---- sound words
 

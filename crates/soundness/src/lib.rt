@@ -11,10 +11,10 @@ ghost use Rattle.rulebook.specs.Inputs.{badParent};
 ghost use Rattle.rulebook.specs.WellFormed.{flag, keptFits, blocksFit, backs, ownFits, blockBlank, rowBlank, headFits};
 ghost use Rattle.record.specs.Layout.{Long, InSlot, InBlocks, ledgerOf};
 ghost use Rattle.record.specs.BlockPlaces.{behind};
+ghost use Rattle.blank_rows.specs.Blank.{nothingIn};
 ghost use Rattle.kept_audit.specs.Judging.{Judging};
 ghost use Rattle.pool.specs.Weighing.{Carded};
-ghost use Rattle.soundness.specs.Sound.{rowStands, soundWords, Headed, Standing, Backing};
-use audit::card_blank;
+ghost use Rattle.soundness.specs.Sound.{rowStands, rowPasses, soundWords, Headed, InRows, Standing, Backing};
 use audit::in_order;
 use audit::votes_fit;
 use blank_rows::nothing_in;
@@ -138,36 +138,41 @@ fn blocks_blank(rec: &[u64], s: Slot) -> bool
     ok
 }
 
-// Row 0 is unused.
-fn row_blank(rec: &[u64]) -> bool
-    requires { ⌜ Long (now rec) ⌝ }
-    ensures { λ r. ⌜ r ≡ rowBlank (ledgerOf (now (rec .entry))) ⌝ }
-{
-    nothing_in(rec, Slot(0))
-}
-
-// The row of one of the slots 1 to 16: one with nothing in it stands. Most rows with something in them have something on the card, so
-// that all their words are looked at only where the card is blank.
-fn row_stands(rec: &[u64], s: Slot) -> bool
-    requires { ⌜ Judging (now rec) (s .0) ⌝ }
-    ensures { λ r. ⌜ r ≡ rowStands (ledgerOf (now (rec .entry))) (s .0) ⌝ }
+// Whether a row has nothing in it. Most with something in them have a leader or a skip vote on the card, so that all words are looked at
+// only where there is neither.
+fn row_blank(rec: &[u64], s: Slot) -> bool
+    requires { ⌜ InSlot (now rec) (s .0) ⌝ }
+    ensures { λ r. ⌜ r ≡ nothingIn (ledgerOf (now (rec .entry))) (s .0) ⌝ }
 {
     let t = load_card(rec, s);
-    if card_blank(t) {
-        if nothing_in(rec, s) {
-            return true;
-        }
+    let skips = t.skipcert;
+    if (t.leader != 0) | (skips.0 != 0) {
+        return false;
+    }
+    nothing_in(rec, s)
+}
+
+// One row: one with nothing in it passes, and row 0, which is unused, only so.
+fn row_passes(rec: &[u64], s: Slot) -> bool
+    requires { ⌜ InRows (now rec) (s .0) ⌝ }
+    ensures { λ r. ⌜ r ≡ rowPasses (ledgerOf (now (rec .entry))) (s .0) ⌝ }
+{
+    if row_blank(rec, s) {
+        return true;
+    }
+    if s.0 == 0 {
+        return false;
     }
     row_fits(rec, s)
 }
 
-// The rows of slots 1 to 16, each by itself.
+// Row 0 and the rows of slots 1 to 16, each by itself.
 fn rows_fit(rec: &[u64]) -> bool
     requires { ⌜ Headed (now rec) ⌝ }
-    ensures { λ r. ⌜ r ≡ allTo lastSlot (λ i. rowStands (ledgerOf (now (rec .entry))) (suc i)) ⌝ }
+    ensures { λ r. ⌜ r ≡ (rowBlank (ledgerOf (now (rec .entry))) && allTo lastSlot (λ i. rowStands (ledgerOf (now (rec .entry))) (suc i))) ⌝ }
 {
-    for i in 0..LAST_SLOT {
-        if !row_stands(rec, Slot(i + 1)) {
+    for i in 0..LAST_SLOT + 1 {
+        if !row_passes(rec, Slot(i)) {
             return false;
         }
     }
@@ -277,9 +282,6 @@ pub fn sound(rec: &[u64]) -> bool
         return false;
     }
     if !head_fits(rec) {
-        return false;
-    }
-    if !row_blank(rec) {
         return false;
     }
     if !rows_fit(rec) {

@@ -13,33 +13,37 @@ load-cell-requires c κs =
 
 stake-requires : tie.Need-stake-requires
 stake-requires c κs =
-    let a = c .before .before .pre in record { long = a .weighing .long; node = omega (arith, a .node, a .weighing .table .few) }
+    let a = c .before .before .before .before .before .before .before .pre in record { long = a .weighing .long; node = omega (arith, a .node, a .weighing .table .few) }
 
 with-plain-requires : tie.Need-with-plain-requires
 with-plain-requires c κs =
-    (rw (c .before .before .before .before .before .stake .ensures) (c .before .before .before .before .before .before .before .before .pre .room), words-plain (c .before .before .before .before .before .before .load-cell .result) (c .before .before .before .if1 .taken) (c .if2 .taken))
+    (rw (c .stake .ensures) (c .before .before .before .before .before .before .before .before .pre .room), words-plain (c .before .before .before .before .before .before .load-cell .result) (c .before .before .before .before .if1 .taken) (c .before .if2 .taken))
 
 returns : tie.Need-returns
 returns c =
     let a = c .before .before .before .before .before .before .before .before .before .args in
-    c .with-plain .ensures ∙ (λ i. withCell (a .sums) (c .before .before .before .before .before .before .before .load-cell .ensures i) (c .before .before .before .before .before .before .stake .ensures i) (a .b))
+    c .with-plain .ensures ∙ (λ i. withCell (a .sums) (c .before .before .before .before .before .before .before .load-cell .ensures i) (c .before .stake .ensures i) (a .b))
 
 cell-blank-requires : tie.Need-cell-blank-requires
 cell-blank-requires c κs = search needs
 
 returns-2 : tie.Need-returns-2
 returns-2 c =
-    let a = c .before .before .before .before .before .before .before .args in
-    blank-adds (a .sums) (c .before .before .before .before .before .load-cell .result) _ _ (a .b) (c .before .before .before .before .before .load-cell .ensures) (sym (c .before .cell-blank .ensures) ∙ c .if3 .taken)
+    let a = c .before .before .before .before .before .before .args in
+    blank-adds (a .sums) (c .before .before .before .before .load-cell .result) _ _ (a .b) (c .before .before .before .before .load-cell .ensures) (sym (c .before .cell-blank .ensures) ∙ c .if3 .taken)
+
+stake-requires-2 : tie.Need-stake-requires-2
+stake-requires-2 c κs =
+    let a = c .before .before .before .before .before .before .pre in record { long = a .weighing .long; node = omega (arith, a .node, a .weighing .table .few) }
 
 with-cell-requires : tie.Need-with-cell-requires
 with-cell-requires c κs =
-    rw (c .before .before .before .before .stake .ensures) (c .before .before .before .before .before .before .before .pre .room)
+    rw (c .stake2 .ensures) (c .before .before .before .before .before .before .before .pre .room)
 
 returns-3 : tie.Need-returns-3
 returns-3 c =
     let a = c .before .before .before .before .before .before .before .before .args in
-    c .with-cell .ensures ∙ (λ i. withCell (a .sums) (c .before .before .before .before .before .before .load-cell .ensures i) (c .before .before .before .before .before .stake .ensures i) (a .b))
+    c .with-cell .ensures ∙ (λ i. withCell (a .sums) (c .before .before .before .before .before .before .load-cell .ensures i) (c .before .stake2 .ensures i) (a .b))
 
 pub with-node-spec : {M : Type 1} → statement M
 with-node-spec =
@@ -51,5 +55,6 @@ with-node-spec =
     returns
     cell-blank-requires
     returns-2
+    stake-requires-2
     with-cell-requires
     returns-3)

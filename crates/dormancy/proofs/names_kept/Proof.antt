@@ -1,49 +1,44 @@
--- The loop has joined the tests of the places behind it.
-use mathlib.Core.Path.{_≡_}
-use Prim.Native.Nat.{_-_, _≤_}
+-- The places lie within the words, three or 65 words each.
+use mathlib.Core.Path.{_∙_}
 use native.Mathlib.Omega.{arith}
 use borrow.Author.Needs.{needs}
-use Rattle.record.specs.Layout.{ledgerOf}
-use Rattle.record.proofs.Reading.{ledger-shaped}
-use Rattle.dormancy.proofs.DormantLaws.{namedTo, named-start, named-more, named-end}
+use Rattle.dormancy.proofs.NameLaws.{large-mask, places-inside, places-name}
 use Rattle.dormancy.proofs.names_kept.Statement.{statement}
 use Rattle.dormancy.proofs.names_kept.Tie as tie
 
-abbrev Inv-loop : tie.InvT-loop
-Inv-loop rec s named₀ n₀ named n =
-    (n ≤ 13) × (named ≡ namedTo (ledgerOf rec) (s .0) n)
+kept-start-requires : tie.Need-kept-start-requires
+kept-start-requires c κs =
+    record { long = c .before .pre .long; slot = c .before .pre .slot; place = omega arith }
 
-abbrev μ-loop : tie.MeasureT-loop
-μ-loop rec s named₀ n₀ named n =
-    13 - n
+places-in-requires : tie.Need-places-in-requires
+places-in-requires c κs = search needs
 
-loop-holds : tie.Need-loop-holds Inv-loop μ-loop
-loop-holds c =
-    let a = c .before .args in (omega arith, named-start (ledgerOf (a .rec .now)) (a .s .0))
+mask-words-requires : tie.Need-mask-words-requires
+mask-words-requires c κs = search needs
 
-block-at-requires : tie.Need-block-at-requires Inv-loop μ-loop
-block-at-requires c κs =
-    record { long = c .before .before .before .pre .long; slot = c .before .before .before .pre .slot; place = omega arith }
+few-name-requires : tie.Need-few-name-requires
+few-name-requires c κs =
+    places-inside (c .before .before .before .before .before .args .rec .now) (c .before .before .before .before .before .args .s .0) (c .before .before .before .kept-start .result) (c .before .before .places-in .result) (c .before .mask-words .result) 3 (c .before .before .before .before .before .pre)
+    (c .before .before .before .kept-start .ensures) (c .before .before .places-in .ensures) (c .before .mask-words .ensures) (omega (arith, c .if1 .taken))
 
-add-n : tie.Need-add-n Inv-loop μ-loop
-add-n c = search needs
-
-loop-less : tie.Need-loop-less Inv-loop μ-loop
-loop-less c = search needs
-
-loop-again : tie.Need-loop-again Inv-loop μ-loop
-loop-again c =
-    let a = c .before .before .before .before .args in
-    let k = c .before .before .loop in
-    (omega arith, named-more (ledgerOf (a .rec .now)) (a .s .0) (k .n) (c .block-at .result) (k .named) (c .block-at .ensures) (k .inv .1))
-
-returns : tie.Need-returns Inv-loop μ-loop
+returns : tie.Need-returns
 returns c =
-    let a = c .before .before .before in
-    let ws = a .args .rec .now in
-    named-end (ledgerOf ws) (a .args .s .0) (c .before .loop .n) _ (omega (arith, ledger-shaped ws .certificates (a .args .s .0) (a .pre .slot), c .before .loop .inv .0)) (c .before .loop .inv .1)
+    c .few-name .ensures
+    ∙ places-name (c .before .before .before .before .before .before .args .rec .now) (c .before .before .before .before .before .before .args .s .0) (c .before .before .before .before .kept-start .result) (c .before .before .before .places-in .result) (c .before .before .mask-words .result) 3 (c .before .before .before .before .before .before .pre)
+    (c .before .before .before .before .kept-start .ensures) (c .before .before .before .places-in .ensures) (c .before .before .mask-words .ensures) (omega (arith, c .before .if1 .taken))
+
+many-name-requires : tie.Need-many-name-requires
+many-name-requires c κs =
+    places-inside (c .before .before .before .before .before .args .rec .now) (c .before .before .before .before .before .args .s .0) (c .before .before .before .kept-start .result) (c .before .before .places-in .result) (c .before .mask-words .result) 65 (c .before .before .before .before .before .pre)
+    (c .before .before .before .kept-start .ensures) (c .before .before .places-in .ensures) (c .before .mask-words .ensures) (omega (arith, large-mask (c .before .before .places-in .result) (c .before .mask-words .result) (c .before .mask-words .ensures) (c .if1 .left)))
+
+returns-2 : tie.Need-returns-2
+returns-2 c =
+    c .many-name .ensures
+    ∙ places-name (c .before .before .before .before .before .before .args .rec .now) (c .before .before .before .before .before .before .args .s .0) (c .before .before .before .before .kept-start .result) (c .before .before .before .places-in .result) (c .before .before .mask-words .result) 65 (c .before .before .before .before .before .before .pre)
+    (c .before .before .before .before .kept-start .ensures) (c .before .before .before .places-in .ensures) (c .before .before .mask-words .ensures) (omega (arith, large-mask (c .before .before .before .places-in .result) (c .before .before .mask-words .result) (c .before .before .mask-words .ensures) (c .before .if1 .left)))
 
 pub names-kept-spec : {M : Type 1} → statement M
 names-kept-spec =
     tie.close
-    (tie.spec Inv-loop μ-loop loop-holds block-at-requires add-n loop-less loop-again returns)
+    (tie.spec kept-start-requires places-in-requires mask-words-requires few-name-requires returns many-name-requires returns-2)

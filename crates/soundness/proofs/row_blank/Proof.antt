@@ -1,18 +1,24 @@
--- Nothing stands in row 0.
-use mathlib.Core.Path.{_∙_}
-use native.Mathlib.Omega.{arith}
+-- A leader or a skip vote is something; else all words are looked at.
+use borrow.Author.Needs.{needs}
 use Rattle.record.specs.Layout.{ledgerOf}
-use Rattle.soundness.proofs.Blank.{blank-first}
+use Rattle.soundness.proofs.Blank.{voted-filled}
 use Rattle.soundness.proofs.row_blank.Statement.{statement}
 use Rattle.soundness.proofs.row_blank.Tie as tie
 
-nothing-in-requires : tie.Need-nothing-in-requires
-nothing-in-requires c κs =
-    record { long = c .before .pre; slot = omega arith }
+load-card-requires : tie.Need-load-card-requires
+load-card-requires c κs = search needs
 
 returns : tie.Need-returns
 returns c =
-    c .nothing-in .ensures ∙ blank-first (ledgerOf (c .before .before .args .rec .now))
+    let k = c .before .before .before .before in
+    let a = k .before .before .args in
+    voted-filled (ledgerOf (a .rec .now)) (a .s .0) (k .load-card .result) (k .load-card .ensures) (c .if1 .taken)
+
+nothing-in-requires : tie.Need-nothing-in-requires
+nothing-in-requires c κs = search needs
+
+returns-2 : tie.Need-returns-2
+returns-2 c = search needs
 
 pub row-blank-spec : {M : Type 1} → statement M
-row-blank-spec = tie.close (tie.spec nothing-in-requires returns)
+row-blank-spec = tie.close (tie.spec load-card-requires returns nothing-in-requires returns-2)
