@@ -1,2 +1,3 @@
 -- What the contracts of the look at a slot cite beside the rule book.
 pub mod Dormant
+pub mod CornersOfDormancy
