@@ -116,10 +116,10 @@ fn with_plain(sums: Sums, c: Cell, w: Weight, b: u64) -> Sums
     let skipcert = sums.skipcert;
     let any = sums.any;
     let lead = sums.lead;
-    let second = in_order(c.fallback1, c.fallback2);
     let more_finals = added(finals, c.finalvote != 0, w);
     let more_any = Weight(any.0 + w.0);
     let more_lead = added(lead, c.notar == b, w);
+    let second = in_order(c.fallback1, c.fallback2);
     Sums {
         fits: sums.fits & ((c.finalvote <= 1) & second),
         skip,
