@@ -1,7 +1,7 @@
-// Whether some block of a slot leads a claimed leader. The votes for other blocks are summed in groups first, and only where a group
-// has enough are blocks weighed, each once.
+// Whether some block of a slot leads a claimed leader. The votes for other blocks are summed in groups first; where a group has enough
+// they are listed by block; and only where that shows nothing are blocks weighed, each once.
 ghost use mathlib.Core.Path.{_≡_};
-ghost use mathlib.Core.Bool.{false};
+ghost use mathlib.Core.Bool.{true, false};
 ghost use Prim.Native.Nat.{_≤_, _^_};
 ghost use Rattle.rulebook.specs.Cards.{leads};
 ghost use Rattle.record.specs.Layout.{ledgerOf};
@@ -18,6 +18,8 @@ use rulebook::Slot;
 use rulebook::Weight;
 use rulebook::Who;
 use tally::leads;
+use vote_orders::shows_unled;
+use vote_sorting::list_votes;
 
 // How many groups there are in rings of at most so many nodes.
 const FEW_GROUPS: usize = 64;
@@ -83,11 +85,12 @@ fn group_leads(rec: &[u64], s: Slot, b: u64, v: Weight, groups: &mut [u64]) -> b
         if (m != 0) & (m != b) {
             let w = stake(rec, Node(n));
             let g = (m & (size - 1)) as usize;
-            let sum = groups[g] + w.0;
-            if is_ahead(m, Weight(sum), b, v) {
+            let before = groups[g];
+            let sum = Weight(before + w.0);
+            if is_ahead(m, sum, b, v) {
                 return true;
             }
-            groups[g] = sum;
+            groups[g] = sum.0;
         }
     }
     false
@@ -106,12 +109,26 @@ fn may_be_led(rec: &[u64], s: Slot, b: u64, v: Weight) -> bool
     group_leads(rec, s, b, v, &mut many)
 }
 
-// Whether some block of the slot leads b at weight v. Blocks are weighed only where a group has enough.
+// Whether the slot's notar votes, listed by block, show that no block leads b at weight v.
+fn is_shown_unled(rec: &[u64], s: Slot, b: u64, v: Weight, any: Weight) -> bool
+    requires { ⌜ Claimed (now rec) (s .0) b (v .0) (any .0) ⌝ }
+    ensures { λ r. ⌜ (r ≡ true → hasRival (ledgerOf (now (rec .entry))) (s .0) b (v .0) (ledgerOf (now (rec .entry)) .count) ≡ false) ⌝ }
+{
+    let mut order = [0u64; MOST_NODES];
+    let k = list_votes(rec, s, &mut order);
+    shows_unled(rec, s, b, v, any, &order[..k])
+}
+
+// Whether some block of the slot leads b at weight v. Only where a group has enough are the votes listed by block, which always shows
+// that none leads where none does; else blocks are weighed.
 pub fn is_led(rec: &[u64], s: Slot, b: u64, v: Weight, any: Weight) -> bool
     requires { ⌜ Claimed (now rec) (s .0) b (v .0) (any .0) ⌝ }
     ensures { λ r. ⌜ r ≡ hasRival (ledgerOf (now (rec .entry))) (s .0) b (v .0) (ledgerOf (now (rec .entry)) .count) ⌝ }
 {
     if !may_be_led(rec, s, b, v) {
+        return false;
+    }
+    if is_shown_unled(rec, s, b, v, any) {
         return false;
     }
     has_rival(rec, s, b, v, any)
