@@ -2,10 +2,8 @@
 -- weighs as much as all notar votes. Assumes nothing.
 use mathlib.Core.Path.{_≡_, refl, sym, ap, _∙_}
 use mathlib.Core.Bool.{Bool, true, false, not, _&&_, _||_}
-use mathlib.Core.List.{List}
 use Prim.Native.Nat.{ℕ, _+_, _-_, _≤_, _<_}
 use native.Mathlib.Omega.{arith}
-use lib.ListN.{getD}
 use lib.Dec.{eqb, leb, ltb}
 use borrow.Author.Tests.{eq-eqb, ne-eqb, eqb-true, eqb-false, not-true, ltb-true, leb-true}
 use Rattle.rulebook.specs.declared.Who.the-variants as who
@@ -14,10 +12,10 @@ use Rattle.rulebook.specs.Weights.{weight, stakeIn}
 use Rattle.rulebook.specs.Ledger.{Ledger, none, cellAt}
 use Rattle.rulebook.specs.Pool.{counts, weigh}
 use Rattle.rulebook.specs.Cards.{leads}
-use Rattle.rule_laws.proofs.ToolLaws.{and-both, or-cases, by-test, true-not-false, choose-on, choose-off, part-on, part-off, sum-none, sum-more, sum-same, sum-add, sum-const}
+use Rattle.rule_laws.proofs.ToolLaws.{and-both, or-cases, by-test, true-not-false, choose-on, choose-off, part-on, part-off, sum-none, sum-more, sum-same, sum-add, sum-const, some-at}
 use Rattle.rule_laws.proofs.WeightLaws.{weight-none, weight-mono, weight-both}
 use Rattle.recounting.proofs.Leading.{leads-on, leads-off}
-use Rattle.vote_orders.specs.Ordering.{Unled, comesNext, nextRun}
+use Rattle.vote_orders.specs.Ordering.{Unled, isLed, comesNext, nextRun}
 use Rattle.vote_orders.proofs.Distinct.{Distinct, distinct-sum}
 
 -- what weighs no more than what does not lead does not lead
@@ -28,6 +26,9 @@ leads-less m w x b v h e =
     (λ i d. leads-on m w b v t (λ j. absurd (omega arith)) (λ j k. absurd (omega arith))))
     (λ t. t)
 
+leads-more : (m w x b v : ℕ) → w ≤ x → leads m w b v ≡ true → leads m x b v ≡ true
+leads-more m w x b v h e = by-test (leads m x b v) (λ t. t) (λ t. true-not-false (leads m w b v) e (leads-less m w x b v h t))
+
 leads-nothing : (m w b v : ℕ) → w ≡ 0 → 1 ≤ v → leads m w b v ≡ false
 leads-nothing m w b v e h =
     by-test (leads m w b v) (λ t. leads-on m w b v t (λ j. absurd (omega arith)) (λ j k. absurd (omega arith))) (λ t. t)
@@ -36,11 +37,9 @@ part-split : (b : Bool) (w : ℕ) → part b w + part (not b) w ≡ w
 part-split true w = omega (arith, part-on true w refl, part-off false w refl)
 part-split false w = omega (arith, part-on true w refl, part-off false w refl)
 
-module _ (l : Ledger) (s b v any : ℕ) (xs : List ℕ) where
-  -- The node at a place of the list, its block, its stake.
-  abbrev nodeAt : ℕ → ℕ
-  nodeAt j = getD xs j 0
-
+-- The node at each place of the list.
+module _ (l : Ledger) (s b v any : ℕ) (nodeAt : ℕ → ℕ) where
+  -- A node's block; the block and the stake at a place.
   abbrev voteOf : ℕ → ℕ
   voteOf n = cellAt l s n .notar
 
@@ -83,7 +82,7 @@ module _ (l : Ledger) (s b v any : ℕ) (xs : List ℕ) where
   -- ---- one place further
 
   module _ {i last from run rest : ℕ} (k : Listed i last from run rest) (n m w next : ℕ) (at-is : n ≡ nodeAt i) (vote : m ≡ voteOf n) (stake : w ≡ stakeIn (l .stakes) n)
-      (below : n < l .count) (follows : comesNext last from m n ≡ true) (room : w ≤ rest) (runs : next ≡ nextRun last run m w) (off : leads m next b v ≡ false) where
+      (below : n < l .count) (follows : comesNext last from m n ≡ true) (room : w ≤ rest) (runs : next ≡ nextRun last run m w) where
     here-block : blockAt i ≡ m
     here-block = ap voteOf (sym at-is) ∙ sym vote
 
@@ -131,18 +130,39 @@ module _ (l : Ledger) (s b v any : ℕ) (xs : List ℕ) where
     run-same : (x : ℕ) → eqb m x ≡ false → runTo x (i + 1) ≡ runTo x i
     run-same x t = omega (arith, run-more x false t, part-off false w refl)
 
-    pub listed-more : Listed (i + 1) m (n + 1) next (rest - w)
-    listed-more =
+    next-inside : (j : ℕ) → j < i + 1 → nodeAt j < l .count
+    next-inside j h = by-test (eqb j i) (λ t. omega (arith, ap nodeAt (eqb-true j i t))) (λ t. let z = eqb-false j i t in k .inside j (omega arith))
+
+    next-apart : Distinct (i + 1) nodeAt
+    next-apart j x a c q =
+        by-test (eqb x i)
+        (λ t. let y : nodeAt j ≡ n = q ∙ ap nodeAt (eqb-true x i t) ∙ sym at-is in
+        let e = eqb-true x i t in omega (arith, prior-node j (omega arith) (ap voteOf y ∙ sym vote)))
+        (λ t. let z = eqb-false x i t in k .apart j x a (omega arith) q)
+
+    -- a run is at most its block's weight
+    run-within : next ≤ weigh l s (who.Notar m)
+    unfolding weigh counts weight
+    run-within = omega (arith, next-run, distinct-sum (l .count) (i + 1) nodeAt (λ x. part (eqb (voteOf x) m) (stakeIn (l .stakes) x)) next-inside next-apart)
+
+    -- so that where it leads, its block does
+    pub listed-led : leads m next b v ≡ true → isLed l s b v ≡ true
+    unfolding isLed
+    listed-led t =
+        let here : ℕ → Bool = λ x. not (none x) && leads x (weigh l s (who.Notar x)) b v in
+        let some : none m ≡ false = ne-eqb m 0 (λ z. omega (arith, some-block)) in
+        let led : leads m (weigh l s (who.Notar m)) b v ≡ true = leads-more m next (weigh l s (who.Notar m)) b v run-within t in
+        some-at (l .count) n (λ x. here (voteOf x)) below (ap here (sym vote) ∙ (λ z. not (some z) && led z))
+
+    pub listed-more : leads m next b v ≡ false → Listed (i + 1) m (n + 1) next (rest - w)
+    listed-more off =
         record {
-          inside = λ j h. by-test (eqb j i) (λ t. omega (arith, ap nodeAt (eqb-true j i t))) (λ t. let z = eqb-false j i t in k .inside j (omega arith));
+          inside = next-inside;
           voted = λ j h. by-test (eqb j i) (λ t. omega (arith, ap blockAt (eqb-true j i t), here-block, some-block)) (λ t. let z = eqb-false j i t in k .voted j (omega arith));
           highest = λ j h. by-test (eqb j i) (λ t. omega (arith, ap blockAt (eqb-true j i t), here-block)) (λ t. let z = eqb-false j i t in prior-block j (omega arith));
           before = λ j h q. by-test (eqb j i) (λ t. omega (arith, ap nodeAt (eqb-true j i t)))
               (λ t. let z = eqb-false j i t in omega (arith, prior-node j (omega arith) q));
-          apart = λ j x a c q. by-test (eqb x i)
-              (λ t. let y : nodeAt j ≡ n = q ∙ ap nodeAt (eqb-true x i t) ∙ sym at-is in
-              let e = eqb-true x i t in omega (arith, prior-node j (omega arith) (ap voteOf y ∙ sym vote)))
-              (λ t. let z = eqb-false x i t in k .apart j x a (omega arith) q);
+          apart = next-apart;
           sums = sym next-run;
           all = omega (arith, k .all, sum-more i stakeAt, here-stake);
           small = cases (λ a d. omega (arith, k .small, next-sum, next-new d)) (λ a e d. omega (arith, k .small, next-sum, k .sums, ap (λ (x : ℕ). runTo x i) e));

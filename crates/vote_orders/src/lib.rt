@@ -1,10 +1,9 @@
-// Whether no block of a slot leads a claimed leader, by a certified order: a list of nodes is checked in one pass to be the slot's
-// notar votes, each once, by block and node, and each run of equal blocks is summed. However the list came about, what it shows holds.
+// What a list of a slot's notar votes shows of a claimed leader. It is checked in one pass to have each vote at most once, by block and
+// node, and each run of equal blocks is summed. However the list came about, what it shows holds.
 ghost use mathlib.Core.Path.{_≡_};
-ghost use mathlib.Core.Bool.{true};
 ghost use Prim.Native.Nat.{_+_, _<_, _^_};
 ghost use Rattle.record.specs.Layout.{ledgerOf};
-ghost use Rattle.vote_orders.specs.Ordering.{Ordering, Unled, comesNext, nextRun};
+ghost use Rattle.vote_orders.specs.Ordering.{Ordering, Shows, comesNext, nextRun};
 use record::count;
 use record::notar_of;
 use record::stake;
@@ -12,6 +11,16 @@ use rulebook::Node;
 use rulebook::Slot;
 use rulebook::Weight;
 use tally::leads;
+
+// The last eleven bits of a word of the list are its node.
+const NODE_BITS: u64 = 0x7ff;
+
+// What a list shows of a claimed leader: no block leads it, some block does, or neither.
+pub enum Shown {
+    Unled,
+    Led,
+    Neither,
+}
 
 // Whether node n with the block m comes behind the block b and the nodes below f.
 fn comes_next(b: u64, f: usize, m: u64, n: usize) -> bool
@@ -21,48 +30,51 @@ fn comes_next(b: u64, f: usize, m: u64, n: usize) -> bool
 }
 
 // The sum of a run of equal blocks with w more: another block begins a run.
-fn next_run(b: u64, run: u64, m: u64, w: u64) -> u64
-    requires { ⌜ run + w < 2 ^ 64 ⌝ }
-    ensures { λ r. ⌜ r ≡ nextRun b run m w ⌝ }
+fn next_run(b: u64, run: Weight, m: u64, w: Weight) -> Weight
+    requires { ⌜ run .0 + w .0 < 2 ^ 64 ⌝ }
+    ensures { λ r. ⌜ r .0 ≡ nextRun b (run .0) m (w .0) ⌝ }
 {
     if m == b {
-        return run + w;
+        return Weight(run.0 + w.0);
     }
     w
 }
 
-// Whether the order shows that no block of slot s leads b at weight v; any is what all notar votes of the slot weigh. It lists nodes
-// by their blocks, and of one block by their numbers, each at most once, and all that it lists weigh any: so it has every notar vote,
-// and a block's run is its weight.
-pub fn shows_unled(rec: &[u64], s: Slot, b: u64, v: Weight, any: Weight, order: &[u64]) -> bool
+// What the list shows of the leader b of slot s at weight v; any is what all notar votes of the slot weigh. It lists nodes by their
+// blocks, and of one block by their numbers, each at most once: so a run is at most its block's weight. Where all that it lists weigh any
+// it has every notar vote, and a run is its block's weight.
+pub fn shown_by(rec: &[u64], s: Slot, b: u64, v: Weight, any: Weight, list: &[u64]) -> Shown
     requires { ⌜ Ordering (now rec) (s .0) (v .0) (any .0) ⌝ }
-    ensures { λ r. ⌜ (r ≡ true → Unled (ledgerOf (now (rec .entry))) (s .0) b (v .0)) ⌝ }
+    ensures { λ r. ⌜ Shows (ledgerOf (now (rec .entry))) (s .0) b (v .0) r ⌝ }
 {
     let nodes = count(rec);
-    let mut rest = any.0;
+    let mut rest = any;
     let mut block: u64 = 0;
     let mut from: usize = 0;
-    let mut run: u64 = 0;
-    for i in 0..order.len() {
-        let n = order[i] as usize;
+    let mut run = Weight(0);
+    for i in 0..list.len() {
+        let n = (list[i] & NODE_BITS) as usize;
         if nodes <= n {
-            return false;
+            return Shown::Neither;
         }
         let m = notar_of(rec, s, Node(n));
         if !comes_next(block, from, m, n) {
-            return false;
+            return Shown::Neither;
         }
         let w = stake(rec, Node(n));
-        if rest < w.0 {
-            return false;
+        if rest.0 < w.0 {
+            return Shown::Neither;
         }
-        rest -= w.0;
-        run = next_run(block, run, m, w.0);
-        if leads(m, Weight(run), b, v) {
-            return false;
+        rest = Weight(rest.0 - w.0);
+        run = next_run(block, run, m, w);
+        if leads(m, run, b, v) {
+            return Shown::Led;
         }
         block = m;
         from = n + 1;
     }
-    rest == 0
+    if rest.0 != 0 {
+        return Shown::Neither;
+    }
+    Shown::Unled
 }
