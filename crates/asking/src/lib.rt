@@ -18,6 +18,7 @@ use replies::packet;
 use replies::vote_read;
 use rulebook::Node;
 use rulebook::Slot;
+use rulebook::Weight;
 use script::read_numbers;
 use script::word_at;
 
@@ -54,7 +55,7 @@ fn card(page: &mut [u8], line: &[u8], at: usize, rec: &[u64]) -> bool {
     read_numbers(line, at, &mut args);
     let mut values = [0u64; 5];
     let n = qr_card(rec, args[0] as usize, &mut values);
-    checked(page, n, &values, 0)
+    checked(page, n, &values, Weight(0))
 }
 
 // check HEX STAKE.., checkproof HEX STAKE..; a line has no room for more than 32,768 bytes of packet.
@@ -90,10 +91,10 @@ fn check_packet(page: &mut [u8], stakes: &[u64], bytes: &[u8], whole: bool) -> b
     let mut missing = 0;
     if whole {
         let n = qr_check_proof(stakes, bytes, &mut values, &mut missing);
-        checked(page, n, &values, missing)
+        checked(page, n, &values, Weight(missing))
     } else {
         let n = qr_check_certificate(stakes, bytes, &mut values, &mut missing);
-        checked(page, n, &values, missing)
+        checked(page, n, &values, Weight(missing))
     }
 }
 

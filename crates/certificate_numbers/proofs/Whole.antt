@@ -27,7 +27,7 @@ use Rattle.certificate_numbers.proofs.Fell.{fell-mask}
 
 -- The two masks after a heading.
 abbrev wholeOf : Heading → ℕ → ℕ → ℕ → found.Found
-wholeOf h maska maskb next = found.Whole (record { kind = h .kind; slot = h .slot; block = h .block; maska = maska; maskb = maskb }) next
+wholeOf h maska maskb next = found.Whole (record { kind = h .kind; slot = h .slot .0; block = h .block; maska = maska; maskb = maskb }) next
 
 abbrev secondAfter : List ℕ → Heading → ℕ → ℕ → found.Found
 secondAfter bytes h maska q = andThen (maskAt (wordsIn (h .kind)) bytes q) (wholeOf h maska)
@@ -92,7 +92,7 @@ module _ (bytes : List ℕ) (at : ℕ) where
           → foundAs (answer.Whole h next) (xs ++ a) (ys ++ b) ≡ certificateAt bytes at
       unfolding foundAs laidAs andThen
       all-read next y xs ys a b n ex ey lx ly =
-          ap₂ (λ (u v : ℕ). found.Whole (record { kind = h .kind; slot = h .slot; block = h .block; maska = u; maskb = v }) next)
+          ap₂ (λ (u v : ℕ). found.Whole (record { kind = h .kind; slot = h .slot .0; block = h .block; maska = u; maskb = v }) next)
           (ap joined (take-at xs a (wordsIn (h .kind)) (lx ∙ ew)) ∙ sym ex) (ap joined (take-at ys b (wordsIn (h .kind)) (ly ∙ ew)) ∙ sym ey)
           ∙ ap (λ (r : Reading). andThen r (wholeOf h x)) (n ∙ ap (λ (i : ℕ). maskAt i bytes q) ew)
           ∙ after-first

@@ -40,4 +40,4 @@ unfoldable pub headingAt : List ℕ → ℕ → Found
 headingAt bytes at =
     headThen (numberAt bytes at) (λ kind p.
     headThen (numberAt bytes p) (λ slot q.
-    headThen (numberAt bytes q) (λ block next. answer.Whole (record { kind = kind; slot = slot; block = block }) next)))
+    headThen (numberAt bytes q) (λ block next. answer.Whole (record { kind = kind; slot = record { 0 = slot }; block = block }) next)))

@@ -12,6 +12,7 @@ use rulebook::Found;
 use rulebook::Heading;
 use rulebook::Laid;
 use rulebook::Reading;
+use rulebook::Slot;
 
 // The words to lend for a mask of any kind: room for 2,048 nodes.
 pub const MOST_WORDS: usize = 32;
@@ -57,9 +58,10 @@ fn read_heading(bytes: &[u8], at: usize) -> Found
         return failed(n1);
     };
     let n2 = take_number(bytes, p);
-    let Reading::Number(slot, q) = n2 else {
+    let Reading::Number(number, q) = n2 else {
         return failed(n2);
     };
+    let slot = Slot(number as usize);
     let n3 = take_number(bytes, q);
     let Reading::Number(block, next) = n3 else {
         return failed(n3);
@@ -94,7 +96,7 @@ pub fn write_certificate(bytes: &mut [u8], at: usize, c: Heading, a: &[u64], b: 
     ensures { λ r. ⌜ Written (now (bytes .entry)) at (certificateBytes (certificateOf c (now (a .entry)) (now (b .entry)))) (now (bytes .exit)) r ⌝ }
 {
     let p = write_number(bytes, at, c.kind);
-    let q = write_number(bytes, p, c.slot);
+    let q = write_number(bytes, p, c.slot.0 as u64);
     let r = write_number(bytes, q, c.block);
     let t = write_mask(bytes, r, a);
     write_mask(bytes, t, b)

@@ -42,7 +42,7 @@ pub record Keepable (stakes : List ℕ) (t : StakeTable) (s : ℕ) (a b : List �
 
 -- The heading of a certificate that a record keeps: its place tells its kind.
 abbrev pub headed : ℕ → ℕ → Heading
-headed s block = record { kind = 0; slot = s; block = block }
+headed s block = record { kind = 0; slot = record { 0 = s }; block = block }
 
 -- What is told of one certificate.
 unfoldable pub told : List ℕ → One → Checked

@@ -1,7 +1,6 @@
 // One certificate of a packet, read and judged on lent stakes and their table.
 ghost use mathlib.Core.Path.{_≡_};
 ghost use Rattle.rulebook.specs.declared.Heading.{Heading};
-ghost use Rattle.rulebook.specs.Weights.{slotOk};
 ghost use Rattle.rulebook.specs.Packets.{certificateOf};
 ghost use Rattle.rulebook.specs.Checker.{withoutB, badSigners, judgeWeight, judgeKind, oneAt};
 ghost use Rattle.rulebook.specs.WellFormed.{isFine};
@@ -14,6 +13,7 @@ use certificate_numbers::words_in;
 use kinds::block_misfits;
 use kinds::is_other;
 use kinds::kind_in;
+use kinds::slot_ok;
 use kinds::threshold_of;
 use rulebook::Accepted;
 use rulebook::CertificateKind;
@@ -28,13 +28,6 @@ use stakes::StakeTable;
 pub enum Checked {
     Good(Accepted, usize),
     Bad(Refusal),
-}
-
-// 3, from the other side.
-fn slot_ok(slot: u64) -> bool
-    ensures { λ r. ⌜ r ≡ slotOk slot ⌝ }
-{
-    (1 <= slot) & (slot <= 16)
 }
 
 // Mask B must be 0.
@@ -83,7 +76,7 @@ fn weigh_in(
     if missing.0 != 0 {
         return Checked::Bad(Refusal::TooLight(missing));
     }
-    let slot = Slot(c.slot as usize);
+    let slot = c.slot;
     Checked::Good(
         Accepted {
             kind: k,

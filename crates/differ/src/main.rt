@@ -8,6 +8,8 @@ use door::tell_line;
 use lines::put_byte;
 use lines::put_decimal;
 use lines::put_text;
+use rulebook::Node;
+use rulebook::Slot;
 
 // No record has more words: a file that holds more is none.
 const RECORD_ROOM: usize = 270336;
@@ -190,10 +192,10 @@ fn put_file(page: &mut [u8], at: usize, i: usize) -> usize {
 }
 
 // Slot, node and kind of a vote, in columns.
-fn put_front(page: &mut [u8], at: usize, slot: u64, node: u64, kind: u64) -> usize {
-    let a = put_decimal(page, at, slot);
+fn put_front(page: &mut [u8], at: usize, slot: Slot, node: Node, kind: u64) -> usize {
+    let a = put_decimal(page, at, slot.0 as u64);
     let b = fill(page, a, NODE_COLUMN);
-    let c = put_decimal(page, b, node);
+    let c = put_decimal(page, b, node.0 as u64);
     let d = fill(page, c, KIND_COLUMN);
     let e = put_kind(page, d, kind);
     fill(page, e, BLOCK_COLUMN)
@@ -212,8 +214,8 @@ fn put_rest(page: &mut [u8], at: usize, block: u64, side: u64) -> usize {
 fn vote_line(
     page: &mut [u8],
     at: usize,
-    slot: u64,
-    node: u64,
+    slot: Slot,
+    node: Node,
     kind: u64,
     block: u64,
     side: u64,
@@ -258,8 +260,8 @@ fn listed_line(page: &mut [u8], at: usize, list: &[u64], i: usize) -> usize {
     if list.len() - LINE_WORDS < i {
         return at;
     }
-    let slot = list[i];
-    let node = list[i + 1];
+    let slot = Slot(list[i] as usize);
+    let node = Node(list[i + 1] as usize);
     let kind = list[i + 2];
     let block = list[i + 3];
     let side = list[i + 4];

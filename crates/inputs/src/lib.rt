@@ -9,42 +9,42 @@ use rulebook::Node;
 use rulebook::Slot;
 use rulebook::Vote;
 
-// The vote of four numbers.
-pub fn vote_of(kind: u64, node: usize, slot: usize, block: u64) -> Vote
-    ensures { λ r. ⌜ r ≡ voteOf kind node slot block ⌝ }
+// The vote of a kind's number, a node, a slot and a block.
+pub fn vote_of(kind: u64, node: Node, slot: Slot, block: u64) -> Vote
+    ensures { λ r. ⌜ r ≡ voteOf kind (node .0) (slot .0) block ⌝ }
 {
     Vote {
         kind: vote_kind(kind),
-        node: Node(node),
-        slot: Slot(slot),
+        node,
+        slot,
         block,
     }
 }
 
 // Another node's vote.
-pub fn vote_input(kind: u64, node: usize, slot: usize, block: u64) -> Input
-    ensures { λ r. ⌜ r ≡ voteInput kind node slot block ⌝ }
+pub fn vote_input(kind: u64, node: Node, slot: Slot, block: u64) -> Input
+    ensures { λ r. ⌜ r ≡ voteInput kind (node .0) (slot .0) block ⌝ }
 {
     Input::Vote(vote_of(kind, node, slot, block))
 }
 
 // A block with its parent.
-pub fn block_input(slot: usize, number: u64, parentslot: usize, parent: u64) -> Input
-    ensures { λ r. ⌜ r ≡ blockInput slot number parentslot parent ⌝ }
+pub fn block_input(slot: Slot, number: u64, parentslot: Slot, parent: u64) -> Input
+    ensures { λ r. ⌜ r ≡ blockInput (slot .0) number (parentslot .0) parent ⌝ }
 {
     Input::Block(
-        Slot(slot),
+        slot,
         Block {
             number,
-            parentslot: Slot(parentslot),
+            parentslot,
             parent,
         },
     )
 }
 
 // A slot's timeout.
-pub fn timeout_input(slot: usize) -> Input
-    ensures { λ r. ⌜ r ≡ timeoutInput slot ⌝ }
+pub fn timeout_input(slot: Slot) -> Input
+    ensures { λ r. ⌜ r ≡ timeoutInput (slot .0) ⌝ }
 {
-    Input::Timeout(Slot(slot))
+    Input::Timeout(slot)
 }

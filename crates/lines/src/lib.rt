@@ -216,17 +216,17 @@ pub fn message_line(line: &mut [u8], n: u64, values: &[u64; 4]) -> usize
 }
 
 // The number 15 and what is missing.
-fn missing_line(line: &mut [u8], missing: u64) -> usize
-    ensures { λ r. ⌜ Put (now (line .entry)) 0 (missingLine missing) (now (line .exit)) r ⌝ }
+fn missing_line(line: &mut [u8], missing: Weight) -> usize
+    ensures { λ r. ⌜ Put (now (line .entry)) 0 (missingLine (missing .0)) (now (line .exit)) r ⌝ }
 {
     let p = put_decimal(line, 0, 15);
-    let q = put_spaced(line, p, missing);
+    let q = put_spaced(line, p, missing.0);
     put_byte(line, q, b'\n')
 }
 
 // The checker's answer: 0 with the five values, 15 with what is missing, or its number alone.
-pub fn check_line(line: &mut [u8], n: u64, values: &[u64; 5], missing: u64) -> usize
-    ensures { λ r. ⌜ Put (now (line .entry)) 0 (checkLine (record { number = n; values = now (values .entry) }) missing) (now (line .exit)) r ⌝ }
+pub fn check_line(line: &mut [u8], n: u64, values: &[u64; 5], missing: Weight) -> usize
+    ensures { λ r. ⌜ Put (now (line .entry)) 0 (checkLine (record { number = n; values = now (values .entry) }) (missing .0)) (now (line .exit)) r ⌝ }
 {
     if n == 15 {
         return missing_line(line, missing);

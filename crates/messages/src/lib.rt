@@ -1,9 +1,9 @@
 // Votes as bytes: a vote message is kind, node, slot and block, four numbers in groups of seven bits.
+use inputs::vote_of;
 use kinds::count_fits;
 use kinds::is_other_vote;
 use kinds::not_in_table;
 use kinds::slot_ok;
-use kinds::vote_kind;
 use kinds::vote_misfits;
 use kinds::vote_number;
 use numbers::read_number;
@@ -18,7 +18,7 @@ use rulebook::Vote;
 use rulebook::WriteAnswer;
 ghost use mathlib.Core.Path.{_≡_};
 ghost use lib.ListN.{length};
-ghost use Rattle.rulebook.specs.Messages.{voteOf, voteTests, readOn, readVote, messageBytes, messageVerdict, writeVote};
+ghost use Rattle.rulebook.specs.Messages.{voteTests, readOn, readVote, messageBytes, messageVerdict, writeVote};
 ghost use Rattle.rulebook.specs.Writers.{Writes};
 ghost use Rattle.numbers.specs.Written.{Room, Written};
 ghost use Rattle.messages.specs.Faults.{faultOf, leftOver, unreadOf};
@@ -78,18 +78,6 @@ fn unread(n: Reading) -> ReadAnswer
     }
 }
 
-// The vote of four numbers.
-fn vote_of(kind: u64, node: u64, slot: u64, block: u64) -> Vote
-    ensures { λ r. ⌜ r ≡ voteOf kind node slot block ⌝ }
-{
-    Vote {
-        kind: vote_kind(kind),
-        node: Node(node as usize),
-        slot: Slot(slot as usize),
-        block,
-    }
-}
-
 // The vote, where nothing is refused.
 fn read_on(found: Verdict, v: Vote) -> ReadAnswer
     ensures { λ r. ⌜ r ≡ readOn found v ⌝ }
@@ -123,7 +111,7 @@ pub fn read_vote(count: usize, bytes: &[u8]) -> ReadAnswer
     let Reading::Number(block, next) = n4 else {
         return unread(n4);
     };
-    let v = vote_of(kind, node, slot, block);
+    let v = vote_of(kind, Node(node as usize), Slot(slot as usize), block);
     read_on(vote_tests(count, v, left_over(next, bytes.len())), v)
 }
 

@@ -9,6 +9,7 @@ use quointrowel::qr_end;
 use quointrowel::qr_piece;
 use replies::checked;
 use replies::number;
+use rulebook::Weight;
 use script::read_numbers;
 use script::word_at;
 
@@ -73,5 +74,5 @@ pub fn end(page: &mut [u8], pieces: &mut [u64], front: &mut [u8]) -> bool {
     let mut values = [0u64; 5];
     let mut missing = 0;
     let n = qr_end(pieces, front, &mut values, &mut missing);
-    checked(page, n, &values, missing)
+    checked(page, n, &values, Weight(missing))
 }

@@ -119,7 +119,7 @@ pub extern "C" fn qr_vote(
 ) -> u64
     ensures { λ r. ⌜ Stepped (now (rec .entry)) (now (outbox .entry)) (voteInput kind node slot block) r (now (made .exit)) (now (rec .exit)) (now (outbox .exit)) ⌝ }
 {
-    let a = step(rec, outbox, vote_input(kind, node, slot, block));
+    let a = step(rec, outbox, vote_input(kind, Node(node), Slot(slot), block));
     *made = records_made(a);
     step_number(a)
 }
@@ -137,7 +137,11 @@ pub extern "C" fn qr_block(
 ) -> u64
     ensures { λ r. ⌜ Stepped (now (rec .entry)) (now (outbox .entry)) (blockInput slot number parentslot parent) r (now (made .exit)) (now (rec .exit)) (now (outbox .exit)) ⌝ }
 {
-    let a = step(rec, outbox, block_input(slot, number, parentslot, parent));
+    let a = step(
+        rec,
+        outbox,
+        block_input(Slot(slot), number, Slot(parentslot), parent),
+    );
     *made = records_made(a);
     step_number(a)
 }
@@ -152,7 +156,7 @@ pub extern "C" fn qr_timeout(
 ) -> u64
     ensures { λ r. ⌜ Stepped (now (rec .entry)) (now (outbox .entry)) (timeoutInput slot) r (now (made .exit)) (now (rec .exit)) (now (outbox .exit)) ⌝ }
 {
-    let a = step(rec, outbox, timeout_input(slot));
+    let a = step(rec, outbox, timeout_input(Slot(slot)));
     *made = records_made(a);
     step_number(a)
 }
@@ -370,7 +374,7 @@ pub extern "C" fn qr_write_vote(
 ) -> u64
     ensures { λ r. ⌜ Wrote (writeVote count (length (now (buffer .entry))) (voteOf kind node slot block)) (now (buffer .entry)) r (now (written .exit)) (now (buffer .exit)) ⌝ }
 {
-    let v = vote_of(kind, node, slot, block);
+    let v = vote_of(kind, Node(node), Slot(slot), block);
     let a = write_vote(count, v, buffer);
     *written = bytes_written(a);
     write_number(a)

@@ -281,13 +281,13 @@ fn tell_kinds(outbox: &[u64], many: usize) {
 }
 
 // A look at the record with another own number: its number, and the kinds of what it tells.
-fn look_as(sound: &[u64], own: u64) {
+fn look_as(sound: &[u64], own: Node) {
     let mut rec = [0u64; RECORD_WORDS];
     let mut outbox = [0u64; 480];
     copy_words(sound, &mut rec);
-    put_word(&mut rec, 2, own);
+    put_word(&mut rec, 2, own.0 as u64);
     say(b"a look with own number");
-    number(own);
+    number(own.0 as u64);
     say(b":");
     let answer = step(&mut rec, &mut outbox, Input::Look);
     tell_step(answer);
@@ -305,9 +305,9 @@ fn main() {
     let got = libc::read(0, &mut buffer);
     let n = io::count(got, &buffer);
     lines(&buffer[..n], &mut sound);
-    look_as(&sound, 0);
-    look_as(&sound, 2);
-    look_as(&sound, 3);
+    look_as(&sound, Node(0));
+    look_as(&sound, Node(2));
+    look_as(&sound, Node(3));
     lengths();
     starts();
     watched_starts();

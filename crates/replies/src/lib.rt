@@ -12,6 +12,7 @@ use lines::packet_line;
 use lines::put_text;
 use lines::step_line;
 use lines::tray_line;
+use rulebook::Weight;
 
 // What a line of the script leads to: the next one, the script's end, or that no further line is answered.
 pub enum Turn {
@@ -76,8 +77,8 @@ pub fn packet(page: &mut [u8], n: u64, written: usize, buffer: &[u8]) -> bool
 }
 
 // The checker's answer: 0 with the five values, 15 with what is missing, or its number alone.
-pub fn checked(page: &mut [u8], n: u64, values: &[u64; 5], missing: u64) -> bool
-    ensures { λ _. ⌜ now (page .exit) ≡ sets (now (page .entry)) 0 (checkLine (record { number = n; values = now (values .entry) }) missing) ⌝ }
+pub fn checked(page: &mut [u8], n: u64, values: &[u64; 5], missing: Weight) -> bool
+    ensures { λ _. ⌜ now (page .exit) ≡ sets (now (page .entry)) 0 (checkLine (record { number = n; values = now (values .entry) }) (missing .0)) ⌝ }
 {
     let used = check_line(page, n, values, missing);
     send(page, used)

@@ -279,9 +279,9 @@ pub fn touched(rec: &[u64], s: Slot) -> bool
 
 // ---- sums
 
-// An amount where it counts, else 0.
-pub fn part(there: bool, amount: u64) -> u64
-    ensures { λ r. ⌜ r ≡ part there amount ⌝ }
+// 1 for what is there, else 0.
+pub fn one_if(there: bool) -> u64
+    ensures { λ r. ⌜ r ≡ part there 1 ⌝ }
 {
-    if there { amount } else { 0 }
+    if there { 1 } else { 0 }
 }

@@ -18,7 +18,7 @@ use rulebook::Cell;
 use rulebook::Node;
 use rulebook::Slot;
 use rulebook::Who;
-use shown::part;
+use shown::one_if;
 use soundness::sound;
 use thresholds::Threshold;
 
@@ -99,7 +99,7 @@ fn light_name(rec: &[u64], s: Slot, n: Node, looked: u64, b: u64) -> u64
         return 0;
     }
     let heavy = is_heavy(rec, s, b);
-    part(!heavy, 1)
+    one_if(!heavy)
 }
 
 // How many blocks a node is the first to name that are not heavy.

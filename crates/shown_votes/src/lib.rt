@@ -1,6 +1,7 @@
 // The votes that are stored in a slot: how many, whose, and the next node that has some. The public functions take any words and
 // any slot; only a sound record has weights.
 ghost use mathlib.Core.Path.{_≡_};
+ghost use Rattle.rulebook.specs.Tools.{part};
 ghost use Rattle.record.specs.Layout.{ledgerOf};
 ghost use Rattle.shown.specs.Shown.{ledgerIn, Counting};
 ghost use Rattle.shown_votes.specs.Votes.{voterFrom, votesIn, storedIn, storedShown};
@@ -15,7 +16,7 @@ use rulebook::Weight;
 use shown::cell_of;
 use shown::is_blank;
 use shown::nodes_of;
-use shown::part;
+use shown::one_if;
 use soundness::sound;
 
 // What is stored in a slot: so many votes, by so many nodes of such a weight.
@@ -29,11 +30,18 @@ pub struct Stored {
 fn votes_in(c: Cell) -> u64
     ensures { λ r. ⌜ r ≡ votesIn c ⌝ }
 {
-    let initial = part(c.notar != 0, 1) + part(c.skip != 0, 1);
-    let third = part(c.fallback3 != 0, 1);
-    let fallbacks = part(c.fallback1 != 0, 1) + (part(c.fallback2 != 0, 1) + third);
-    let last = part(c.skipfallback != 0, 1) + part(c.finalvote != 0, 1);
+    let initial = one_if(c.notar != 0) + one_if(c.skip != 0);
+    let third = one_if(c.fallback3 != 0);
+    let fallbacks = one_if(c.fallback1 != 0) + (one_if(c.fallback2 != 0) + third);
+    let last = one_if(c.skipfallback != 0) + one_if(c.finalvote != 0);
     initial + (fallbacks + last)
+}
+
+// A stake where it counts, else none.
+fn weight_if(there: bool, w: Weight) -> Weight
+    ensures { λ r. ⌜ r .0 ≡ part there (w .0) ⌝ }
+{
+    if there { w } else { Weight(0) }
 }
 
 // What is stored in a slot, node by node.
@@ -50,8 +58,9 @@ fn count_stored(rec: &[u64], s: Slot) -> Stored
         let voted = !is_blank(c);
         let w = stake(rec, Node(n));
         votes += votes_in(c);
-        nodes += part(voted, 1);
-        weight += part(voted, w.0);
+        nodes += one_if(voted);
+        let counted = weight_if(voted, w);
+        weight += counted.0;
     }
     Stored {
         votes: votes,

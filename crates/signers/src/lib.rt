@@ -65,35 +65,35 @@ fn in_mask(which: Mask, kind: CertificateKind, b: u64, c: Cell) -> bool
 }
 
 // How many of so many nodes stand in a word, from a node on.
-fn nodes_from(nodes: usize, from: usize) -> usize
-    ensures { λ r. ⌜ r ≡ min 64 (nodes - from) ⌝ }
+fn nodes_from(nodes: usize, from: Node) -> usize
+    ensures { λ r. ⌜ r ≡ min 64 (nodes - from .0) ⌝ }
 {
-    if nodes <= from {
+    if nodes <= from.0 {
         return 0;
     }
-    if 64 <= nodes - from {
+    if 64 <= nodes - from.0 {
         return 64;
     }
-    nodes - from
+    nodes - from.0
 }
 
 // A word of a mask: the signers stored in a slot, from a node on, node by node.
 fn signers_from(
     rec: &[u64],
     nodes: usize,
-    from: usize,
+    from: Node,
     which: Mask,
     kind: CertificateKind,
     s: Slot,
     b: u64,
 ) -> u64
     requires { ⌜ Signing (now rec) nodes (s .0) ⌝ }
-    ensures { λ r. ⌜ r ≡ maskOf (λ j. inMask which kind b (cellAt (ledgerOf (now (rec .entry))) (s .0) (from + j))) (min 64 (nodes - from)) ⌝ }
+    ensures { λ r. ⌜ r ≡ maskOf (λ j. inMask which kind b (cellAt (ledgerOf (now (rec .entry))) (s .0) (from .0 + j))) (min 64 (nodes - from .0)) ⌝ }
 {
     let upto = nodes_from(nodes, from);
     let mut word: u64 = 0;
     for j in 0..upto {
-        let c = load_cell(rec, s, Node(from + j));
+        let c = load_cell(rec, s, Node(from.0 + j));
         if in_mask(which, kind, b, c) {
             word = word | (1 << j);
         }
@@ -115,7 +115,8 @@ fn signers_in(
     ensures { λ _. ⌜ joined (now (mask .exit)) ≡ maskOf (λ n. inMask which kind b (cellAt (ledgerOf (now (rec .entry))) (s .0) n)) nodes ⌝ }
 {
     for i in 0..mask.len() {
-        mask[i] = signers_from(rec, nodes, 64 * i, which, kind, s, b);
+        let from = 64 * i;
+        mask[i] = signers_from(rec, nodes, Node(from), which, kind, s, b);
     }
 }
 
@@ -136,7 +137,7 @@ pub fn certificate_for(
     signers_in(rec, nodes, Mask::B, kind, s, block, b);
     Heading {
         kind: number_in(nodes, kind),
-        slot: s.0 as u64,
+        slot: s,
         block,
     }
 }

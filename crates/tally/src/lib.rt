@@ -10,6 +10,9 @@ use rulebook::Tally;
 use rulebook::VoteKind;
 use rulebook::Weight;
 
+// No weight.
+const NONE: Weight = Weight(0);
+
 // Whether block b at weight w leads block m at weight v.
 pub fn leads(b: u64, w: Weight, m: u64, v: Weight) -> bool
     ensures { λ r. ⌜ r ≡ leads b (w .0) m (v .0) ⌝ }
@@ -63,27 +66,27 @@ pub fn updated(t: Tally, d: Tally) -> Tally
     u
 }
 
-// A card by its five numbers.
-pub fn card_of(skip: u64, finals: u64, skipcert: u64, leader: u64, weight: u64) -> Tally
-    ensures { λ r. ⌜ r ≡ cardOf skip finals skipcert leader weight ⌝ }
+// A card by its four weights and its leader.
+pub fn card_of(skip: Weight, finals: Weight, skipcert: Weight, leader: u64, weight: Weight) -> Tally
+    ensures { λ r. ⌜ r ≡ cardOf (skip .0) (finals .0) (skipcert .0) leader (weight .0) ⌝ }
 {
     Tally {
-        skip: Weight(skip),
-        finals: Weight(finals),
-        skipcert: Weight(skipcert),
+        skip,
+        finals,
+        skipcert,
         leader,
-        weight: Weight(weight),
+        weight,
     }
 }
 
-// The amount where the test passes, else 0.
-fn part_of(passes: bool, w: u64) -> u64
-    ensures { λ r. ⌜ r ≡ part passes w ⌝ }
+// The weight where the test passes, else none.
+fn part_of(passes: bool, w: Weight) -> Weight
+    ensures { λ r. ⌜ r .0 ≡ part passes (w .0) ⌝ }
 {
     if passes {
         return w;
     }
-    0
+    NONE
 }
 
 // What a vote adds, where c is kept of the node so far, w is its stake and v the weight of its block's notar votes so far.
@@ -92,11 +95,14 @@ pub fn adds(c: Cell, k: VoteKind, b: u64, w: Weight, v: Weight) -> Tally
     ensures { λ r. ⌜ r ≡ adds c k b (w .0) (v .0) ⌝ }
 {
     match k {
-        VoteKind::Notar => card_of(0, 0, 0, b, v.0 + w.0),
-        VoteKind::NotarFallback => card_of(0, 0, 0, 0, 0),
-        VoteKind::Skip => card_of(w.0, 0, part_of(c.skipfallback == 0, w.0), 0, 0),
-        VoteKind::SkipFallback => card_of(0, 0, part_of(c.skip == 0, w.0), 0, 0),
-        VoteKind::Final => card_of(0, w.0, 0, 0, 0),
-        VoteKind::Other => card_of(0, 0, 0, 0, 0),
+        VoteKind::Notar => {
+            let both = v.0 + w.0;
+            card_of(NONE, NONE, NONE, b, Weight(both))
+        }
+        VoteKind::NotarFallback => card_of(NONE, NONE, NONE, 0, NONE),
+        VoteKind::Skip => card_of(w, NONE, part_of(c.skipfallback == 0, w), 0, NONE),
+        VoteKind::SkipFallback => card_of(NONE, NONE, part_of(c.skip == 0, w), 0, NONE),
+        VoteKind::Final => card_of(NONE, w, NONE, 0, NONE),
+        VoteKind::Other => card_of(NONE, NONE, NONE, 0, NONE),
     }
 }

@@ -14,6 +14,7 @@ use quointrowel::qr_watch;
 use replies::number;
 use replies::records;
 use replies::served;
+use rulebook::Node;
 use script::read_numbers;
 use script::word_at;
 
@@ -32,12 +33,12 @@ pub fn node_words(rec: &[u64]) -> usize
 }
 
 // Starts a node on as many of the words as its stakes ask for.
-fn start_node(rec: &mut [u64], stakes: &[u64], own: usize, genesis: u64) -> u64 {
+fn start_node(rec: &mut [u64], stakes: &[u64], own: Node, genesis: u64) -> u64 {
     let words = qr_record_words(stakes.len());
     if words < rec.len() {
-        return qr_start(&mut rec[0..words], stakes, own, genesis);
+        return qr_start(&mut rec[0..words], stakes, own.0, genesis);
     }
-    qr_start(rec, stakes, own, genesis)
+    qr_start(rec, stakes, own.0, genesis)
 }
 
 // Starts a node from own number, genesis and stakes, as many of them as there is room for.
@@ -48,7 +49,7 @@ fn start_with(rec: &mut [u64], args: &[u64], many: usize) -> u64 {
     if many < 2 {
         return 1;
     }
-    let own = args[0] as usize;
+    let own = Node(args[0] as usize);
     let genesis = args[1];
     if many < args.len() {
         return start_node(rec, &args[2..many], own, genesis);

@@ -3,8 +3,8 @@ ghost use mathlib.Core.Path.{_≡_};
 ghost use Rattle.rulebook.specs.Weights.{missing, Weighable};
 use rulebook::Weight;
 
-// A number of fifths of the total stake.
-pub struct Threshold(pub u64);
+// A number of fifths of the total stake: one of the four below, and no other can be made outside.
+pub struct Threshold(u64);
 
 impl Threshold {
     pub const EIGHTY: Threshold = Threshold(4);

@@ -12,7 +12,9 @@ ghost use Rattle.voter.specs.Voting.{Onward};
 ghost use Rattle.trays.specs.Lent.{TrayOf, Serving, Taking, VoteServed, Ready, AllServed};
 use inputs::vote_of;
 use kinds::refusal_number;
+use rulebook::Node;
 use rulebook::Refusal;
+use rulebook::Slot;
 use rulebook::StepAnswer;
 use rulebook::Verdict;
 use rulebook::Vote;
@@ -38,8 +40,8 @@ fn vote_at(votes: &[u64], i: usize) -> Vote
     let j = 4 * i;
     vote_of(
         votes[j],
-        votes[j + 1] as usize,
-        votes[j + 2] as usize,
+        Node(votes[j + 1] as usize),
+        Slot(votes[j + 2] as usize),
         votes[j + 3],
     )
 }

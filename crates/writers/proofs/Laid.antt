@@ -129,7 +129,7 @@ kept-words ws k e o =
 module _ (l : Ledger) (k : CertificateKind) (s b n : ℕ) (q : keptAt l s n ≡ keptFor k b (certificatesAt l s)) (xs ys : List ℕ)
     (a : Lent l (keptAt l s n .maska) xs) (c : Lent l (keptAt l s n .maskb) ys) (number : ℕ) (e : number ≡ numberIn (l .count) k) where
   abbrev heading : Heading
-  heading = record { kind = number; slot = s; block = b }
+  heading = record { kind = number; slot = record { 0 = s }; block = b }
 
   pub kept-named : certificateOf heading xs ys ≡ keptCertificate l k s b
   unfolding maskedBy

@@ -133,7 +133,7 @@ fn lay_kept(
     let y = mask_b(rec, s, n);
     let c = Heading {
         kind: number_in(count(rec), kind),
-        slot: s.0 as u64,
+        slot: s,
         block: b,
     };
     certificate_numbers::write_certificate(buffer, at, c, x, y)

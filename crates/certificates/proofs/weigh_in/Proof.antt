@@ -29,11 +29,12 @@ returns c =
 
 returns-2 : tie.Need-returns-2
 returns-2 c =
-    let start = c .before .before .before .before .before .before .before .before .before .before in
+    let weighed = c .before in
+    let start = weighed .before .before .before .before .before .before .before .before .before .before in
     let cert = certificateOf (start .args .c) (now (start .args .a)) (now (start .args .b)) in
-    let w = c .before .before .before .before .before .weigh .ensures in
-    let l = lacks-same _ _ (start .pre .fit) _ cert _ w _ (c .before .before .before .threshold-of .ensures) _ (c .before .before .missing .ensures) in
-    weighed-told _ _ cert (start .pre .kind) _ w _ (lacks-none _ _ cert _ l (c .if1 .left))
+    let w = weighed .before .before .before .before .before .weigh .ensures in
+    let l = lacks-same _ _ (start .pre .fit) _ cert _ w _ (weighed .before .before .before .threshold-of .ensures) _ (weighed .before .before .missing .ensures) in
+    weighed-told _ _ cert (start .pre .kind) _ w _ (lacks-none _ _ cert _ l (weighed .if1 .left))
 
 pub weigh-in-spec : {M : Type 1} → statement M
 weigh-in-spec = tie.close (tie.spec weigh-requires threshold-of-requires missing-requires returns returns-2)

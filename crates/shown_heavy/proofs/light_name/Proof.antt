@@ -21,14 +21,14 @@ is-heavy-requires : tie.Need-is-heavy-requires
 is-heavy-requires c κs =
     c .before .before .before .before .pre .weighing
 
-part-requires : tie.Need-part-requires
-part-requires c κs = search needs
+one-if-requires : tie.Need-one-if-requires
+one-if-requires c κs = search needs
 
 returns-3 : tie.Need-returns-3
 returns-3 c =
-    let a = c .before .before .before .before .before .before .args in light-new (ledgerOf (a .rec .now)) (a .s .0) (a .n .0) (a .looked) (a .b) (c .before .before .before .before .if1 .left) _ (c .before .before .before .counted-before .ensures) (c .before .before .if2 .left) _ (c .before .is-heavy .ensures) _ (c .part .ensures)
+    let a = c .before .before .before .before .before .before .args in light-new (ledgerOf (a .rec .now)) (a .s .0) (a .n .0) (a .looked) (a .b) (c .before .before .before .before .if1 .left) _ (c .before .before .before .counted-before .ensures) (c .before .before .if2 .left) _ (c .before .is-heavy .ensures) _ (c .one-if .ensures)
 
 pub light-name-spec : {M : Type 1} → statement M
 light-name-spec =
     tie.close
-    (tie.spec returns counted-before-requires returns-2 is-heavy-requires part-requires returns-3)
+    (tie.spec returns counted-before-requires returns-2 is-heavy-requires one-if-requires returns-3)

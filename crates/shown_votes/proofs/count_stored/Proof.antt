@@ -48,23 +48,23 @@ add-votes c =
     let k = c .before .before .before .before .before .loop in
     omega (arith, cast-room (ledgerOf (a .args .rec .now)) (a .args .s .0) (k .n), votes-few (c .before .before .before .load-cell .result), a .pre .few, k .inv .1, k .inv .2, c .votes-in .ensures)
 
-part-requires : tie.Need-part-requires Inv-loop μ-loop
-part-requires c κs = search needs
+one-if-requires : tie.Need-one-if-requires Inv-loop μ-loop
+one-if-requires c κs = search needs
 
 add-nodes : tie.Need-add-nodes Inv-loop μ-loop
 add-nodes c =
     let a = c .before .before .before .before .before .before .before .before .before in
     let k = c .before .before .before .before .before .before .loop in
-    omega (arith, voters-room (ledgerOf (a .args .rec .now)) (a .args .s .0) (k .n), part-le (not (c .before .before .before .is-blank .result)) 1, a .pre .few, k .inv .1, k .inv .3, c .part .ensures)
+    omega (arith, voters-room (ledgerOf (a .args .rec .now)) (a .args .s .0) (k .n), part-le (not (c .before .before .before .is-blank .result)) 1, a .pre .few, k .inv .1, k .inv .3, c .one-if .ensures)
 
-part-requires-2 : tie.Need-part-requires-2 Inv-loop μ-loop
-part-requires-2 c κs = search needs
+weight-if-requires : tie.Need-weight-if-requires Inv-loop μ-loop
+weight-if-requires c κs = search needs
 
 add-weight : tie.Need-add-weight Inv-loop μ-loop
 add-weight c =
-    let a = c .before .before .before .before .before .before .before .before .before .before in
-    let k = c .before .before .before .before .before .before .before .loop in
-    omega (arith, weight-fits (ledgerOf (a .args .rec .now)) (a .args .s .0) (a .pre .weighing .table) (k .n) (omega (arith, k .inv .1, c .before .before .before .before .before .before .loop-test .taken)), part-le (not (c .before .before .before .before .is-blank .result)) (c .before .before .before .stake .result .0), c .before .before .before .stake .ensures, k .inv .4, c .part2 .ensures)
+    let a = c .before .before .before .before .before .before .before .before .before .before .before in
+    let k = c .before .before .before .before .before .before .before .before .loop in
+    omega (arith, weight-fits (ledgerOf (a .args .rec .now)) (a .args .s .0) (a .pre .weighing .table) (k .n) (omega (arith, k .inv .1, c .before .before .before .before .before .before .before .loop-test .taken)), part-le (not (c .before .before .before .before .before .is-blank .result)) (c .before .before .before .before .stake .result .0), c .before .before .before .before .stake .ensures, k .inv .4, c .before .weight-if .ensures)
 
 add-n : tie.Need-add-n Inv-loop μ-loop
 add-n c = search needs
@@ -74,14 +74,14 @@ loop-less c = search needs
 
 loop-again : tie.Need-loop-again Inv-loop μ-loop
 loop-again c =
-    let a = c .before .before .before .before .before .before .before .before .before .before .args in
-    let k = c .before .before .before .before .before .before .before .loop in
+    let a = c .before .before .before .before .before .before .before .before .before .before .before .args in
+    let k = c .before .before .before .before .before .before .before .before .loop in
     let l = ledgerOf (a .rec .now) in
-    let v = c .before .before .before .before .before .load-cell .result in
-    let e = c .before .before .before .before .before .load-cell .ensures in
-    let blank = c .before .before .before .before .is-blank .result in
-    let q = c .before .before .before .before .is-blank .ensures in
-    (omega arith, k .inv .1, cast-more l (a .s .0) (k .n) v (k .votes) _ e (k .inv .2) (c .before .before .votes-in .ensures), voters-more l (a .s .0) (k .n) v blank (k .nodes) _ e q (k .inv .3) (c .before .part .ensures), weight-further l (a .s .0) (k .n) v blank (k .weight) _ _ e q (k .inv .4) (c .before .before .before .stake .ensures) (c .part2 .ensures))
+    let v = c .before .before .before .before .before .before .load-cell .result in
+    let e = c .before .before .before .before .before .before .load-cell .ensures in
+    let blank = c .before .before .before .before .before .is-blank .result in
+    let q = c .before .before .before .before .before .is-blank .ensures in
+    (omega arith, k .inv .1, cast-more l (a .s .0) (k .n) v (k .votes) _ e (k .inv .2) (c .before .before .before .votes-in .ensures), voters-more l (a .s .0) (k .n) v blank (k .nodes) _ e q (k .inv .3) (c .before .before .one-if .ensures), weight-further l (a .s .0) (k .n) v blank (k .weight) _ _ e q (k .inv .4) (c .before .before .before .before .stake .ensures) (c .before .weight-if .ensures))
 
 returns : tie.Need-returns Inv-loop μ-loop
 returns c =
@@ -102,9 +102,9 @@ count-stored-spec =
     stake-requires
     votes-in-requires
     add-votes
-    part-requires
+    one-if-requires
     add-nodes
-    part-requires-2
+    weight-if-requires
     add-weight
     add-n
     loop-less

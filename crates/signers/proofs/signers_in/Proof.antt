@@ -24,8 +24,8 @@ loop-holds c =
     let a = c .before .before .args in
     (refl, c .before .before .pre .1, filled-none (λ n. inMask (a .which) (a .kind) (a .b) (cellAt (ledgerOf (now (a .rec))) (a .s .0) n)) (a .nodes) (now (a .mask)))
 
-mul-signers-from : tie.Need-mul-signers-from Inv-loop μ-loop
-mul-signers-from c = omega (arith, c .before .before .before .before .pre .1 .few)
+mul-from : tie.Need-mul-from Inv-loop μ-loop
+mul-from c = omega (arith, c .before .before .before .before .pre .1 .few)
 
 signers-from-requires : tie.Need-signers-from-requires Inv-loop μ-loop
 signers-from-requires c κs = c .before .before .before .before .pre .0
@@ -64,7 +64,7 @@ signers-in-spec =
     Inv-loop
     μ-loop
     loop-holds
-    mul-signers-from
+    mul-from
     signers-from-requires
     mul-mask
     slice-write-mask

@@ -11,8 +11,8 @@ use Rattle.tally.proofs.adds.Tie as tie
 enum-told : tie.Need-enum-told
 enum-told c = search needs
 
-add-card-of : tie.Need-add-card-of
-add-card-of c = search needs
+add-both : tie.Need-add-both
+add-both c = search needs
 
 card-of-requires : tie.Need-card-of-requires
 card-of-requires c κs = search needs
@@ -102,7 +102,7 @@ adds-spec =
     tie.close
     (tie.spec
     enum-told
-    add-card-of
+    add-both
     card-of-requires
     enum-told-2
     card-of-requires-2

@@ -26,7 +26,7 @@ start c = c .before .before .before .before .before .before .before
 
 -- What is written is the certificate with the masks of that place.
 named : (c : tie.After-number-in)
-    → certificateOf (record { kind = c .number-in .result; slot = start c .args .s .0; block = start c .args .b }) (now (c .before .before .before .mask-a .result)) (now (c .before .before .mask-b .result))
+    → certificateOf (record { kind = c .number-in .result; slot = start c .args .s; block = start c .args .b }) (now (c .before .before .before .mask-a .result)) (now (c .before .before .mask-b .result))
     ≡ keptCertificate (ledgerOf (now (start c .args .rec))) (start c .args .kind) (start c .args .s .0) (start c .args .b)
 named c =
     let s = start c .args in
