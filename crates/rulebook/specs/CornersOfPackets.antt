@@ -25,10 +25,10 @@ proofs stakes (p ∷ ps) = checkNumber (checkProof stakes p) ∷ proofs stakes p
 abbrev three : List ℕ
 three = 3 ∷ 1 ∷ 1 ∷ []
 
--- 12 and 13 as met, then 4, 3, 5, 14, 15, leftover bytes last.
+-- 1 for no stakes and for more than 2,048; 12 and 13 as met, then 4, 3, 5, 14, 15, leftover bytes last.
 abbrev checkOrder : Bool
 checkOrder =
-    equal (checks [] ([] ∷ [])) (1 ∷ [])
+    equal (checks [] ([] ∷ []) ++ checks (replicate 2049 1) ([] ∷ [])) (1 ∷ 1 ∷ [])
     && equal (checks three ([] ∷ (9 ∷ 0 ∷ 0 ∷ 8 ∷ []) ∷ (9 ∷ 128 ∷ 0 ∷ 0 ∷ []) ∷ (9 ∷ 0 ∷ 0 ∷ 8 ∷ 8 ∷ 0 ∷ []) ∷ (2 ∷ 17 ∷ 0 ∷ 8 ∷ 8 ∷ []) ∷ (2 ∷ 0 ∷ 0 ∷ 8 ∷ 8 ∷ [])
     ∷ (2 ∷ 1 ∷ 0 ∷ 8 ∷ 8 ∷ []) ∷ (2 ∷ 1 ∷ 7 ∷ 8 ∷ 0 ∷ []) ∷ (2 ∷ 1 ∷ 7 ∷ 6 ∷ 0 ∷ 0 ∷ []) ∷ (2 ∷ 1 ∷ 7 ∷ 1 ∷ 0 ∷ 0 ∷ []) ∷ (2 ∷ 16 ∷ 7 ∷ 1 ∷ 0 ∷ []) ∷ []))
     (12 ∷ 12 ∷ 13 ∷ 4 ∷ 3 ∷ 3 ∷ 5 ∷ 14 ∷ 15 ∷ 12 ∷ 0 ∷ [])
