@@ -29,11 +29,12 @@ mixed =
     (1 ∷ 1 ∷ 1 ∷ 7 ∷ []) ++ (1 ∷ 0 ∷ 1 ∷ 7 ∷ []) ++ (5 ∷ 1 ∷ 1 ∷ 0 ∷ []) ++ (1 ∷ 1 ∷ 1 ∷ 7 ∷ []) ++ (1 ∷ 2 ∷ 1 ∷ 7 ∷ [])
     ++ (1 ∷ 2 ∷ 1 ∷ 8 ∷ []) ++ (5 ∷ 2 ∷ 1 ∷ 0 ∷ [])
 
--- The first vote arms the window, the last makes block 7 final; the refused votes between them end nothing.
+-- The first vote arms the window, the last makes block 7 final; the refused votes between them end nothing. A longer outbox and more
+-- places for answers than votes change nothing.
 abbrev middle : Bool
 middle =
-    equals (shown (tray three 480 7 mixed))
-    ((0 ∷ 2 ∷ []) ∷ (0 ∷ 6 ∷ 0 ∷ 7 ∷ 0 ∷ 8 ∷ 0 ∷ []) ∷ (7 ∷ 1 ∷ 0 ∷ 6 ∷ 1 ∷ 7 ∷ []) ∷ [])
+    let whole : List (List ℕ) = (0 ∷ 2 ∷ []) ∷ (0 ∷ 6 ∷ 0 ∷ 7 ∷ 0 ∷ 8 ∷ 0 ∷ []) ∷ (7 ∷ 1 ∷ 0 ∷ 6 ∷ 1 ∷ 7 ∷ []) ∷ [] in
+    all (equals (shown (tray three 480 7 mixed)) whole ∷ equals (shown (tray three 481 7 mixed)) whole ∷ equals (shown (tray three 480 9 mixed)) whole ∷ [])
 
 -- An empty run needs no place for answers and runs no rule: the look after it arms the window.
 abbrev empty : Bool
@@ -48,6 +49,8 @@ order =
     all (equals (shown (tray (fresh (4 ∷ 3 ∷ 3 ∷ []) 4 1) 479 0 part)) (refusedWith 17)
     ∷ equals (shown (tray three 479 1 part)) (refusedWith 9)
     ∷ equals (shown (tray three 480 0 part)) (refusedWith 9)
+    ∷ equals (shown (tray three 480 6 mixed)) (refusedWith 9)
+    ∷ equals (shown (tray three 480 4 (part ++ (part ++ (part ++ part))))) (refusedWith 9)
     ∷ equals (shown (tray three 480 1 part)) (refusedWith 12)
     ∷ equals (shown (tray three 480 0 (1 ∷ 1 ∷ 1 ∷ []))) (refusedWith 12) ∷ [])
 
