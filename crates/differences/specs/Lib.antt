@@ -1,2 +1,3 @@
--- Which votes differ: what is answered and left in a lent list.
+-- Which votes differ: what is answered and left in a lent list, and cases of it computed.
 pub mod Lent
+pub mod CornersOfLent

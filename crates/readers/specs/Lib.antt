@@ -1,2 +1,3 @@
--- What is answered to a host's questions.
+-- What is answered to a host's questions, and cases of it computed.
 pub mod Asked
+pub mod CornersOfAsked

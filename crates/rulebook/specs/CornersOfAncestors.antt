@@ -5,7 +5,7 @@ use Prim.Native.Nat.{ℕ}
 use lib.ListN.{length}
 use lib.Dec.{T}
 use Rattle.rulebook.specs.declared.Input.{Input}
-use Rattle.rulebook.specs.Ledger.{Ledger, putFinal}
+use Rattle.rulebook.specs.Ledger.{Ledger, fresh, rowAt, putTimedOut, putFinal, putClash}
 use Rattle.rulebook.specs.Rules.{ruleG}
 use Rattle.rulebook.specs.Inputs.{feed}
 use Rattle.rulebook.specs.Scripts.{vote, block, look, flatten, answers, stored, told, toldBy, allArmed, ring, equal, equals, all}
@@ -100,6 +100,25 @@ through =
     equals (walk (putFinal (putFinal l 4 41) 5 51) ∷ walk (putFinal (putFinal (putFinal l 3 31) 4 41) 5 51) ∷ walk (putFinal (putFinal l 4 42) 5 51) ∷ walk (putFinal l 4 41) ∷ [])
     ((6 ∷ 3 ∷ 31 ∷ 6 ∷ 2 ∷ 21 ∷ []) ∷ (6 ∷ 2 ∷ 21 ∷ []) ∷ (8 ∷ 4 ∷ 41 ∷ []) ∷ [] ∷ [])
 
-cornersOfAncestors : T (all (wholeChain ∷ halted ∷ eachPlace ∷ overWindows ∷ meetsAnother ∷ newcomer ∷ certificatesFirst ∷ FbeforeG ∷ through ∷ []))
+-- Under genesis 9, with numbers that are not above their slots: down to genesis, which gets no record.
+abbrev smallNumbers : Bool
+smallNumbers =
+    let l = allArmed (fresh (1 ∷ 8 ∷ 1 ∷ []) 0 9) in
+    equal (told (stored l (block 2 1 0 9 ∷ block 3 2 2 1 ∷ block 4 4 3 2 ∷ block 5 3 4 4 ∷ seal 5 3 ∷ []))) (6 ∷ 5 ∷ 3 ∷ 6 ∷ 4 ∷ 4 ∷ 6 ∷ 3 ∷ 2 ∷ 6 ∷ 2 ∷ 1 ∷ [])
+
+-- The final block, the mark and the timeout of a slot.
+abbrev marksOf : Ledger → ℕ → List ℕ
+marksOf l s = let r = rowAt l s in r .final ∷ r .clash ∷ r .timedOut ∷ []
+
+-- Where slots 5 and 4 become final, a mark and a timeout that stand there stay, and none comes; a newcomer's mark leaves the final block.
+abbrev marksStay : Bool
+marksStay =
+    let l = stored watching (fifth ∷ []) in
+    let sealed : Ledger → List (List ℕ) = (λ m. let n = feed m (seal 5 51) .ledger in marksOf n 5 ∷ marksOf n 4 ∷ []) in
+    equals (sealed l ++ (sealed (putTimedOut (putTimedOut l 5) 4) ++ sealed (putClash (putClash l 5) 4)))
+    ((51 ∷ 0 ∷ 0 ∷ []) ∷ (41 ∷ 0 ∷ 0 ∷ []) ∷ (51 ∷ 0 ∷ 1 ∷ []) ∷ (41 ∷ 0 ∷ 1 ∷ []) ∷ (51 ∷ 1 ∷ 0 ∷ []) ∷ (41 ∷ 1 ∷ 0 ∷ []) ∷ [])
+    && equal (marksOf (feed (putFinal (putTimedOut l 5) 5 52) (seal 5 51) .ledger) 5) (52 ∷ 1 ∷ 1 ∷ [])
+
+cornersOfAncestors : T (all (wholeChain ∷ halted ∷ eachPlace ∷ overWindows ∷ meetsAnother ∷ newcomer ∷ certificatesFirst ∷ FbeforeG ∷ through ∷ smallNumbers ∷ marksStay ∷ []))
 unfolding rules
 cornersOfAncestors = tt

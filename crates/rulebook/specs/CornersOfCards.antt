@@ -9,6 +9,7 @@ use Rattle.rulebook.specs.PaperNumbers.{stepPanel}
 use Rattle.rulebook.specs.Tools.{allTo}
 use Rattle.rulebook.specs.Weights.{lastSlot}
 use Rattle.rulebook.specs.Ledger.{Ledger, cardOf, rowAt, putCard}
+use Rattle.rulebook.specs.Cards.{recount}
 use Rattle.rulebook.specs.Inputs.{intake, feed}
 use Rattle.rulebook.specs.WellFormed.{cardFits, wellFormed, step}
 use Rattle.rulebook.specs.Scripts.{vote, block, timeout, look, votes, answers, after, stored, allArmed, ring, equal, equals, all}
@@ -94,7 +95,14 @@ along =
     agree fifths (block 1 7 0 1 ∷ votes 1 (1 ∷ 2 ∷ []) 1 7 ++ votes 3 (3 ∷ 4 ∷ []) 1 0)
     && agree fifths (timeout 1 ∷ vote 1 1 1 23 ∷ vote 1 2 1 22 ∷ vote 1 3 1 21 ∷ vote 3 4 1 0 ∷ votes 4 (3 ∷ 4 ∷ []) 1 0)
 
--- "A node record whose card disagrees with the recount is 17": each of its five words, the other block of a tie, a leader without a
+-- A recount whose leading block is not the lowest, nor the first or the last that is named: blocks 7, 9 and 8 with 2, 5 and 4.
+abbrev recounts : Bool
+recounts =
+    let l = stored five (vote 1 1 1 7 ∷ vote 1 2 1 9 ∷ vote 1 3 1 9 ∷ vote 1 4 1 8 ∷ vote 2 0 1 6 ∷ []) in
+    let again = putCard l 1 (recount l 1) in
+    equals (card l 1 ∷ card again 1 ∷ []) (leading 9 5 ∷ leading 9 5 ∷ []) && cardFits l 1
+
+-- "A node record whose card disagrees with the recount is 17": each of its five words too low and too high, the other block of a tie, a leader without a
 -- vote; in the first slot, in one without votes and in the last; and row 0's.
 abbrev disagree : Bool
 disagree =
@@ -102,11 +110,12 @@ disagree =
     let agrees : ℕ → ℕ → ℕ → ℕ → ℕ → ℕ → Bool = (λ s x y z b w. cardFits (spoiled s x y z b w) s) in
     let unused : ℕ → ℕ → ℕ → ℕ → ℕ → Bool = (λ x y z b w. wellFormed (spoiled 0 x y z b w)) in
     let number : Ledger → ℕ = (λ l. stepPanel (step l 480 look .answer) .number) in
-    all (agrees 1 3 4 5 7 2 ∷ not (agrees 1 2 4 5 7 2) ∷ not (agrees 1 3 5 5 7 2) ∷ not (agrees 1 3 4 6 7 2) ∷ not (agrees 1 3 4 5 9 2) ∷ not (agrees 1 3 4 5 7 4)
+    all (agrees 1 3 4 5 7 2 ∷ not (agrees 1 2 4 5 7 2) ∷ not (agrees 1 4 4 5 7 2) ∷ not (agrees 1 3 3 5 7 2) ∷ not (agrees 1 3 5 5 7 2) ∷ not (agrees 1 3 4 4 7 2) ∷ not (agrees 1 3 4 6 7 2)
+    ∷ not (agrees 1 3 4 5 6 2) ∷ not (agrees 1 3 4 5 9 2) ∷ not (agrees 1 3 4 5 7 1) ∷ not (agrees 1 3 4 5 7 4)
     ∷ not (agrees 1 3 4 5 0 0) ∷ agrees 2 0 0 0 0 0 ∷ not (agrees 2 1 0 0 0 0) ∷ not (agrees 2 0 0 0 7 0) ∷ not (agrees 2 0 0 0 0 1) ∷ not (agrees 16 0 1 0 0 0)
     ∷ not (unused 1 0 0 0 0) ∷ not (unused 0 1 0 0 0) ∷ not (unused 0 0 1 0 0) ∷ not (unused 0 0 0 1 0) ∷ not (unused 0 0 0 0 1) ∷ [])
     && equal (number full ∷ number (spoiled 1 3 4 5 9 2) ∷ number (spoiled 2 1 0 0 0 0) ∷ number (spoiled 16 0 1 0 0 0) ∷ []) (0 ∷ 17 ∷ 17 ∷ 17 ∷ [])
 
-cornersOfCards : T (all (leaders ∷ weights ∷ own ∷ slots ∷ refused ∷ along ∷ disagree ∷ []))
+cornersOfCards : T (all (leaders ∷ weights ∷ own ∷ slots ∷ refused ∷ along ∷ recounts ∷ disagree ∷ []))
 unfolding rules
 cornersOfCards = tt

@@ -147,8 +147,8 @@ order =
     equal (numbers l (spelled [] ∷ spelled (2 ∷ 2 ∷ 7 ∷ 2 ∷ []) ∷ spelled (2 ∷ 2 ∷ 7 ∷ 128 ∷ 0 ∷ 0 ∷ []) ∷ packet 9 0 0 9 9 ∷ packet 12 2 7 2 0 ∷ packet 2 17 0 9 9 ∷ packet 2 2 0 9 9
     ∷ packet 2 2 7 9 0 ∷ packet 2 2 7 4 0 ∷ spelled (2 ∷ 2 ∷ 7 ∷ 2 ∷ 0 ∷ 0 ∷ []) ∷ []))
     (12 ∷ 12 ∷ 13 ∷ 4 ∷ 12 ∷ 3 ∷ 5 ∷ 14 ∷ 15 ∷ 12 ∷ [])
-    && equal (number (putTimedOut l 0) 0 [] ∷ number l 479 [] ∷ number l 480 [] ∷ number l 480 (2 ∷ 2 ∷ 7 ∷ 2 ∷ 0 ∷ []) ∷ number l 480 (2 ∷ 3 ∷ 7 ∷ 2 ∷ 0 ∷ []) ∷ [])
-    (17 ∷ 9 ∷ 12 ∷ 7 ∷ 0 ∷ [])
+    && equal (number (putTimedOut l 0) 0 [] ∷ number l 479 [] ∷ number l 480 [] ∷ number l 480 (2 ∷ 2 ∷ 7 ∷ 2 ∷ 0 ∷ []) ∷ number l 480 (2 ∷ 3 ∷ 7 ∷ 2 ∷ 0 ∷ []) ∷ number l 481 (2 ∷ 2 ∷ 7 ∷ 2 ∷ 0 ∷ []) ∷ [])
+    (17 ∷ 9 ∷ 12 ∷ 7 ∷ 0 ∷ 7 ∷ [])
 
 -- What the certificate writer gives for a kind and a block of slot 2, and the proof writer: the number, then the bytes.
 abbrev written : Wrote → List ℕ
@@ -169,15 +169,22 @@ writers =
     ((0 ∷ 3 ∷ 2 ∷ 7 ∷ 0 ∷ 2 ∷ []) ∷ (0 ∷ 3 ∷ 2 ∷ 7 ∷ 3 ∷ 0 ∷ []) ∷ (0 ∷ 3 ∷ 2 ∷ 7 ∷ 6 ∷ 0 ∷ []) ∷ (0 ∷ 2 ∷ 2 ∷ 7 ∷ 3 ∷ 0 ∷ []) ∷ (0 ∷ 2 ∷ 2 ∷ 7 ∷ 6 ∷ 0 ∷ [])
     ∷ (0 ∷ 1 ∷ 2 ∷ 7 ∷ 6 ∷ 0 ∷ []) ∷ (0 ∷ 3 ∷ 2 ∷ 7 ∷ 2 ∷ 0 ∷ []) ∷ (0 ∷ 2 ∷ 2 ∷ 7 ∷ 2 ∷ 0 ∷ []) ∷ (0 ∷ 4 ∷ 2 ∷ 0 ∷ 0 ∷ 2 ∷ []) ∷ (0 ∷ 5 ∷ 2 ∷ 0 ∷ 2 ∷ 0 ∷ []) ∷ [])
 
--- 18 where none serves: a higher kind, another block, another slot. A proof by votes for kind 2 and a kept 5, and by a kept 1 before both.
+-- Two blocks with a certificate of kind 3: each is written with its own masks.
+abbrev twoKept : Bool
+twoKept =
+    let both : List Arrival = packet 3 2 8 0 2 ∷ packet 3 2 7 6 1 ∷ [] in
+    equals (writes both 3 7 ∷ writes both 3 8 ∷ writes both 3 9 ∷ []) ((0 ∷ 3 ∷ 2 ∷ 7 ∷ 6 ∷ 1 ∷ []) ∷ (0 ∷ 3 ∷ 2 ∷ 8 ∷ 0 ∷ 2 ∷ []) ∷ (18 ∷ []) ∷ [])
+
+-- 18 where none serves: a higher kind, another block, another slot. A proof by votes for kind 2 and a kept 5, by a kept 2 and stored finals,
+-- and by a kept 1 before both.
 abbrev proofs : Bool
 proofs =
     let proof : List Arrival → List ℕ = (λ cs. written (writeProof (having three cs) 64 2 7)) in
     let node1 = ofInput (vote 1 1 2 7) in
     equals (writes (packet 2 2 7 2 0 ∷ []) 1 7 ∷ writes (packet 3 2 7 2 0 ∷ []) 2 7 ∷ writes (packet 1 2 8 6 0 ∷ []) 3 7 ∷ writes (packet 2 3 7 2 0 ∷ []) 2 7 ∷ writes (packet 5 2 0 2 0 ∷ []) 4 0 ∷ [])
     (replicate 5 (18 ∷ []))
-    && equals (proof (node1 ∷ packet 5 2 0 6 0 ∷ []) ∷ proof (node1 ∷ packet 5 2 0 6 0 ∷ packet 1 2 7 7 0 ∷ []) ∷ proof (packet 3 2 7 2 0 ∷ packet 5 2 0 2 0 ∷ []) ∷ [])
-    ((0 ∷ 2 ∷ 2 ∷ 7 ∷ 2 ∷ 0 ∷ 5 ∷ 2 ∷ 0 ∷ 6 ∷ 0 ∷ []) ∷ (0 ∷ 1 ∷ 2 ∷ 7 ∷ 7 ∷ 0 ∷ []) ∷ (18 ∷ []) ∷ [])
+    && equals (proof (node1 ∷ packet 5 2 0 6 0 ∷ []) ∷ proof (packet 2 2 7 6 0 ∷ ofInput (vote 5 1 2 0) ∷ []) ∷ proof (packet 2 2 7 3 0 ∷ packet 5 2 0 6 0 ∷ []) ∷ proof (node1 ∷ packet 5 2 0 6 0 ∷ packet 1 2 7 7 0 ∷ []) ∷ proof (packet 3 2 7 2 0 ∷ packet 5 2 0 2 0 ∷ []) ∷ [])
+    ((0 ∷ 2 ∷ 2 ∷ 7 ∷ 2 ∷ 0 ∷ 5 ∷ 2 ∷ 0 ∷ 6 ∷ 0 ∷ []) ∷ (0 ∷ 2 ∷ 2 ∷ 7 ∷ 6 ∷ 0 ∷ 5 ∷ 2 ∷ 0 ∷ 2 ∷ 0 ∷ []) ∷ (0 ∷ 2 ∷ 2 ∷ 7 ∷ 3 ∷ 0 ∷ 5 ∷ 2 ∷ 0 ∷ 6 ∷ 0 ∷ []) ∷ (0 ∷ 1 ∷ 2 ∷ 7 ∷ 7 ∷ 0 ∷ []) ∷ (18 ∷ []) ∷ [])
 
 -- 65 nodes, the last of which has 60 percent: kinds 11 to 15 are kept by their meaning, and kind 13 is written back as it came.
 abbrev large : Bool
@@ -187,6 +194,18 @@ large =
     let kept = having l (ofPacket (bytes 13) ∷ []) in
     equal (numbers l (ofPacket (bytes 13) ∷ []) ++ numbers kept (ofPacket (bytes 13) ∷ ofPacket (bytes 12) ∷ packet 3 2 7 2 0 ∷ [])) (0 ∷ 7 ∷ 0 ∷ 4 ∷ [])
     && (equal (writeCertificate kept 768 (kindIn 65 13) 2 7 .bytes) (bytes 13) && (headFits kept && rowFits kept 2))
+
+-- What a kind is called goes by the number of nodes, not by their stake: three nodes with a total above 64 take, keep, know again and write
+-- kinds 1 to 5, by votes and by kept masks, in buffers of 32 and 64 bytes.
+abbrev heavy : Bool
+heavy =
+    let l = allArmed (ring (100 ∷ 300 ∷ 100 ∷ []) []) in
+    let fast = packet 1 2 7 6 0 in
+    let back : List Arrival → ℕ → ℕ → List ℕ = (λ cs k b. written (writeCertificate (having l cs) 32 (kindIn 3 k) 2 b)) in
+    let proof : List Arrival → List ℕ = (λ cs. written (writeProof (having l cs) 64 2 7)) in
+    equals (answered l (fast ∷ fast ∷ packet 4 2 0 2 0 ∷ packet 4 2 0 4 2 ∷ [])) ((0 ∷ 6 ∷ 2 ∷ 7 ∷ []) ∷ (7 ∷ []) ∷ nothing ∷ (7 ∷ []) ∷ [])
+    && equals (back (fast ∷ []) 1 7 ∷ back (packet 3 2 7 0 2 ∷ []) 3 7 ∷ back (ofInput (vote 1 1 2 7) ∷ []) 2 7 ∷ proof (fast ∷ []) ∷ proof (ofInput (vote 1 1 2 7) ∷ ofInput (vote 5 1 2 0) ∷ []) ∷ [])
+    ((0 ∷ 1 ∷ 2 ∷ 7 ∷ 6 ∷ 0 ∷ []) ∷ (0 ∷ 3 ∷ 2 ∷ 7 ∷ 0 ∷ 2 ∷ []) ∷ (0 ∷ 2 ∷ 2 ∷ 7 ∷ 2 ∷ 0 ∷ []) ∷ (0 ∷ 1 ∷ 2 ∷ 7 ∷ 6 ∷ 0 ∷ []) ∷ (0 ∷ 2 ∷ 2 ∷ 7 ∷ 2 ∷ 0 ∷ 5 ∷ 2 ∷ 0 ∷ 2 ∷ 0 ∷ []) ∷ [])
 
 -- "A record whose kept certificate the checker refuses, or repeats another, is 17": one certificate in place i.
 abbrev placed : ℕ → ℕ → ℕ → ℕ → List Kept
@@ -209,6 +228,6 @@ records =
     ∷ not (third (7 ∷ 0 ∷ 8 ∷ [])) ∷ not (third (0 ∷ 7 ∷ [])) ∷ stands 16 1 7 2 0 ∷ not (stands 16 1 7 4 0)
     ∷ not (stands 0 2 0 2 0) ∷ not (stands 0 2 0 0 2) ∷ not (stands 0 12 7 0 0) ∷ [])
 
-cornersOfCertificates : T (all (arms ∷ finals ∷ lowestFinal ∷ finalVote ∷ weightsStay ∷ repeats ∷ tenth ∷ order ∷ writers ∷ proofs ∷ large ∷ records ∷ []))
+cornersOfCertificates : T (all (arms ∷ finals ∷ lowestFinal ∷ finalVote ∷ weightsStay ∷ repeats ∷ tenth ∷ order ∷ writers ∷ twoKept ∷ proofs ∷ heavy ∷ large ∷ records ∷ []))
 unfolding rules
 cornersOfCertificates = tt

@@ -50,18 +50,18 @@ met =
     all (reads 12 4 (9 ∷ []) ∷ reads 12 4 (9 ∷ 3 ∷ 2 ∷ []) ∷ reads 12 4 (1 ∷ 3 ∷ 2 ∷ 0x87 ∷ []) ∷ reads 13 4 (0x80 ∷ 0 ∷ [])
     ∷ reads 13 4 (9 ∷ 0x80 ∷ 0 ∷ []) ∷ reads 13 4 (1 ∷ 3 ∷ 2 ∷ 0x87 ∷ 0 ∷ []) ∷ reads 12 4 (9 ∷ 0x80 ∷ []) ∷ [])
 
--- "then 4, 3, 2, 5, and 12 for leftovers last": each where all later ones are due too, and alone.
+-- "then 4, 3, 2, 5, and 12 for leftovers last": each where all later ones are due too, and alone; 2 far beyond the table as well.
 abbrev ordered : Bool
 ordered =
     all (reads 4 4 (6 ∷ 4 ∷ 17 ∷ 0 ∷ 0 ∷ []) ∷ reads 3 4 (1 ∷ 4 ∷ 17 ∷ 0 ∷ 0 ∷ []) ∷ reads 2 4 (1 ∷ 4 ∷ 16 ∷ 0 ∷ 0 ∷ [])
     ∷ reads 5 4 (1 ∷ 3 ∷ 16 ∷ 0 ∷ 0 ∷ []) ∷ reads 12 4 (1 ∷ 3 ∷ 16 ∷ 7 ∷ 0 ∷ [])
-    ∷ reads 4 4 (0 ∷ 3 ∷ 1 ∷ 0 ∷ []) ∷ reads 3 4 (3 ∷ 3 ∷ 0 ∷ 0 ∷ []) ∷ reads 2 4 (3 ∷ 4 ∷ 1 ∷ 0 ∷ []) ∷ reads 5 4 (4 ∷ 3 ∷ 1 ∷ 7 ∷ []) ∷ [])
+    ∷ reads 4 4 (0 ∷ 3 ∷ 1 ∷ 0 ∷ []) ∷ reads 3 4 (3 ∷ 3 ∷ 0 ∷ 0 ∷ []) ∷ reads 2 4 (3 ∷ 4 ∷ 1 ∷ 0 ∷ []) ∷ reads 2 4 (3 ∷ 99 ∷ 1 ∷ 0 ∷ []) ∷ reads 5 4 (4 ∷ 3 ∷ 1 ∷ 7 ∷ []) ∷ [])
 
 -- "The writer needs 16 bytes, or it gives 9; after that 4, 3, 2, 5."
 abbrev written : Bool
 written =
-    all (writes 9 4 15 6 4 17 0 ∷ writes 4 4 16 6 4 17 0 ∷ writes 3 4 16 1 4 17 0 ∷ writes 2 4 16 1 4 16 0 ∷ writes 5 4 16 1 3 16 0
-    ∷ writes 5 4 16 5 3 16 7 ∷ writes 9 4 15 1 3 16 7 ∷ [])
+    all (writes 9 4 15 6 4 17 0 ∷ writes 4 4 16 6 4 17 0 ∷ writes 3 4 16 1 4 17 0 ∷ writes 2 4 16 1 4 16 0 ∷ writes 2 4 16 1 99 16 0 ∷ writes 5 4 16 1 3 16 0
+    ∷ writes 5 4 16 5 3 16 7 ∷ writes 9 4 15 1 3 16 7 ∷ equal (packed 4 17 1 3 16 7) (0 ∷ 4 ∷ 1 ∷ 3 ∷ 16 ∷ 7 ∷ []) ∷ [])
 
 messages : T (all (spelled ∷ counts ∷ met ∷ ordered ∷ written ∷ []))
 unfolding rules

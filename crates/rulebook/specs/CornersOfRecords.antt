@@ -10,7 +10,9 @@ use Rattle.rulebook.specs.declared.Input.{Input}
 use Rattle.rulebook.specs.PaperNumbers.{stepPanel}
 use Rattle.rulebook.specs.Tools.{choose}
 use Rattle.rulebook.specs.Weights.{lastSlot, windows}
-use Rattle.rulebook.specs.Ledger.{Ledger, none, noBlock, blankRow, rowAt, putRow, putCell, putBlocks, putTimedOut, putFinal, putClash, fresh}
+use Rattle.rulebook.specs.declared.Tally.{Tally}
+use Rattle.rulebook.specs.Certificates.{Kept}
+use Rattle.rulebook.specs.Ledger.{Ledger, Row, none, noBlock, blankRow, cardOf, rowAt, putRow, putCell, putCard, putVote, putBlocks, putCertificates, putTimedOut, putFinal, putClash, putArmed, fresh}
 use Rattle.rulebook.specs.WellFormed.{blocksFit, headFits, wellFormed, step}
 use Rattle.rulebook.specs.Scripts.{vote, look, cell, recounted, withVotes, ring, equal, all}
 use Rattle.rulebook.specs.Computes.{rules}
@@ -80,6 +82,13 @@ ownByNotar =
     let own : ℕ → Ledger → Bool = (λ s m. wellFormed (withVotes (withVotes m s 0 (cell 0 0 8 0 0 0 0)) s 1 (cell 8 0 0 0 0 0 0))) in
     all (own 1 l ∷ own 2 l ∷ not (own 1 (ring (4 ∷ 1 ∷ []) [])) ∷ not (own 2 (ring (4 ∷ 1 ∷ []) [])) ∷ [])
 
+-- A slot in which every node has a notar vote, for one block or for three, and one in which each has every vote that it can have.
+abbrev fullSlots : Bool
+fullSlots =
+    let fits : List Cell → Bool = (λ cs. wellFormed (ring (1 ∷ 1 ∷ 1 ∷ []) cs)) in
+    let most : Cell = cell 7 0 21 22 23 1 1 in
+    all (fits (cell 7 0 0 0 0 0 0 ∷ cell 7 0 0 0 0 0 0 ∷ cell 7 0 0 0 0 0 0 ∷ []) ∷ fits (cell 9 0 0 0 0 0 0 ∷ cell 8 0 0 0 0 0 0 ∷ cell 7 0 0 0 0 0 0 ∷ []) ∷ fits (cell 7 0 7 0 0 1 1 ∷ most ∷ most ∷ []) ∷ [])
+
 -- Unused cells: those of row 0, the first and the last.
 abbrev unusedCells : Bool
 unusedCells =
@@ -141,6 +150,13 @@ heads =
     ∷ not (headed 2 10 3 a w) ∷ begun 1 ∷ not (begun 0) ∷ not (headed 2 10 0 (set a 0 2) w) ∷ not (headed 2 10 0 (set a 1 2) w) ∷ not (headed 2 10 0 (set a 2 2) w)
     ∷ not (headed 2 10 0 (set a 3 2) w) ∷ not (headed 2 6 0 a (set w 1 0)) ∷ not (headed 2 10 0 a (w ++ (1 ∷ []))) ∷ not (headed 2 (2 ^ 48 + 1) 0 a (set (set w 0 (2 ^ 48)) 1 1)) ∷ [])
 
+-- Genesis 9: a kept block's parent in slot 0 is 9.
+abbrev otherGenesis : Bool
+otherGenesis =
+    let l = fresh (6 ∷ 4 ∷ []) 0 9 in
+    let fits : ℕ → Bool = (λ g. wellFormed (withBlock l 2 (blockOf 7 0 g))) in
+    all (headFits l ∷ fits 9 ∷ not (fits 1) ∷ not (fits 8) ∷ not (fits 10) ∷ [])
+
 -- A ring of n nodes of stake 1 whose record has p places.
 abbrev sized : ℕ → ℕ → Ledger
 sized n p =
@@ -160,13 +176,61 @@ lengths =
     let fits : ℕ → ℕ → Bool = (λ n p. wellFormed (sized n p)) in
     all (fits 1 1 ∷ not (fits 1 2) ∷ not (fits 2 1) ∷ fits 2 2 ∷ not (fits 1 64) ∷ headFits (sized 64 64) ∷ not (fits 64 65) ∷ not (fits 64 63) ∷ not (fits 65 64) ∷ fits 65 65 ∷ not (fits 65 66) ∷ [])
 
--- 17 before 9, 9 before all else; 479 words are too few, 480 are enough. The last two: a record with own fallbacks, in range and not.
+-- ---- each write touches what it names
+
+-- A row with one place for each thing, and the numbers that it keeps.
+abbrev rowOf : Block → ℕ → ℕ → ℕ → Tally → Kept → Cell → Row
+rowOf b t f c card q v = record { blocks = b ∷ []; timedOut = t; final = f; clash = c; card = card; certificates = q ∷ []; cells = v ∷ [] }
+
+abbrev keptOf : ℕ → ℕ → ℕ → Kept
+keptOf b x y = record { block = b; maska = x; maskb = y }
+
+abbrev inBlocks : List Block → List ℕ
+inBlocks [] = []
+inBlocks (b ∷ bs) = b .number ∷ b .parentslot .0 ∷ b .parent ∷ inBlocks bs
+
+abbrev inKept : List Kept → List ℕ
+inKept [] = []
+inKept (q ∷ qs) = q .block ∷ q .maska ∷ q .maskb ∷ inKept qs
+
+abbrev inCells : List Cell → List ℕ
+inCells [] = []
+inCells (c ∷ cs) = c .notar ∷ c .skip ∷ c .fallback1 ∷ c .fallback2 ∷ c .fallback3 ∷ c .skipfallback ∷ c .finalvote ∷ inCells cs
+
+abbrev inCard : Tally → List ℕ
+inCard t = t .skip .0 ∷ t .finals .0 ∷ t .skipcert .0 ∷ t .leader ∷ t .weight .0 ∷ []
+
+abbrev inRows : List Row → List ℕ
+inRows [] = []
+inRows (r ∷ rs) = inBlocks (r .blocks) ++ (r .timedOut ∷ r .final ∷ r .clash ∷ inCard (r .card) ++ (inKept (r .certificates) ++ (inCells (r .cells) ++ inRows rs)))
+
+abbrev inLedger : Ledger → List ℕ
+inLedger l = l .count ∷ l .total ∷ l .own ∷ l .genesis ∷ l .armed ++ (l .stakes ++ inRows (l .rows))
+
+-- Slot 1 of a ledger with another number in each of its places: what a write there leaves, and what is expected of it.
+abbrev touches : Bool
+touches =
+    let b = blockOf 31 32 33 in
+    let t = cardOf 41 42 43 44 45 in
+    let q = keptOf 51 52 53 in
+    let v = cell 61 62 63 64 65 66 67 in
+    let other = rowOf (blockOf 71 72 73) 74 75 76 (cardOf 77 78 79 80 81) (keptOf 82 83 84) (cell 85 86 87 88 89 90 91) in
+    let ledger : List ℕ → Row → Ledger = (λ a r. record { count = 11; total = 12; own = 13; genesis = 14; armed = a; stakes = 19 ∷ []; rows = other ∷ r ∷ other ∷ [] }) in
+    let a : List ℕ = 15 ∷ 16 ∷ 17 ∷ 18 ∷ [] in
+    let l = ledger a (rowOf b 21 22 23 t q v) in
+    let leaves : Ledger → Row → Bool = (λ m r. equal (inLedger m) (inLedger (ledger a r))) in
+    all (leaves (putCell l 1 0 (cell 1 2 3 4 5 6 7)) (rowOf b 21 22 23 t q (cell 1 2 3 4 5 6 7)) ∷ leaves (putCard l 1 (cardOf 1 2 3 4 5)) (rowOf b 21 22 23 (cardOf 1 2 3 4 5) q v)
+    ∷ leaves (putVote l 1 0 (cell 1 2 3 4 5 6 7) (cardOf 1 2 3 4 5)) (rowOf b 21 22 23 (cardOf 1 2 3 4 5) q (cell 1 2 3 4 5 6 7)) ∷ leaves (putBlocks l 1 (blockOf 1 2 3 ∷ [])) (rowOf (blockOf 1 2 3) 21 22 23 t q v)
+    ∷ leaves (putCertificates l 1 (keptOf 1 2 3 ∷ [])) (rowOf b 21 22 23 t (keptOf 1 2 3) v) ∷ leaves (putTimedOut l 1) (rowOf b 1 22 23 t q v) ∷ leaves (putFinal l 1 9) (rowOf b 21 9 23 t q v)
+    ∷ leaves (putClash l 1) (rowOf b 21 22 1 t q v) ∷ equal (inLedger (putArmed l 6)) (inLedger (ledger (15 ∷ 1 ∷ 17 ∷ 18 ∷ []) (rowOf b 21 22 23 t q v))) ∷ [])
+
+-- 17 before 9, 9 before all else; 479 words are too few, 480 and more are enough. The last two: a record with own fallbacks, in range and not.
 abbrev stepOrder : Bool
 stepOrder =
     let number : Ledger → ℕ → Input → ℕ = (λ l room i. stepPanel (step l room i .answer) .number) in
-    equal (number (putTimedOut odd 0) 0 (vote 9 0 0 0) ∷ number odd 479 (vote 9 0 0 0) ∷ number odd 480 (vote 9 0 0 0) ∷ number (fifths (cell 0 1 21 22 23 0 0)) 480 look ∷ number (fifths (cell 0 1 21 22 24 0 0)) 480 look ∷ [])
-    (17 ∷ 9 ∷ 4 ∷ 0 ∷ 17 ∷ [])
+    equal (number (putTimedOut odd 0) 0 (vote 9 0 0 0) ∷ number odd 479 (vote 9 0 0 0) ∷ number odd 480 (vote 9 0 0 0) ∷ number odd 481 (vote 9 0 0 0) ∷ number (fifths (cell 0 1 21 22 23 0 0)) 480 look ∷ number (fifths (cell 0 1 21 22 24 0 0)) 480 look ∷ [])
+    (17 ∷ 9 ∷ 4 ∷ 4 ∷ 0 ∷ 17 ∷ [])
 
-cornersOfRecords : T (all (cells ∷ ownFallbacks ∷ ownByNotar ∷ unusedCells ∷ keptBlocks ∷ numbersApart ∷ marks ∷ heads ∷ lengths ∷ stepOrder ∷ []))
+cornersOfRecords : T (all (cells ∷ ownFallbacks ∷ ownByNotar ∷ fullSlots ∷ unusedCells ∷ keptBlocks ∷ numbersApart ∷ marks ∷ heads ∷ otherGenesis ∷ lengths ∷ touches ∷ stepOrder ∷ []))
 unfolding rules
 cornersOfRecords = tt

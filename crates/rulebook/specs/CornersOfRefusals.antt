@@ -1,11 +1,12 @@
 -- Computed cases of the refusals: every number in its place in the order, and each of the ways in which an input earns it.
-use mathlib.Core.Bool.{Bool, true, false, _&&_}
+use mathlib.Core.Bool.{Bool, true, false, not, _&&_}
 use mathlib.Core.List.{List, [], _∷_, _++_}
 use Prim.Native.Nat.{ℕ, _-_, _^_}
 use lib.ListN.{replicate}
 use lib.Dec.{T}
+use Rattle.rulebook.specs.declared.Input.{Input}
 use Rattle.rulebook.specs.PaperNumbers.{verdictNumber, writePanel, kindIn}
-use Rattle.rulebook.specs.Ledger.{Ledger, noCell, putArmed, putTimedOut}
+use Rattle.rulebook.specs.Ledger.{Ledger, cellAt, putArmed, putTimedOut, fresh, keepsBlock}
 use Rattle.rulebook.specs.Inputs.{startVerdict}
 use Rattle.rulebook.specs.Writers.{writeCertificate, writeProof, over}
 use Rattle.rulebook.specs.Scripts.{vote, block, timeout, look, answers, stored, laterArmed, allArmed, cell, ring, equal, equals, all}
@@ -15,12 +16,12 @@ use Rattle.rulebook.specs.Computes.{rules}
 abbrev three : Ledger
 three = allArmed (ring (8 ∷ 1 ∷ 1 ∷ []) [])
 
--- Each vote is wrong in every later way too, as far as one vote can be; 5 for each kind.
+-- Each vote is wrong in every later way too, as far as one vote can be; 2 just past the table and far beyond it; 5 for each kind.
 abbrev voteOrder : Bool
 voteOrder =
-    equals (answers three (vote 0 99 17 0 ∷ vote 6 99 17 0 ∷ vote 1 99 17 0 ∷ vote 1 99 0 0 ∷ vote 1 3 1 0 ∷ vote 1 0 1 0
+    equals (answers three (vote 0 99 17 0 ∷ vote 6 99 17 0 ∷ vote 1 99 17 0 ∷ vote 1 99 0 0 ∷ vote 1 3 1 0 ∷ vote 1 99 1 0 ∷ vote 1 0 1 0
     ∷ vote 1 1 1 0 ∷ vote 2 1 1 0 ∷ vote 3 1 1 5 ∷ vote 4 1 1 5 ∷ vote 5 1 1 5 ∷ []))
-    ((4 ∷ []) ∷ (4 ∷ []) ∷ (3 ∷ []) ∷ (3 ∷ []) ∷ (2 ∷ []) ∷ (6 ∷ []) ∷ (5 ∷ []) ∷ (5 ∷ []) ∷ (5 ∷ []) ∷ (5 ∷ []) ∷ (5 ∷ []) ∷ [])
+    ((4 ∷ []) ∷ (4 ∷ []) ∷ (3 ∷ []) ∷ (3 ∷ []) ∷ (2 ∷ []) ∷ (2 ∷ []) ∷ (6 ∷ []) ∷ (5 ∷ []) ∷ (5 ∷ []) ∷ (5 ∷ []) ∷ (5 ∷ []) ∷ (5 ∷ []) ∷ [])
 
 -- 7 before 8, in each place of a cell, for genesis's number as for any; the last slot has its places too.
 abbrev places : Bool
@@ -30,6 +31,22 @@ places =
     ∷ vote 4 1 1 0 ∷ vote 4 1 1 0 ∷ vote 5 1 16 0 ∷ vote 5 1 16 0 ∷ []))
     ((0 ∷ []) ∷ (7 ∷ []) ∷ (8 ∷ []) ∷ (8 ∷ []) ∷ (0 ∷ []) ∷ (7 ∷ []) ∷ (8 ∷ []) ∷ (0 ∷ []) ∷ (0 ∷ []) ∷ (0 ∷ []) ∷ (7 ∷ []) ∷ (8 ∷ [])
     ∷ (0 ∷ []) ∷ (7 ∷ []) ∷ (0 ∷ []) ∷ (7 ∷ []) ∷ [])
+
+-- A node's votes in a slot, its seven places in their order.
+abbrev kept : Ledger → ℕ → ℕ → List ℕ
+kept l s n =
+    let c = cellAt l s n in c .notar ∷ c .skip ∷ c .fallback1 ∷ c .fallback2 ∷ c .fallback3 ∷ c .skipfallback ∷ c .finalvote ∷ []
+
+-- Votes of a node in any order stand beside each other: an initial vote behind fallbacks of either kind and behind a final, and they behind
+-- it. Each is kept in its place, and nothing else changes.
+abbrev besideEachOther : Bool
+besideEachOther =
+    let others : List Input = vote 2 1 2 5 ∷ vote 4 1 2 0 ∷ vote 2 1 2 6 ∷ vote 5 1 2 0 ∷ vote 2 1 2 7 ∷ [] in
+    let after : List Input → List ℕ = (λ is. kept (stored three is) 2 1) in
+    equals (answers three (vote 2 1 2 9 ∷ vote 1 1 2 7 ∷ vote 5 2 2 0 ∷ vote 3 2 2 0 ∷ vote 5 1 3 0 ∷ vote 1 1 3 7 ∷ vote 2 2 3 8 ∷ vote 3 2 3 0 ∷ vote 4 1 4 0 ∷ vote 1 1 4 7 ∷ vote 5 1 4 0 ∷ []))
+    (replicate 11 (0 ∷ []))
+    && equals (after others ∷ after (others ++ (vote 1 1 2 8 ∷ [])) ∷ after (others ++ (vote 3 1 2 0 ∷ [])) ∷ after (vote 1 1 2 8 ∷ others) ∷ after (vote 3 1 2 0 ∷ others) ∷ [])
+    ((0 ∷ 0 ∷ 5 ∷ 6 ∷ 7 ∷ 1 ∷ 1 ∷ []) ∷ (8 ∷ 0 ∷ 5 ∷ 6 ∷ 7 ∷ 1 ∷ 1 ∷ []) ∷ (0 ∷ 1 ∷ 5 ∷ 6 ∷ 7 ∷ 1 ∷ 1 ∷ []) ∷ (8 ∷ 0 ∷ 5 ∷ 6 ∷ 7 ∷ 1 ∷ 1 ∷ []) ∷ (0 ∷ 1 ∷ 5 ∷ 6 ∷ 7 ∷ 1 ∷ 1 ∷ []) ∷ [])
 
 -- 11 for a parent in the slot itself, above it, or in slot 0 with another number than genesis, also where that very block is kept;
 -- 7 needs number, parent's slot and parent equal; the number with another parent is 8.
@@ -48,6 +65,25 @@ fourBlocks =
     ((0 ∷ []) ∷ (0 ∷ []) ∷ (7 ∷ []) ∷ (8 ∷ []) ∷ (0 ∷ []) ∷ (0 ∷ []) ∷ (8 ∷ []) ∷ (0 ∷ [])
     ∷ (7 ∷ []) ∷ (7 ∷ []) ∷ (7 ∷ []) ∷ (7 ∷ []) ∷ (8 ∷ []) ∷ (8 ∷ []) ∷ (8 ∷ []) ∷ (8 ∷ []) ∷ (0 ∷ []) ∷ [])
 
+-- A kept number announced again with a higher and a lower parent, and with a parent in a higher and in a lower slot, is 8; a higher and a
+-- lower number with the kept one's parent is new. Block 0 with a good parent is 5. A number need not be above a slot.
+abbrev announcedAgain : Bool
+announcedAgain =
+    equals (answers (stored three (block 4 8 2 7 ∷ [])) (block 4 8 2 8 ∷ block 4 8 2 6 ∷ block 4 8 3 7 ∷ block 4 8 1 7 ∷ block 4 0 2 7 ∷ block 4 9 2 7 ∷ block 4 2 2 7 ∷ block 4 8 2 7 ∷ block 4 1 3 1 ∷ []))
+    ((8 ∷ []) ∷ (8 ∷ []) ∷ (8 ∷ []) ∷ (8 ∷ []) ∷ (5 ∷ []) ∷ (0 ∷ []) ∷ (0 ∷ []) ∷ (7 ∷ []) ∷ (0 ∷ []) ∷ [])
+
+-- Which blocks of a slot are kept with which parents.
+abbrev keeping : Bool
+keeping =
+    let l = stored three (block 4 8 2 7 ∷ block 4 9 3 6 ∷ []) in
+    all (keepsBlock l 4 8 2 7 ∷ keepsBlock l 4 9 3 6 ∷ not (keepsBlock l 3 8 2 7) ∷ not (keepsBlock l 4 8 3 6) ∷ not (keepsBlock l 4 9 2 6) ∷ not (keepsBlock l 4 9 3 7) ∷ not (keepsBlock l 4 7 2 7)
+    ∷ not (keepsBlock l 4 0 0 0) ∷ [])
+
+-- Under genesis 9 a parent in slot 0 is 9, and any other is 11.
+abbrev otherGenesis : Bool
+otherGenesis =
+    equals (answers (allArmed (fresh (8 ∷ 1 ∷ 1 ∷ []) 1 9)) (block 2 8 0 1 ∷ block 2 8 0 8 ∷ block 2 8 0 10 ∷ block 2 8 0 9 ∷ [])) ((11 ∷ []) ∷ (11 ∷ []) ∷ (11 ∷ []) ∷ (0 ∷ []) ∷ [])
+
 abbrev timeoutOrder : Bool
 timeoutOrder =
     equals (answers (putTimedOut (putTimedOut (putArmed (ring (8 ∷ 1 ∷ 1 ∷ []) []) 1) 5) 1) (timeout 17 ∷ timeout 0 ∷ timeout 5 ∷ timeout 1 ∷ []))
@@ -57,13 +93,13 @@ timeoutOrder =
 abbrev noRuleRun : Bool
 noRuleRun = equals (answers (laterArmed (ring (8 ∷ 1 ∷ 1 ∷ []) [])) (vote 9 1 1 0 ∷ timeout 1 ∷ look ∷ [])) ((4 ∷ []) ∷ (10 ∷ []) ∷ (0 ∷ 7 ∷ 1 ∷ 0 ∷ []) ∷ [])
 
--- 1: no node, more than 2,048, a stake of 0, a total above 2^48, an own number past the table, genesis 0.
+-- 1: no node, more than 2,048, a stake of 0, a total above 2^48, an own number just past the table and far beyond it, genesis 0.
 abbrev starts : Bool
 starts =
     equal (verdictNumber (startVerdict [] 0 1) ∷ verdictNumber (startVerdict (replicate 2049 1) 0 1) ∷ verdictNumber (startVerdict (replicate 65 1) 64 1)
     ∷ verdictNumber (startVerdict (1 ∷ 0 ∷ []) 0 1) ∷ verdictNumber (startVerdict ((2 ^ 48) ∷ 1 ∷ []) 0 1) ∷ verdictNumber (startVerdict ((2 ^ 48 - 1) ∷ 1 ∷ []) 0 1)
-    ∷ verdictNumber (startVerdict (1 ∷ []) 1 1) ∷ verdictNumber (startVerdict (1 ∷ []) 0 0) ∷ [])
-    (1 ∷ 1 ∷ 0 ∷ 1 ∷ 1 ∷ 0 ∷ 1 ∷ 1 ∷ [])
+    ∷ verdictNumber (startVerdict (1 ∷ []) 1 1) ∷ verdictNumber (startVerdict (1 ∷ 1 ∷ []) 9 1) ∷ verdictNumber (startVerdict (1 ∷ []) 0 0) ∷ verdictNumber (startVerdict (1 ∷ []) 0 9) ∷ [])
+    (1 ∷ 1 ∷ 0 ∷ 1 ∷ 1 ∷ 0 ∷ 1 ∷ 1 ∷ 1 ∷ 0 ∷ [])
 
 -- ---- the writers
 
@@ -77,8 +113,8 @@ writerOrder =
     let proof : ℕ → ℕ → ℕ → ℕ = (λ room s b. writePanel (writeProof voted room s b .answer) .number) in
     equal (certificate 31 9 0 0 ∷ certificate 32 9 0 0 ∷ certificate 32 1 0 0 ∷ certificate 32 1 17 0 ∷ certificate 32 1 1 0 ∷ certificate 32 2 1 0 ∷ certificate 32 3 1 0
     ∷ certificate 32 4 1 7 ∷ certificate 32 5 1 7 ∷ certificate 32 1 1 8 ∷ certificate 32 4 1 0 ∷ certificate 32 1 1 7 ∷ certificate 32 2 1 7 ∷ certificate 32 3 1 7
-    ∷ certificate 32 5 1 0 ∷ proof 63 0 0 ∷ proof 64 0 0 ∷ proof 64 1 0 ∷ proof 64 1 8 ∷ proof 64 1 7 ∷ [])
-    (9 ∷ 4 ∷ 3 ∷ 3 ∷ 5 ∷ 5 ∷ 5 ∷ 5 ∷ 5 ∷ 18 ∷ 18 ∷ 0 ∷ 0 ∷ 0 ∷ 0 ∷ 9 ∷ 3 ∷ 5 ∷ 18 ∷ 0 ∷ [])
+    ∷ certificate 32 5 1 0 ∷ certificate 33 5 1 0 ∷ proof 63 0 0 ∷ proof 64 0 0 ∷ proof 64 17 0 ∷ proof 64 1 0 ∷ proof 64 1 8 ∷ proof 64 1 7 ∷ proof 999 1 7 ∷ [])
+    (9 ∷ 4 ∷ 3 ∷ 3 ∷ 5 ∷ 5 ∷ 5 ∷ 5 ∷ 5 ∷ 18 ∷ 18 ∷ 0 ∷ 0 ∷ 0 ∷ 0 ∷ 0 ∷ 9 ∷ 3 ∷ 3 ∷ 5 ∷ 18 ∷ 0 ∷ 0 ∷ [])
 
 -- All stored signers, a node with both votes in mask A alone; a refused writer writes nothing; bytes past a packet stay.
 abbrev written : Bool
@@ -90,6 +126,6 @@ written =
     ((1 ∷ 1 ∷ 7 ∷ 3 ∷ 0 ∷ []) ∷ (2 ∷ 1 ∷ 7 ∷ 3 ∷ 0 ∷ []) ∷ (3 ∷ 1 ∷ 7 ∷ 3 ∷ 4 ∷ []) ∷ (5 ∷ 1 ∷ 0 ∷ 1 ∷ 0 ∷ []) ∷ [] ∷ (1 ∷ 1 ∷ 7 ∷ 3 ∷ 0 ∷ []) ∷ []
     ∷ (4 ∷ 1 ∷ 0 ∷ 1 ∷ 2 ∷ []) ∷ (2 ∷ 1 ∷ 7 ∷ 6 ∷ 0 ∷ 5 ∷ 1 ∷ 0 ∷ 6 ∷ 0 ∷ []) ∷ (1 ∷ 2 ∷ 8 ∷ 9 ∷ []) ∷ (6 ∷ 7 ∷ []) ∷ [])
 
-cornersOfRefusals : T (all (voteOrder ∷ places ∷ blockOrder ∷ fourBlocks ∷ timeoutOrder ∷ noRuleRun ∷ starts ∷ writerOrder ∷ written ∷ []))
+cornersOfRefusals : T (all (voteOrder ∷ places ∷ besideEachOther ∷ blockOrder ∷ fourBlocks ∷ announcedAgain ∷ keeping ∷ otherGenesis ∷ timeoutOrder ∷ noRuleRun ∷ starts ∷ writerOrder ∷ written ∷ []))
 unfolding rules
 cornersOfRefusals = tt

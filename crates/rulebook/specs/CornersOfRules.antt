@@ -1,7 +1,7 @@
 -- Computed cases of the voting rules, where B1 to B10 cannot tell two rule books apart.
 use mathlib.Core.Bool.{Bool, true, false, not, _&&_}
 use mathlib.Core.List.{List, [], _∷_, _++_}
-use Prim.Native.Nat.{ℕ, _-_}
+use Prim.Native.Nat.{ℕ, _+_, _-_}
 use lib.Dec.{T}
 use Rattle.rulebook.specs.declared.Cell.{Cell}
 use Rattle.rulebook.specs.declared.Input.{Input}
@@ -9,9 +9,9 @@ use Rattle.rulebook.specs.declared.CertificateKind.{CertificateKind}
 use Rattle.rulebook.specs.declared.CertificateKind.the-variants as certificate
 use Rattle.rulebook.specs.Tools.{choose}
 use Rattle.rulebook.specs.Weights.{isFirst, windowOf, firstOf}
-use Rattle.rulebook.specs.Ledger.{Ledger, noCell, putArmed, putFinal}
+use Rattle.rulebook.specs.Ledger.{Ledger, noCell, putArmed, putFinal, fresh}
 use Rattle.rulebook.specs.Pool.{held, ready}
-use Rattle.rulebook.specs.Rules.{State, ruleA, ruleC, ruleD, ruleE, ruleF}
+use Rattle.rulebook.specs.Rules.{State, ruleA, ruleB, ruleC, ruleD, ruleE, ruleF}
 use Rattle.rulebook.specs.Inputs.{feed}
 use Rattle.rulebook.specs.WellFormed.{wellFormed}
 use Rattle.rulebook.specs.Scripts.{vote, block, timeout, look, votes, flatten, answers, stored, told, toldBy, laterArmed, allArmed, cell, ring, equal, equals, all}
@@ -158,6 +158,54 @@ chain =
     && equals (answers l (block 1 7 0 1 ∷ block 2 7 1 7 ∷ block 3 9 1 7 ∷ block 4 9 3 9 ∷ []))
     ((0 ∷ 7 ∷ 1 ∷ 0 ∷ 1 ∷ 1 ∷ 7 ∷ []) ∷ (0 ∷ 1 ∷ 2 ∷ 7 ∷ []) ∷ (0 ∷ []) ∷ (0 ∷ []) ∷ [])
 
+-- What B casts for block 9 in each slot of a list, where the own vote in the slot before is notar for 7: with the parent (s - 1, 7), and
+-- with the parent 7 one slot lower or 8 in the slot before.
+abbrev followed : List ℕ → List (List ℕ)
+followed [] = []
+followed (s ∷ ss) =
+    let cast : ℕ → ℕ → List ℕ = (λ p x. toldBy ruleB s (stored (armed (1 ∷ 9 ∷ []) []) (vote 1 0 (s - 1) 7 ∷ block s 9 p x ∷ []))) in
+    (cast (s - 1) 7 ++ (cast (s - 2) 7 ++ cast (s - 1) 8)) ∷ followed ss
+
+-- A notar vote for 9 in each slot of a list.
+abbrev nines : List ℕ → List (List ℕ)
+nines [] = []
+nines (s ∷ ss) = (1 ∷ s ∷ 9 ∷ []) ∷ nines ss
+
+-- In every slot that is not a window's first, and in several windows; in a first slot the own vote in the slot before is not enough.
+abbrev insideWindows : Bool
+insideWindows =
+    let inside : List ℕ = 2 ∷ 3 ∷ 4 ∷ 6 ∷ 7 ∷ 8 ∷ 10 ∷ 11 ∷ 12 ∷ 14 ∷ 15 ∷ 16 ∷ [] in
+    equals (followed inside) (nines inside) && equals (followed (5 ∷ 9 ∷ 13 ∷ [])) ([] ∷ [] ∷ [] ∷ [])
+
+-- Blocks certified inside a window that is not armed arm nothing: A asks in first slots alone, and no parent is ready for slot 5.
+abbrev notArmedInside : Bool
+notArmedInside =
+    let l = stored (ring (4 ∷ 6 ∷ []) []) (vote 1 1 5 7 ∷ vote 1 1 6 8 ∷ []) in
+    equals (told l ∷ toldBy ruleA 5 l ∷ toldBy ruleA 6 l ∷ toldBy ruleA 7 l ∷ []) ((7 ∷ 1 ∷ 0 ∷ []) ∷ [] ∷ [] ∷ [] ∷ [])
+
+-- Genesis has any number: the parent that is ready in slot 0 is that one.
+abbrev otherGenesis : Bool
+otherGenesis =
+    let l = fresh (5 ∷ []) 0 9 in
+    equals (answers l (block 1 7 0 9 ∷ [])) ((0 ∷ 7 ∷ 1 ∷ 0 ∷ 1 ∷ 1 ∷ 7 ∷ 5 ∷ 1 ∷ 0 ∷ 6 ∷ 1 ∷ 7 ∷ []) ∷ [])
+    && all (ready l 1 0 9 ∷ not (ready l 1 0 1) ∷ not (ready l 1 0 8) ∷ not (ready l 1 0 10) ∷ [])
+
+-- Node 0's notar votes for 7 in a list of slots, and the records that make 7 final in them.
+abbrev sevens : List ℕ → List Input
+sevens [] = []
+sevens (s ∷ ss) = vote 1 0 s 7 ∷ sevens ss
+
+abbrev sixes : List ℕ → List ℕ
+sixes [] = []
+sixes (s ∷ ss) = 6 ∷ s ∷ 7 ∷ sixes ss
+
+-- Twenty rules in one call, of a watcher of one node: a block is final in each of the sixteen slots, and each window's first slot has a
+-- ready parent.
+abbrev manyRules : Bool
+manyRules =
+    let window : ℕ → List ℕ = (λ s. 7 ∷ s ∷ 0 ∷ sixes (s ∷ (s + 1) ∷ (s + 2) ∷ (s + 3) ∷ [])) in
+    equal (told (stored (fresh (5 ∷ []) 1 1) (sevens sixteen))) (window 1 ++ (window 5 ++ (window 9 ++ window 13)))
+
 -- A timeout for a slot with an own initial vote casts nothing; another slot of the window is taken on its own.
 abbrev timeouts : Bool
 timeouts =
@@ -207,6 +255,11 @@ threeCast =
     ((2 ∷ 1 ∷ 24 ∷ []) ∷ [] ∷ (2 ∷ 1 ∷ 21 ∷ 2 ∷ 1 ∷ 22 ∷ 2 ∷ 1 ∷ 23 ∷ []) ∷ [])
     && wellFormed (f .ledger)
 
+-- D with its fallback cast and the window open: the skips alone.
+abbrev skipsBesideFallback : Bool
+skipsBesideFallback =
+    equal (toldBy ruleD 1 (armed (1 ∷ 4 ∷ 5 ∷ []) (cell 0 1 8 0 0 0 0 ∷ notar 8 ∷ noCell ∷ []))) (3 ∷ 2 ∷ 0 ∷ 3 ∷ 3 ∷ 0 ∷ 3 ∷ 4 ∷ 0 ∷ [])
+
 -- Beside an own final D and E still cast the window's skips, whichever slot lacks an own initial vote. Asked in slot 6, the last
 -- time: of slots 1 to 9 slot 5 alone lacks one.
 abbrev skipsBesideFinal : Bool
@@ -238,6 +291,6 @@ finals =
     ((6 ∷ 1 ∷ 7 ∷ []) ∷ [] ∷ (6 ∷ 1 ∷ 7 ∷ []) ∷ [] ∷ [] ∷ [] ∷ (6 ∷ 1 ∷ 8 ∷ 8 ∷ 1 ∷ 9 ∷ []) ∷ (6 ∷ 1 ∷ 8 ∷ 8 ∷ 1 ∷ 9 ∷ []) ∷ [])
 
 cornersOfRules : T (all (AbeforeC ∷ BbeforeF ∷ CbeforeD ∷ DbeforeE ∷ EbeforeF ∷ restart ∷ slotsAscend ∷ windowsOfFour ∷ nextDoor ∷ sixteenSkips
-    ∷ farParent ∷ parents ∷ chain ∷ timeouts ∷ thresholds ∷ finalVotes ∷ fallbacks ∷ threeCast ∷ skipsBesideFinal ∷ skipFallbacks ∷ finals ∷ []))
+    ∷ farParent ∷ parents ∷ chain ∷ insideWindows ∷ notArmedInside ∷ otherGenesis ∷ manyRules ∷ timeouts ∷ thresholds ∷ finalVotes ∷ fallbacks ∷ threeCast ∷ skipsBesideFallback ∷ skipsBesideFinal ∷ skipFallbacks ∷ finals ∷ []))
 unfolding rules
 cornersOfRules = tt

@@ -108,7 +108,7 @@ writers =
     let old : ℕ → ℕ → List ℕ = (λ room k. written (writeCertificate sixtyFour room (kindIn 64 k) 1 7)) in
     let new : ℕ → ℕ → List ℕ = (λ room k. written (writeCertificate sixtyFive room (kindIn 65 k) 1 7)) in
     let last : List ℕ = wide (0 ∷ []) (1 ∷ []) in
-    equals (old 31 12 ∷ old 32 12 ∷ old 32 2 ∷ new 767 2 ∷ new 768 2 ∷ new 768 12 ∷ [])
+    equals (old 31 12 ∷ old 32 12 ∷ old 33 2 ∷ new 767 2 ∷ new 768 2 ∷ new 769 12 ∷ [])
     ((9 ∷ []) ∷ (4 ∷ []) ∷ (0 ∷ 2 ∷ 1 ∷ 7 ∷ (replicate 9 128 ++ (1 ∷ 0 ∷ []))) ∷ (9 ∷ []) ∷ (4 ∷ []) ∷ (0 ∷ 12 ∷ 1 ∷ 7 ∷ (last ++ nobody)) ∷ [])
     && equals (written (writeProof sixtyFour 63 1 7) ∷ written (writeProof sixtyFive 1535 1 7) ∷ written (writeProof sixtyFive 1536 1 7) ∷ [])
     ((9 ∷ []) ∷ (9 ∷ []) ∷ (0 ∷ ((12 ∷ 1 ∷ 7 ∷ (last ++ nobody)) ++ (15 ∷ 1 ∷ 0 ∷ (last ++ nobody)))) ∷ [])

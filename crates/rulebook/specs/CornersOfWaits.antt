@@ -65,6 +65,12 @@ thatParent =
     equals (own 3 7 3 7 ∷ own 1 7 1 7 ∷ own 1 7 3 7 ∷ own 3 7 1 7 ∷ own 3 7 3 8 ∷ own 1 7 1 9 ∷ [])
     ((2 ∷ 4 ∷ 9 ∷ []) ∷ (2 ∷ 4 ∷ 9 ∷ []) ∷ [] ∷ [] ∷ [] ∷ [] ∷ [])
 
+-- A block's number says nothing of slots: numbers below the slot, the parent's among them, fall back like any other.
+abbrev smallNumbers : Bool
+smallNumbers =
+    let own : ℕ → ℕ → ℕ → List ℕ = (λ b p x. toldBy ruleD 4 (stored (skipped (1 ∷ 4 ∷ 5 ∷ [])) (block 4 b p x ∷ vote 1 1 4 b ∷ votes 2 (1 ∷ 2 ∷ []) p x))) in
+    equals (own 1 3 7 ∷ own 2 3 1 ∷ own 3 3 3 ∷ own 4 2 4 ∷ []) ((2 ∷ 4 ∷ 1 ∷ []) ∷ (2 ∷ 4 ∷ 2 ∷ []) ∷ (2 ∷ 4 ∷ 3 ∷ []) ∷ (2 ∷ 4 ∷ 4 ∷ []) ∷ [])
+
 -- Genesis has no certificate: its child outside a first slot never, also where blocks of genesis's number are certified.
 abbrev genesisChild : Bool
 genesisChild =
@@ -111,6 +117,6 @@ firstBlockAlone =
     && equals (answers l (block 2 9 1 7 ∷ block 2 8 1 6 ∷ block 1 7 0 1 ∷ [])) ((0 ∷ 7 ∷ 1 ∷ 0 ∷ []) ∷ nothing ∷ (0 ∷ 1 ∷ 1 ∷ 7 ∷ 1 ∷ 2 ∷ 9 ∷ []) ∷ [])
     && equals (answers (stored (putArmed (putArmed (ring (1 ∷ 9 ∷ []) []) 9) 13) (votes 1 (1 ∷ []) 4 7)) (block 5 30 4 8 ∷ block 5 31 4 7 ∷ [])) ((0 ∷ 7 ∷ 1 ∷ 0 ∷ 6 ∷ 4 ∷ 7 ∷ 7 ∷ 5 ∷ 0 ∷ []) ∷ nothing ∷ [])
 
-cornersOfWaits : T (all (forTheBlock ∷ forTheParent ∷ onATimeout ∷ thatParent ∷ genesisChild ∷ firstSlots ∷ eachPlace ∷ skipsWait ∷ othersGoOn ∷ firstBlockAlone ∷ []))
+cornersOfWaits : T (all (forTheBlock ∷ forTheParent ∷ onATimeout ∷ thatParent ∷ smallNumbers ∷ genesisChild ∷ firstSlots ∷ eachPlace ∷ skipsWait ∷ othersGoOn ∷ firstBlockAlone ∷ []))
 unfolding rules
 cornersOfWaits = tt

@@ -24,11 +24,18 @@ neverVotes =
     equals (answers (watcher (5 ∷ [])) (block 1 7 0 1 ∷ vote 1 0 1 7 ∷ vote 5 0 1 0 ∷ []))
     ((0 ∷ 7 ∷ 1 ∷ 0 ∷ []) ∷ (0 ∷ 6 ∷ 1 ∷ 7 ∷ []) ∷ (0 ∷ []) ∷ [])
 
--- Three skips and two votes for a block in slot 1, then the other way round: a voting node would fall back, a watcher tells nothing.
+-- Three skips and two votes for a block in slot 1, and the votes before the skips: a node whose skip is one of them falls back, a watcher
+-- tells nothing.
 abbrev noFallback : Bool
 noFallback =
-    equals (answers (watcher (1 ∷ 1 ∷ 1 ∷ 1 ∷ 1 ∷ [])) (look ∷ votes 3 (0 ∷ 1 ∷ 2 ∷ []) 1 0 ++ votes 1 (3 ∷ 4 ∷ []) 1 7))
-    ((0 ∷ 7 ∷ 1 ∷ 0 ∷ []) ∷ silent 5)
+    let fifths : List ℕ = 1 ∷ 1 ∷ 1 ∷ 1 ∷ 1 ∷ [] in
+    let watched : List Input → List (List ℕ) = (λ is. answers (watcher fifths) (look ∷ is)) in
+    let voting : List Input → List (List ℕ) = (λ is. answers (after (fresh fifths 0 1) (look ∷ timeout 1 ∷ [])) is) in
+    let falls : List ℕ = 0 ∷ 2 ∷ 1 ∷ 7 ∷ [] in
+    let for7 : List Input = votes 1 (3 ∷ 4 ∷ []) 1 7 in
+    let armed : List ℕ = 0 ∷ 7 ∷ 1 ∷ 0 ∷ [] in
+    equals (watched (votes 3 (0 ∷ 1 ∷ 2 ∷ []) 1 0 ++ for7) ++ watched (for7 ++ votes 3 (0 ∷ 1 ∷ 2 ∷ []) 1 0)) ((armed ∷ silent 5) ++ (armed ∷ silent 5))
+    && equals (voting (votes 3 (1 ∷ 2 ∷ []) 1 0 ++ for7) ++ voting (for7 ++ votes 3 (1 ∷ 2 ∷ []) 1 0)) ((silent 2 ++ (falls ∷ silent 1)) ++ (silent 1 ++ (falls ∷ silent 2)))
 
 -- A final block's parent is final too, whichever comes last.
 abbrev walks : Bool
@@ -57,14 +64,15 @@ takes =
     let w = writeProof (f .ledger) 64 2 7 in
     equal (flatten (f .records)) (7 ∷ 1 ∷ 0 ∷ 6 ∷ 2 ∷ 7 ∷ []) && equal (writePanel (w .answer) .number ∷ w .bytes) (0 ∷ 1 ∷ 2 ∷ 7 ∷ 6 ∷ 0 ∷ [])
 
--- The number after the last says that a node is a watcher; 0 is a node's number, and a larger number is 17. A start with it is 1; a watcher's start asks for
--- stakes that fit and a genesis.
+-- The number after the last says that a node is a watcher; 0 is a node's number, and a larger number is 17. A start with it is 1; a watcher's
+-- start asks for stakes that fit and a genesis, whichever it is.
 abbrev records : Bool
 records =
     let stakes : List ℕ = 1 ∷ 1 ∷ 1 ∷ [] in
-    all (isWatcher (fresh stakes 3 1) ∷ not (isWatcher (fresh stakes 0 1)) ∷ not (isWatcher (fresh stakes 2 1)) ∷ wellFormed (fresh stakes 3 1) ∷ not (wellFormed (fresh stakes 4 1)) ∷ [])
-    && equal (verdictNumber (startVerdict stakes 3 1) ∷ verdictNumber (watchVerdict stakes 1) ∷ verdictNumber (watchVerdict stakes 0) ∷ verdictNumber (watchVerdict [] 1) ∷ verdictNumber (watchVerdict (1 ∷ 0 ∷ []) 1) ∷ [])
-    (1 ∷ 0 ∷ 1 ∷ 1 ∷ 1 ∷ [])
+    all (isWatcher (fresh stakes 3 1) ∷ not (isWatcher (fresh stakes 0 1)) ∷ not (isWatcher (fresh stakes 2 1)) ∷ wellFormed (fresh stakes 3 1) ∷ not (wellFormed (fresh stakes 4 1)) ∷ not (wellFormed (fresh stakes 9 1))
+    ∷ wellFormed (fresh stakes 3 9) ∷ [])
+    && equal (verdictNumber (startVerdict stakes 3 1) ∷ verdictNumber (watchVerdict stakes 1) ∷ verdictNumber (watchVerdict stakes 0) ∷ verdictNumber (watchVerdict [] 1) ∷ verdictNumber (watchVerdict (1 ∷ 0 ∷ []) 1) ∷ verdictNumber (watchVerdict stakes 9) ∷ [])
+    (1 ∷ 0 ∷ 1 ∷ 1 ∷ 1 ∷ 0 ∷ [])
 
 cornersOfWatchers : T (all (neverVotes ∷ noFallback ∷ walks ∷ timeouts ∷ anyName ∷ takes ∷ records ∷ []))
 unfolding rules

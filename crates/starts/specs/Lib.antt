@@ -1,2 +1,3 @@
--- What start does.
+-- What start does, and cases of it computed.
 pub mod Starting
+pub mod CornersOfStarts

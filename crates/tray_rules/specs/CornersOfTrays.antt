@@ -29,11 +29,12 @@ mixed =
     (1 ∷ 1 ∷ 1 ∷ 7 ∷ []) ++ (1 ∷ 0 ∷ 1 ∷ 7 ∷ []) ++ (5 ∷ 1 ∷ 1 ∷ 0 ∷ []) ++ (1 ∷ 1 ∷ 1 ∷ 7 ∷ []) ++ (1 ∷ 2 ∷ 1 ∷ 7 ∷ [])
     ++ (1 ∷ 2 ∷ 1 ∷ 8 ∷ []) ++ (5 ∷ 2 ∷ 1 ∷ 0 ∷ [])
 
--- The first vote arms the window, the last makes block 7 final; the refused votes between them end nothing.
+-- The first vote arms the window, the last makes block 7 final; the refused votes between them end nothing. A longer outbox and more
+-- places for answers than votes change nothing.
 abbrev middle : Bool
 middle =
-    equals (shown (tray three 480 7 mixed))
-    ((0 ∷ 2 ∷ []) ∷ (0 ∷ 6 ∷ 0 ∷ 7 ∷ 0 ∷ 8 ∷ 0 ∷ []) ∷ (7 ∷ 1 ∷ 0 ∷ 6 ∷ 1 ∷ 7 ∷ []) ∷ [])
+    let whole : List (List ℕ) = (0 ∷ 2 ∷ []) ∷ (0 ∷ 6 ∷ 0 ∷ 7 ∷ 0 ∷ 8 ∷ 0 ∷ []) ∷ (7 ∷ 1 ∷ 0 ∷ 6 ∷ 1 ∷ 7 ∷ []) ∷ [] in
+    all (equals (shown (tray three 480 7 mixed)) whole ∷ equals (shown (tray three 481 7 mixed)) whole ∷ equals (shown (tray three 480 9 mixed)) whole ∷ [])
 
 -- An empty run needs no place for answers and runs no rule: the look after it arms the window.
 abbrev empty : Bool

@@ -1,2 +1,3 @@
--- What a tray of votes does in lent memory.
+-- What a tray of votes does in lent memory, and cases of it computed.
 pub mod Lent
+pub mod CornersOfLent

@@ -1,0 +1,46 @@
+-- Computed cases of a host's questions to a record: which slot, window and node is asked, which of a cell's seven words is which, 17
+-- before 3 before 2, zeros beside a refusal.
+use mathlib.Core.Path.{_≡_}
+use mathlib.Core.Bool.{true, false}
+use mathlib.Core.List.{List, [], _∷_, _++_}
+use Prim.Native.Nat.{ℕ}
+use lib.Dec.{T}
+use Rattle.rulebook.specs.PaperNumbers.{Panel}
+use Rattle.rulebook.specs.Ledger.{Ledger, fresh, putArmed, putFinal}
+use Rattle.rulebook.specs.Scripts.{vote, stored, equals}
+use Rattle.rulebook.specs.Computes.{rules}
+use Rattle.record.specs.Layout.{ledgerOf}
+use Rattle.soundness.specs.Sound.{soundWords}
+use Rattle.readers.specs.Asked.{onSlot, finalOn, armedOn, votesOn, finalPanel, armedPanel, votesPanel}
+
+-- An answer's number and the values beside it.
+abbrev shown : Panel → List ℕ
+shown p = p .number ∷ p .values
+
+-- What is answered to a question of each slot of a list.
+abbrev asked : (ℕ → Panel) → List ℕ → List (List ℕ)
+asked f [] = []
+asked f (s ∷ ss) = shown (f s) ∷ asked f ss
+
+-- The second window is armed; 9 is final in slot 2, and 11 in the last; node 1 has every vote that it can have in slot 3.
+abbrev kept : Ledger
+kept =
+    putFinal (putFinal (putArmed (stored (fresh (1 ∷ 2 ∷ 2 ∷ []) 0 1) (vote 1 1 3 8 ∷ vote 2 1 3 5 ∷ vote 2 1 3 6 ∷ vote 2 1 3 7 ∷ vote 4 1 3 0 ∷ vote 5 1 3 0 ∷ vote 3 2 3 0 ∷ [])) 6) 2 9) 16 11
+
+-- Of words that hold it: a slot's final block, whether its window is armed, and a node's votes in it.
+reads-told : (ws : List ℕ) → soundWords ws ≡ true → ledgerOf ws ≡ kept
+    → T (equals (asked (λ s. finalPanel (finalOn ws s)) (1 ∷ 2 ∷ 16 ∷ 0 ∷ 17 ∷ []) ++ (asked (λ s. armedPanel (armedOn ws s)) (1 ∷ 4 ∷ 5 ∷ 8 ∷ 9 ∷ 0 ∷ 17 ∷ [])
+    ++ (asked (λ n. votesPanel (votesOn ws 3 n)) (1 ∷ 2 ∷ 0 ∷ 3 ∷ 99 ∷ []) ++ asked (λ s. votesPanel (votesOn ws s 1)) (1 ∷ []) ++ asked (λ s. votesPanel (votesOn ws s 99)) (0 ∷ 17 ∷ []))))
+    (((0 ∷ 0 ∷ []) ∷ (0 ∷ 9 ∷ []) ∷ (0 ∷ 11 ∷ []) ∷ (3 ∷ 0 ∷ []) ∷ (3 ∷ 0 ∷ []) ∷ [])
+    ++ (((0 ∷ 0 ∷ []) ∷ (0 ∷ 0 ∷ []) ∷ (0 ∷ 1 ∷ []) ∷ (0 ∷ 1 ∷ []) ∷ (0 ∷ 0 ∷ []) ∷ (3 ∷ 0 ∷ []) ∷ (3 ∷ 0 ∷ []) ∷ [])
+    ++ ((0 ∷ 8 ∷ 0 ∷ 5 ∷ 6 ∷ 7 ∷ 1 ∷ 1 ∷ []) ∷ (0 ∷ 0 ∷ 1 ∷ 0 ∷ 0 ∷ 0 ∷ 0 ∷ 0 ∷ []) ∷ (0 ∷ 0 ∷ 0 ∷ 0 ∷ 0 ∷ 0 ∷ 0 ∷ 0 ∷ []) ∷ (2 ∷ 0 ∷ 0 ∷ 0 ∷ 0 ∷ 0 ∷ 0 ∷ 0 ∷ []) ∷ (2 ∷ 0 ∷ 0 ∷ 0 ∷ 0 ∷ 0 ∷ 0 ∷ 0 ∷ [])
+    ∷ (0 ∷ 0 ∷ 0 ∷ 0 ∷ 0 ∷ 0 ∷ 0 ∷ 0 ∷ []) ∷ (3 ∷ 0 ∷ 0 ∷ 0 ∷ 0 ∷ 0 ∷ 0 ∷ 0 ∷ []) ∷ (3 ∷ 0 ∷ 0 ∷ 0 ∷ 0 ∷ 0 ∷ 0 ∷ 0 ∷ []) ∷ []))))
+unfolding rules onSlot finalOn armedOn votesOn finalPanel armedPanel votesPanel
+reads-told ws sound holds = rw (sound, holds) tt
+
+-- Of words that are no record: 17, whatever the slot and the node.
+reads-of-none : (ws : List ℕ) → soundWords ws ≡ false
+    → T (equals (shown (finalPanel (finalOn ws 0)) ∷ shown (armedPanel (armedOn ws 0)) ∷ shown (votesPanel (votesOn ws 0 99)) ∷ [])
+    ((17 ∷ 0 ∷ []) ∷ (17 ∷ 0 ∷ []) ∷ (17 ∷ 0 ∷ 0 ∷ 0 ∷ 0 ∷ 0 ∷ 0 ∷ 0 ∷ []) ∷ []))
+unfolding rules onSlot finalOn armedOn votesOn finalPanel armedPanel votesPanel
+reads-of-none ws unsound = rw unsound tt
