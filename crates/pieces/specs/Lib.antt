@@ -3,3 +3,4 @@ pub mod Pieces
 pub mod State
 pub mod Promises
 pub mod CornersOfPieces
+pub mod CornersOfState

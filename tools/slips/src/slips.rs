@@ -365,7 +365,7 @@ fn alike(one: &Expr, two: &Expr) -> bool {
 }
 
 /// So many words are shown on either side of what changed.
-const BESIDE: usize = 9;
+const BESIDE: usize = 7;
 
 type Words = Vec<(String, bool)>;
 
