@@ -4,17 +4,23 @@ use mathlib.Core.Bool.{true, false}
 use mathlib.Core.List.{List, [], _∷_}
 use Prim.Native.Nat.{ℕ}
 use lib.Dec.{T}
-use Rattle.rulebook.specs.Ledger.{Ledger, fresh}
+use Rattle.rulebook.specs.declared.Refusal.the-variants as refusal
+use Rattle.rulebook.specs.Ledger.{Ledger, cardOf, fresh}
 use Rattle.rulebook.specs.Scripts.{vote, stored, equals}
 use Rattle.rulebook.specs.Computes.{rules}
 use Rattle.record.specs.Layout.{ledgerOf}
 use Rattle.soundness.specs.Sound.{soundWords}
+use Rattle.cards.specs.declared.CardAnswer.{CardAnswer}
+use Rattle.cards.specs.declared.CardAnswer.the-variants as answer
 use Rattle.cards.specs.Asked.{cardOn, cardPanel}
 
--- The number and the values that each slot of a list is answered with.
+-- An answer's number and the values beside it, and what each slot of a list is answered with.
+abbrev shown : CardAnswer → List ℕ
+shown a = let p = cardPanel a in p .number ∷ p .values
+
 abbrev asked : List ℕ → List ℕ → List (List ℕ)
 asked ws [] = []
-asked ws (s ∷ ss) = let p = cardPanel (cardOn ws s) in (p .number ∷ p .values) ∷ asked ws ss
+asked ws (s ∷ ss) = shown (cardOn ws s) ∷ asked ws ss
 
 -- Five nodes of stakes 1, 2, 2, 3 and 4. In slot 1 there is something on every line of the card, in the last slot a skip alone.
 abbrev voted : Ledger
@@ -30,3 +36,8 @@ card-told ws sound holds = rw (sound, holds) tt
 card-of-none : (ws : List ℕ) → soundWords ws ≡ false → T (equals (asked ws (1 ∷ 0 ∷ [])) ((17 ∷ 0 ∷ 0 ∷ 0 ∷ 0 ∷ 0 ∷ []) ∷ (17 ∷ 0 ∷ 0 ∷ 0 ∷ 0 ∷ 0 ∷ []) ∷ []))
 unfolding rules cardOn cardPanel
 card-of-none ws unsound = rw unsound tt
+
+-- The panel of a card by itself, and of both refusals.
+card-panels : T (equals (shown (answer.Card (cardOf 11 12 13 14 15)) ∷ shown (answer.Refused refusal.BadRecord) ∷ shown (answer.Refused refusal.BadSlot) ∷ []) ((0 ∷ 11 ∷ 12 ∷ 13 ∷ 14 ∷ 15 ∷ []) ∷ (17 ∷ 0 ∷ 0 ∷ 0 ∷ 0 ∷ 0 ∷ []) ∷ (3 ∷ 0 ∷ 0 ∷ 0 ∷ 0 ∷ 0 ∷ []) ∷ []))
+unfolding rules cardPanel
+card-panels = tt

@@ -10,7 +10,9 @@ use Rattle.rulebook.specs.Computes.{rules}
 use Rattle.record.specs.Layout.{ledgerOf}
 use Rattle.soundness.specs.Sound.{soundWords}
 use Rattle.difference_lines.specs.Lines.{isSame, keeps, sideNumber, spellLines, lineOf, blocksOf, ascending, linesOver, blockLines, cellLines, linesTo, slotLines, voteLines, sameTables, differences}
-use Rattle.differences.specs.Lent.{Differed, listedIn, differ, differPanel}
+use Rattle.difference_lines.specs.declared.Side.the-variants as side
+use Rattle.differences.specs.declared.DifferAnswer.the-variants as answer
+use Rattle.differences.specs.Lent.{Differed, refusedBy, listedIn, differ, differPanel}
 
 -- The panel's number and value, and the lines' words.
 abbrev shown : Differed → List (List ℕ)
@@ -45,3 +47,8 @@ bad-side : (good bad other : List ℕ) → soundWords good ≡ true → soundWor
     → T (equals (shown (differ bad good 0) ++ (shown (differ good bad 0) ++ shown (differ bad other 0))) ((17 ∷ 1 ∷ []) ∷ [] ∷ (17 ∷ 2 ∷ []) ∷ [] ∷ (17 ∷ 1 ∷ []) ∷ [] ∷ []))
 unfolding rules sideNumber spellLines differ differPanel
 bad-side good bad other a b = rw (a, b) tt
+
+-- The panel of a bad record of either side by itself.
+bad-panels : T (equals (shown (refusedBy (answer.BadRecord side.First)) ++ shown (refusedBy (answer.BadRecord side.Second))) ((17 ∷ 1 ∷ []) ∷ [] ∷ (17 ∷ 2 ∷ []) ∷ [] ∷ []))
+unfolding rules sideNumber spellLines differPanel
+bad-panels = tt

@@ -1,93 +1,85 @@
--- Computed cases of the lent state: what its words and bytes say, what a piece leaves in them, and 17. Where a case does not ask for the
--- lengths, its state is a short one.
-use mathlib.Core.Bool.{Bool, not, _&&_}
+-- Computed cases of the state between the calls: what each of its words and bytes stands for, what keeps a piece's bytes, what the calls
+-- leave. Where a definition does not ask for the state's full length a short one stands for it.
+use mathlib.Core.Bool.{Bool, not}
 use mathlib.Core.List.{List, [], _∷_, _++_}
 use Prim.Native.Nat.{ℕ}
-use lib.ListN.{length, getD, take, replicate}
+use lib.ListN.{replicate}
 use lib.Dec.{T}
-use Rattle.rulebook.specs.declared.Refusal.the-variants as refusal
 use Rattle.rulebook.specs.PaperNumbers.{checkNumber}
 use Rattle.rulebook.specs.Scripts.{equal, equals, all}
 use Rattle.rulebook.specs.Computes.{rules}
-use Rattle.pieces.specs.Pieces.{nothing, since, piecePanel, Piece, calls, packet, afterPiece, pieceAnswer, endAnswer, said, afterCall, afterCalls, saidBy}
-use Rattle.pieces.specs.State.{mark, kept, nodes, table, front, blank, isSized, isReady, holdsTable, isWhole, withTable, fitting, keptWords, keptFront, PieceLeft, pieceRefused, pieceTaken, firstLeaves, pieceLeaves, EndLeft, endRefused, endChecked, endLeaves, wordsOf, bytesOf}
+use Rattle.pieces.specs.Pieces.{nothing, since, piecePanel, Asked, piece, end, Piece, calls, packet}
+use Rattle.pieces.specs.State.{stateWords, mark, kept, nodes, table, front, blank, isSized, isReady, holdsTable, isWhole, withTable, fitting, keptWords, keptFront, PieceLeft, pieceTaken, firstLeaves, pieceLeaves, EndLeft, endChecked, endLeaves, wordsOf, bytesOf}
 
--- A table of stakes 3 and 4 with three bytes kept, in a state with places for four stakes and five bytes.
+-- Two bytes are kept, and a table of two nodes with two places past it.
 abbrev words : List ℕ
-words = 4 ∷ 2 ∷ 3 ∷ 4 ∷ 0 ∷ 0 ∷ []
+words = 3 ∷ 2 ∷ 6 ∷ 4 ∷ 0 ∷ 0 ∷ []
 
 abbrev bytes : List ℕ
-bytes = 7 ∷ 8 ∷ 9 ∷ 0 ∷ 0 ∷ []
+bytes = 11 ∷ 12 ∷ 0 ∷ 0 ∷ 0 ∷ 0 ∷ []
 
--- A piece's number, and all words and bytes that it leaves; the end's likewise.
-abbrev leftBy : PieceLeft → List (List ℕ)
-leftBy p = (piecePanel (p .answer) .number ∷ []) ∷ p .words ∷ p .bytes ∷ []
-
-abbrev leftAtEnd : EndLeft → List (List ℕ)
-leftAtEnd e = (checkNumber (e .answer) ∷ []) ∷ e .words ∷ e .bytes ∷ []
-
--- The mark is the number of kept bytes and one, then the number of nodes, then the stakes; the front is the kept bytes.
 abbrev parts : Bool
 parts =
-    equals ((mark words ∷ kept words ∷ nodes words ∷ []) ∷ table words ∷ front words bytes ∷ [])
-    ((4 ∷ 3 ∷ 2 ∷ []) ∷ (3 ∷ 4 ∷ []) ∷ (7 ∷ 8 ∷ 9 ∷ []) ∷ [])
+    all (equal (mark words ∷ kept words ∷ nodes words ∷ stateWords ∷ []) (3 ∷ 2 ∷ 2 ∷ 2050 ∷ []) ∷ equal (table words) (6 ∷ 4 ∷ []) ∷ equal (front words bytes) (11 ∷ 12 ∷ []) ∷ equal (front (0 ∷ []) bytes) []
+    ∷ blank [] ∷ blank (0 ∷ 0 ∷ []) ∷ not (blank (0 ∷ 1 ∷ [])) ∷ not (blank (1 ∷ 0 ∷ [])) ∷ [])
 
--- The first piece lays its table and its bytes; a table that is refused leaves the state.
-abbrev first : Bool
-first =
-    let zeros : List ℕ = replicate 6 0 in
-    equals (leftBy (firstLeaves zeros (replicate 5 0) (3 ∷ 4 ∷ []) (7 ∷ 8 ∷ 9 ∷ []))) ((0 ∷ []) ∷ words ∷ bytes ∷ [])
-    && equals (leftBy (firstLeaves zeros (5 ∷ []) (3 ∷ 0 ∷ []) (7 ∷ []))) ((1 ∷ []) ∷ zeros ∷ (5 ∷ []) ∷ [])
-
--- A later piece stands behind the kept bytes. Of one that does not fit into the front as many bytes are kept as do; then the mark is 1,342.
-abbrev later : Bool
-later =
-    equals (leftBy (pieceTaken words bytes (5 ∷ 6 ∷ []))) ((0 ∷ []) ∷ (6 ∷ 2 ∷ 3 ∷ 4 ∷ 0 ∷ 0 ∷ []) ∷ (7 ∷ 8 ∷ 9 ∷ 5 ∷ 6 ∷ []) ∷ [])
-    && (equal (fitting words (5 ∷ 6 ∷ []) ∷ fitting (1341 ∷ []) (5 ∷ 6 ∷ []) ∷ fitting (1342 ∷ []) (5 ∷ 6 ∷ []) ∷ []) (2 ∷ 1 ∷ 0 ∷ [])
-    && equals (keptWords (1341 ∷ 2 ∷ []) (5 ∷ 6 ∷ []) ∷ keptFront (2 ∷ []) (7 ∷ 0 ∷ 1 ∷ []) (5 ∷ []) ∷ []) ((1342 ∷ 2 ∷ []) ∷ (7 ∷ 5 ∷ 1 ∷ []) ∷ []))
-
--- The end checks the front under the table, here B9's proof, and leaves zeros; a refusal leaves all as found.
-abbrev ends : Bool
-ends =
-    let one : List ℕ = 6 ∷ 1 ∷ 5 ∷ 0 ∷ [] in
-    let proof : List ℕ = 1 ∷ 1 ∷ 7 ∷ 1 ∷ 0 ∷ 0 ∷ [] in
-    equals (leftAtEnd (endChecked one proof)) ((0 ∷ []) ∷ replicate 4 0 ∷ replicate 6 0 ∷ [])
-    && (equals (leftAtEnd (endChecked (5 ∷ 1 ∷ 5 ∷ 0 ∷ []) proof)) ((12 ∷ []) ∷ replicate 4 0 ∷ replicate 6 0 ∷ [])
-    && equals (leftAtEnd (endRefused refusal.NoRoom one proof) ++ leftBy (pieceRefused refusal.BadSlot words bytes))
-    ((9 ∷ []) ∷ one ∷ proof ∷ (3 ∷ []) ∷ words ∷ bytes ∷ []))
-
--- 2,050 words and 1,341 bytes; one more or fewer of either is 17, and all is as found.
+-- 2,050 words and 1,341 bytes, one less or more of either is 17.
 abbrev sizes : Bool
 sizes =
-    let ws : ℕ → List ℕ = (λ n. replicate n 0) in
-    all (isSized (ws 2050) (ws 1341) ∷ not (isSized (ws 2049) (ws 1341)) ∷ not (isSized (ws 2051) (ws 1341)) ∷ not (isSized (ws 2050) (ws 1340)) ∷ not (isSized (ws 2050) (ws 1342))
-    ∷ not (isReady words bytes) ∷ not (isWhole words bytes) ∷ [])
-    && (equals (leftBy (pieceLeaves words bytes (5 ∷ []) (1 ∷ []))) ((17 ∷ []) ∷ words ∷ bytes ∷ []) && equals (leftAtEnd (endLeaves words bytes)) ((17 ∷ []) ∷ words ∷ bytes ∷ []))
+    let sized : ℕ → ℕ → Bool = (λ n m. isSized (replicate n 0) (replicate m 0)) in
+    all (sized 2050 1341 ∷ not (sized 2049 1341) ∷ not (sized 2051 1341) ∷ not (sized 2050 1340) ∷ not (sized 2050 1342) ∷ not (isReady words bytes) ∷ not (isWhole words bytes) ∷ [])
 
--- Nothing but zeros; a table is one of at most 2,048 stakes that fit, with zeros behind it.
+-- A table that 1 lets pass, of at most 2,048 nodes, and 0 past it.
 abbrev tables : Bool
 tables =
-    all (blank [] ∷ blank (0 ∷ 0 ∷ []) ∷ not (blank (1 ∷ 0 ∷ [])) ∷ not (blank (0 ∷ 1 ∷ []))
-    ∷ holdsTable words ∷ not (holdsTable (4 ∷ 2 ∷ 3 ∷ 0 ∷ 0 ∷ [])) ∷ not (holdsTable (4 ∷ 2 ∷ 3 ∷ 4 ∷ 1 ∷ [])) ∷ not (holdsTable (4 ∷ 0 ∷ 0 ∷ []))
-    ∷ not (holdsTable (4 ∷ 2049 ∷ 3 ∷ [])) ∷ [])
+    all (holdsTable words ∷ not (holdsTable (3 ∷ 2 ∷ 6 ∷ 0 ∷ 0 ∷ [])) ∷ not (holdsTable (3 ∷ 2 ∷ 6 ∷ 4 ∷ 0 ∷ 1 ∷ [])) ∷ not (holdsTable (3 ∷ 1 ∷ 6 ∷ 4 ∷ 0 ∷ [])) ∷ not (holdsTable (3 ∷ 0 ∷ 0 ∷ []))
+    ∷ not (holdsTable (3 ∷ 2049 ∷ 6 ∷ 4 ∷ [])) ∷ equal (withTable (0 ∷ 0 ∷ 0 ∷ 0 ∷ 0 ∷ []) (6 ∷ 4 ∷ [])) (1 ∷ 2 ∷ 6 ∷ 4 ∷ 0 ∷ []) ∷ [])
 
--- How what has been taken is kept: zeros where nothing has; else mark, nodes and stakes, and the bytes, with zeros behind each.
+-- A piece's bytes stand behind the kept ones, as many as there is room for: of 1,341 places 1,340, or all, are taken in the last two.
+abbrev keeping : Bool
+keeping =
+    all (equal (fitting words (7 ∷ 8 ∷ 9 ∷ []) ∷ fitting (1341 ∷ []) (7 ∷ 8 ∷ 9 ∷ []) ∷ fitting (1342 ∷ []) (7 ∷ 8 ∷ 9 ∷ []) ∷ []) (3 ∷ 1 ∷ 0 ∷ []) ∷ equal (keptWords words (7 ∷ 8 ∷ 9 ∷ [])) (6 ∷ 2 ∷ 6 ∷ 4 ∷ 0 ∷ 0 ∷ [])
+    ∷ equal (keptWords (1341 ∷ 9 ∷ []) (7 ∷ 8 ∷ 9 ∷ [])) (1342 ∷ 9 ∷ []) ∷ equal (keptFront words bytes (7 ∷ 8 ∷ 9 ∷ [])) (11 ∷ 12 ∷ 7 ∷ 8 ∷ 9 ∷ 0 ∷ []) ∷ equal (keptFront (1342 ∷ []) bytes (7 ∷ 8 ∷ [])) bytes ∷ [])
+
+-- The panel's number, the words and the bytes that a piece leaves, and the end.
+abbrev shown : PieceLeft → List (List ℕ)
+shown v = (piecePanel (v .answer) .number ∷ []) ∷ v .words ∷ v .bytes ∷ []
+
+abbrev ended : EndLeft → List (List ℕ)
+ended v = (checkNumber (v .answer) ∷ []) ∷ v .words ∷ v .bytes ∷ []
+
+-- A later piece; a first one, with a table and with one that is 1; a piece and an end of a state that is none, which stay as found; the
+-- end of B9's proof, after which all is 0.
+abbrev left : Bool
+left =
+    let zeros : List ℕ = 0 ∷ 0 ∷ 0 ∷ 0 ∷ [] in
+    all (equals (shown (pieceTaken words bytes (7 ∷ []))) ((0 ∷ []) ∷ (4 ∷ 2 ∷ 6 ∷ 4 ∷ 0 ∷ 0 ∷ []) ∷ (11 ∷ 12 ∷ 7 ∷ 0 ∷ 0 ∷ 0 ∷ []) ∷ [])
+    ∷ equals (shown (firstLeaves zeros (0 ∷ 0 ∷ 0 ∷ []) (5 ∷ []) (7 ∷ 8 ∷ []))) ((0 ∷ []) ∷ (3 ∷ 1 ∷ 5 ∷ 0 ∷ []) ∷ (7 ∷ 8 ∷ 0 ∷ []) ∷ [])
+    ∷ equals (shown (firstLeaves zeros (0 ∷ 0 ∷ 0 ∷ []) (0 ∷ []) (7 ∷ 8 ∷ []))) ((1 ∷ []) ∷ zeros ∷ (0 ∷ 0 ∷ 0 ∷ []) ∷ [])
+    ∷ equals (shown (pieceLeaves words bytes (5 ∷ []) (7 ∷ []))) ((17 ∷ []) ∷ words ∷ bytes ∷ []) ∷ equals (ended (endLeaves words bytes)) ((17 ∷ []) ∷ words ∷ bytes ∷ [])
+    ∷ equals (ended (endChecked (6 ∷ 1 ∷ 5 ∷ 0 ∷ []) (1 ∷ 1 ∷ 7 ∷ 1 ∷ 0 ∷ 0 ∷ []))) ((0 ∷ []) ∷ zeros ∷ (0 ∷ 0 ∷ 0 ∷ 0 ∷ 0 ∷ 0 ∷ []) ∷ [])
+    ∷ equals (ended (endChecked (5 ∷ 1 ∷ 5 ∷ 0 ∷ []) (1 ∷ 1 ∷ 7 ∷ 1 ∷ 0 ∷ 0 ∷ []))) ((12 ∷ []) ∷ zeros ∷ (0 ∷ 0 ∷ 0 ∷ 0 ∷ 0 ∷ 0 ∷ []) ∷ []) ∷ [])
+
+-- How nothing, a table with three bytes, and a table with a byte more than is kept are spelled.
 abbrev spelled : Bool
 spelled =
-    let t = since (3 ∷ 4 ∷ []) (7 ∷ 8 ∷ 9 ∷ []) in
-    equal (length (wordsOf nothing) ∷ length (bytesOf nothing) ∷ length (wordsOf t) ∷ length (bytesOf t) ∷ getD (wordsOf nothing) 0 1 ∷ getD (bytesOf nothing) 1340 1 ∷ [])
-    (2050 ∷ 1341 ∷ 2050 ∷ 1341 ∷ 0 ∷ 0 ∷ [])
-    && equals (take 5 (wordsOf t) ∷ take 4 (bytesOf t) ∷ []) ((4 ∷ 2 ∷ 3 ∷ 4 ∷ 0 ∷ []) ∷ (7 ∷ 8 ∷ 9 ∷ 0 ∷ []) ∷ [])
+    let long = since (5 ∷ []) (replicate 1342 7) in
+    all (equal (wordsOf nothing) (replicate 2050 0) ∷ equal (bytesOf nothing) (replicate 1341 0)
+    ∷ equal (wordsOf (since (6 ∷ 4 ∷ []) (7 ∷ 8 ∷ 9 ∷ []))) ((4 ∷ 2 ∷ 6 ∷ 4 ∷ []) ++ replicate 2046 0) ∷ equal (bytesOf (since (6 ∷ 4 ∷ []) (7 ∷ 8 ∷ 9 ∷ []))) ((7 ∷ 8 ∷ 9 ∷ []) ++ replicate 1338 0)
+    ∷ equal (wordsOf long) ((1342 ∷ 1 ∷ 5 ∷ []) ++ replicate 2047 0) ∷ equal (bytesOf long) (replicate 1341 7) ∷ [])
 
--- Two pieces as calls, and their bytes one after the other.
-abbrev joined : Bool
-joined =
-    let one : Piece = record { stakes = 5 ∷ []; bytes = 1 ∷ 1 ∷ [] } in
-    let two : Piece = record { stakes = 0 ∷ []; bytes = 7 ∷ 1 ∷ 0 ∷ [] } in
-    equal (packet (one ∷ two ∷ [])) (1 ∷ 1 ∷ 7 ∷ 1 ∷ 0 ∷ [])
-    && equals (take 5 (wordsOf (afterCalls nothing (calls (one ∷ two ∷ [])))) ∷ take 6 (bytesOf (afterCalls nothing (calls (one ∷ two ∷ [])))) ∷ take 4 (wordsOf (afterCalls nothing (calls (two ∷ one ∷ [])))) ∷ [])
-    ((6 ∷ 1 ∷ 5 ∷ 0 ∷ 0 ∷ []) ∷ (1 ∷ 1 ∷ 7 ∷ 1 ∷ 0 ∷ 0 ∷ []) ∷ (3 ∷ 1 ∷ 5 ∷ 0 ∷ []) ∷ [])
+-- A call as numbers: 1, the table and the bytes of a piece, 2 of the end.
+abbrev called : List Asked → List (List ℕ)
+called [] = []
+called (piece stakes bs ∷ later) = (1 ∷ []) ∷ stakes ∷ bs ∷ called later
+called (end ∷ later) = (2 ∷ []) ∷ called later
 
-cornersOfState : T (all (parts ∷ first ∷ later ∷ ends ∷ sizes ∷ tables ∷ spelled ∷ joined ∷ []))
-unfolding rules afterPiece pieceAnswer endAnswer piecePanel said afterCall saidBy afterCalls calls packet blank isSized isReady holdsTable isWhole withTable keptWords keptFront firstLeaves pieceLeaves endLeaves wordsOf bytesOf
+-- The calls of two pieces, each with its table, and the packet that they are.
+abbrev inTurn : Bool
+inTurn =
+    let two : List Piece = record { stakes = 5 ∷ []; bytes = 7 ∷ 8 ∷ [] } ∷ record { stakes = 6 ∷ []; bytes = 9 ∷ [] } ∷ [] in
+    all (equals (called (calls two)) ((1 ∷ []) ∷ (5 ∷ []) ∷ (7 ∷ 8 ∷ []) ∷ (1 ∷ []) ∷ (6 ∷ []) ∷ (9 ∷ []) ∷ []) ∷ equal (packet two) (7 ∷ 8 ∷ 9 ∷ []) ∷ [])
+
+cornersOfState : T (all (parts ∷ sizes ∷ tables ∷ keeping ∷ left ∷ spelled ∷ inTurn ∷ []))
+unfolding rules piecePanel calls packet blank isSized isReady holdsTable isWhole withTable keptWords keptFront firstLeaves pieceLeaves endLeaves wordsOf bytesOf
 cornersOfState = tt

@@ -5,12 +5,16 @@ use mathlib.Core.Bool.{true, false}
 use mathlib.Core.List.{List, [], _∷_, _++_}
 use Prim.Native.Nat.{ℕ}
 use lib.Dec.{T}
+use Rattle.rulebook.specs.declared.Refusal.the-variants as refusal
 use Rattle.rulebook.specs.PaperNumbers.{Panel}
 use Rattle.rulebook.specs.Ledger.{Ledger, fresh, putArmed, putFinal}
-use Rattle.rulebook.specs.Scripts.{vote, stored, equals}
+use Rattle.rulebook.specs.Scripts.{vote, stored, cell, equals}
 use Rattle.rulebook.specs.Computes.{rules}
 use Rattle.record.specs.Layout.{ledgerOf}
 use Rattle.soundness.specs.Sound.{soundWords}
+use Rattle.readers.specs.declared.FinalAnswer.the-variants as final
+use Rattle.readers.specs.declared.ArmedAnswer.the-variants as armed
+use Rattle.readers.specs.declared.VotesAnswer.the-variants as votes
 use Rattle.readers.specs.Asked.{onSlot, finalOn, armedOn, votesOn, finalPanel, armedPanel, votesPanel}
 
 -- An answer's number and the values beside it.
@@ -44,3 +48,9 @@ reads-of-none : (ws : List ℕ) → soundWords ws ≡ false
     ((17 ∷ 0 ∷ []) ∷ (17 ∷ 0 ∷ []) ∷ (17 ∷ 0 ∷ 0 ∷ 0 ∷ 0 ∷ 0 ∷ 0 ∷ 0 ∷ []) ∷ []))
 unfolding rules onSlot finalOn armedOn votesOn finalPanel armedPanel votesPanel
 reads-of-none ws unsound = rw unsound tt
+
+-- The panel of each answer by itself.
+read-panels : T (equals (shown (finalPanel (final.Block 9)) ∷ shown (finalPanel (final.Refused refusal.BadSlot)) ∷ shown (armedPanel (armed.Armed true)) ∷ shown (armedPanel (armed.Armed false)) ∷ shown (armedPanel (armed.Refused refusal.BadSlot)) ∷ shown (votesPanel (votes.Votes (cell 11 12 13 14 15 16 17))) ∷ shown (votesPanel (votes.Refused refusal.BadNode)) ∷ [])
+    ((0 ∷ 9 ∷ []) ∷ (3 ∷ 0 ∷ []) ∷ (0 ∷ 1 ∷ []) ∷ (0 ∷ 0 ∷ []) ∷ (3 ∷ 0 ∷ []) ∷ (0 ∷ 11 ∷ 12 ∷ 13 ∷ 14 ∷ 15 ∷ 16 ∷ 17 ∷ []) ∷ (2 ∷ 0 ∷ 0 ∷ 0 ∷ 0 ∷ 0 ∷ 0 ∷ 0 ∷ []) ∷ []))
+unfolding rules finalPanel armedPanel votesPanel
+read-panels = tt

@@ -91,14 +91,14 @@ certificatesFirst =
 abbrev FbeforeG : Bool
 FbeforeG = equal (told (putFinal (stored watching (fifth ∷ seal 5 52 ∷ [])) 5 51)) (8 ∷ 5 ∷ 52 ∷ 6 ∷ 4 ∷ 41 ∷ [])
 
--- The walk alone, from slot 5: through a slot that has that very final block it goes on without a record, from one that has another it
--- goes no further; a slot without a final block starts none.
+-- The walk alone, from slot 5: through a slot that has that very final block it goes on without a record, from one that has another,
+-- higher or lower, it goes no further; a slot without a final block starts none.
 abbrev through : Bool
 through =
-    let l = stored watching (third ∷ fourth ∷ block 4 42 3 32 ∷ fifth ∷ []) in
+    let l = stored watching (third ∷ fourth ∷ block 4 42 3 32 ∷ block 4 40 3 31 ∷ fifth ∷ []) in
     let walk : Ledger → List ℕ = toldBy ruleG 5 in
-    equals (walk (putFinal (putFinal l 4 41) 5 51) ∷ walk (putFinal (putFinal (putFinal l 3 31) 4 41) 5 51) ∷ walk (putFinal (putFinal l 4 42) 5 51) ∷ walk (putFinal l 4 41) ∷ [])
-    ((6 ∷ 3 ∷ 31 ∷ 6 ∷ 2 ∷ 21 ∷ []) ∷ (6 ∷ 2 ∷ 21 ∷ []) ∷ (8 ∷ 4 ∷ 41 ∷ []) ∷ [] ∷ [])
+    equals (walk (putFinal (putFinal l 4 41) 5 51) ∷ walk (putFinal (putFinal (putFinal l 3 31) 4 41) 5 51) ∷ walk (putFinal (putFinal l 4 42) 5 51) ∷ walk (putFinal (putFinal l 4 40) 5 51) ∷ walk (putFinal l 4 41) ∷ [])
+    ((6 ∷ 3 ∷ 31 ∷ 6 ∷ 2 ∷ 21 ∷ []) ∷ (6 ∷ 2 ∷ 21 ∷ []) ∷ (8 ∷ 4 ∷ 41 ∷ []) ∷ (8 ∷ 4 ∷ 41 ∷ []) ∷ [] ∷ [])
 
 -- Under genesis 9, with numbers that are not above their slots: down to genesis, which gets no record.
 abbrev smallNumbers : Bool

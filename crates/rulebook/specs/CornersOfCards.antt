@@ -95,12 +95,14 @@ along =
     agree fifths (block 1 7 0 1 ∷ votes 1 (1 ∷ 2 ∷ []) 1 7 ++ votes 3 (3 ∷ 4 ∷ []) 1 0)
     && agree fifths (timeout 1 ∷ vote 1 1 1 23 ∷ vote 1 2 1 22 ∷ vote 1 3 1 21 ∷ vote 3 4 1 0 ∷ votes 4 (3 ∷ 4 ∷ []) 1 0)
 
--- A recount whose leading block is not the lowest, nor the first or the last that is named: blocks 7, 9 and 8 with 2, 5 and 4.
+-- A recount whose leading block is not the lowest, nor the first or the last that is named: blocks 7, 9 and 8 with 2, 5 and 4. Fallbacks
+-- alone lead nothing.
 abbrev recounts : Bool
 recounts =
     let l = stored five (vote 1 1 1 7 ∷ vote 1 2 1 9 ∷ vote 1 3 1 9 ∷ vote 1 4 1 8 ∷ vote 2 0 1 6 ∷ []) in
     let again = putCard l 1 (recount l 1) in
-    equals (card l 1 ∷ card again 1 ∷ []) (leading 9 5 ∷ leading 9 5 ∷ []) && cardFits l 1
+    let fallbacks = stored five (vote 2 1 1 7 ∷ vote 2 2 1 9 ∷ []) in
+    equals (card l 1 ∷ card again 1 ∷ card (putCard fallbacks 1 (recount fallbacks 1)) 1 ∷ []) (leading 9 5 ∷ leading 9 5 ∷ blank ∷ []) && cardFits l 1
 
 -- "A node record whose card disagrees with the recount is 17": each of its five words too low and too high, the other block of a tie, a leader without a
 -- vote; in the first slot, in one without votes and in the last; and row 0's.

@@ -5,9 +5,10 @@ use Prim.Native.Nat.{ℕ, _^_}
 use lib.ListN.{set, replicate}
 use lib.Dec.{T}
 use Rattle.rulebook.specs.Certificates.{Kept}
-use Rattle.rulebook.specs.PaperNumbers.{kindIn, stepPanel, writePanel}
+use Rattle.rulebook.specs.PaperNumbers.{certificateKind, kindIn, stepPanel, writePanel}
 use Rattle.rulebook.specs.Tools.{choose}
 use Rattle.rulebook.specs.Ledger.{Ledger, none, noKept, tableOf, putArmed, putTimedOut, putCertificates}
+use Rattle.rulebook.specs.Pool.{servesAs}
 use Rattle.rulebook.specs.Rules.{ruleA, ruleC, ruleD, ruleE, ruleF}
 use Rattle.rulebook.specs.Inputs.{intake}
 use Rattle.rulebook.specs.Packets.{certificateBytes}
@@ -59,6 +60,13 @@ arms =
     ∷ arming (packet 4 1 0 2 0 ∷ packet 4 2 0 2 0 ∷ packet 4 4 0 2 0 ∷ packet 4 3 0 2 0 ∷ []) ∷ [])
     (armed ∷ armed ∷ [] ∷ [] ∷ armed ∷ [] ∷ armed ∷ [])
     && equals (answered l (packet 1 4 9 6 0 ∷ [])) ((0 ∷ 6 ∷ 4 ∷ 9 ∷ 7 ∷ 5 ∷ 0 ∷ []) ∷ [])
+
+-- Which kinds each of the kinds 1 to 5 serves as: "a held kind 1 counts as 2, a 2 as 3".
+abbrev serving : Bool
+serving =
+    let counts : ℕ → ℕ → ℕ = (λ j k. choose (servesAs (certificateKind j) (certificateKind k)) 1 0) in
+    let row : ℕ → List ℕ = (λ j. counts j 1 ∷ counts j 2 ∷ counts j 3 ∷ counts j 4 ∷ counts j 5 ∷ []) in
+    equals (row 1 ∷ row 2 ∷ row 3 ∷ row 4 ∷ row 5 ∷ []) ((1 ∷ 1 ∷ 1 ∷ 0 ∷ 0 ∷ []) ∷ (0 ∷ 1 ∷ 1 ∷ 0 ∷ 0 ∷ []) ∷ (0 ∷ 0 ∷ 1 ∷ 0 ∷ 0 ∷ []) ∷ (0 ∷ 0 ∷ 0 ∷ 1 ∷ 0 ∷ []) ∷ (0 ∷ 0 ∷ 0 ∷ 0 ∷ 1 ∷ []) ∷ [])
 
 -- A kept 1 makes a block final, and so do 2 and 5, kept in any order or one of them by votes; 3 and 5 do not.
 abbrev finals : Bool
@@ -147,8 +155,8 @@ order =
     equal (numbers l (spelled [] ∷ spelled (2 ∷ 2 ∷ 7 ∷ 2 ∷ []) ∷ spelled (2 ∷ 2 ∷ 7 ∷ 128 ∷ 0 ∷ 0 ∷ []) ∷ packet 9 0 0 9 9 ∷ packet 12 2 7 2 0 ∷ packet 2 17 0 9 9 ∷ packet 2 2 0 9 9
     ∷ packet 2 2 7 9 0 ∷ packet 2 2 7 4 0 ∷ spelled (2 ∷ 2 ∷ 7 ∷ 2 ∷ 0 ∷ 0 ∷ []) ∷ []))
     (12 ∷ 12 ∷ 13 ∷ 4 ∷ 12 ∷ 3 ∷ 5 ∷ 14 ∷ 15 ∷ 12 ∷ [])
-    && equal (number (putTimedOut l 0) 0 [] ∷ number l 479 [] ∷ number l 480 [] ∷ number l 480 (2 ∷ 2 ∷ 7 ∷ 2 ∷ 0 ∷ []) ∷ number l 480 (2 ∷ 3 ∷ 7 ∷ 2 ∷ 0 ∷ []) ∷ number l 481 (2 ∷ 2 ∷ 7 ∷ 2 ∷ 0 ∷ []) ∷ [])
-    (17 ∷ 9 ∷ 12 ∷ 7 ∷ 0 ∷ 7 ∷ [])
+    && equal (number (putTimedOut l 0) 0 [] ∷ number (putCertificates l 16 (replicate 13 (record { block = 7; maska = 0; maskb = 0 }))) 0 [] ∷ number l 479 [] ∷ number l 480 [] ∷ number l 480 (2 ∷ 2 ∷ 7 ∷ 2 ∷ 0 ∷ []) ∷ number l 480 (2 ∷ 3 ∷ 7 ∷ 2 ∷ 0 ∷ []) ∷ number l 481 (2 ∷ 2 ∷ 7 ∷ 2 ∷ 0 ∷ []) ∷ [])
+    (17 ∷ 17 ∷ 9 ∷ 12 ∷ 7 ∷ 0 ∷ 7 ∷ [])
 
 -- What the certificate writer gives for a kind and a block of slot 2, and the proof writer: the number, then the bytes.
 abbrev written : Wrote → List ℕ
@@ -224,10 +232,10 @@ records =
     let l = ring stakes [] in
     let stands : ℕ → ℕ → ℕ → ℕ → ℕ → Bool = (λ s i b x y. wellFormed (putCertificates l s (placed i b x y))) in
     all (fits 0 7 6 0 ∷ not (fits 0 7 2 0) ∷ fits 1 7 2 0 ∷ not (fits 1 7 4 0) ∷ not (fits 1 0 2 0) ∷ not (fits 1 7 8 0) ∷ not (fits 1 7 2 4) ∷ fits 2 0 0 2 ∷ not (fits 2 7 2 0) ∷ fits 3 0 2 0
-    ∷ not (fits 3 0 2 4) ∷ fits 4 7 2 4 ∷ not (fits 4 7 2 2) ∷ not (fits 4 7 4 1) ∷ not (fits 4 7 0 0) ∷ not (fits 12 7 2 0) ∷ third (7 ∷ 8 ∷ 9 ∷ []) ∷ not (third (7 ∷ 7 ∷ [])) ∷ not (third (7 ∷ 8 ∷ 7 ∷ []))
+    ∷ not (fits 3 0 2 4) ∷ fits 4 7 2 4 ∷ not (fits 4 7 2 2) ∷ not (fits 4 7 4 1) ∷ not (fits 4 7 0 0) ∷ not (fits 4 1 0 0) ∷ not (fits 12 7 2 0) ∷ third (7 ∷ 8 ∷ 9 ∷ []) ∷ not (third (7 ∷ 7 ∷ [])) ∷ not (third (7 ∷ 8 ∷ 7 ∷ []))
     ∷ not (third (7 ∷ 0 ∷ 8 ∷ [])) ∷ not (third (0 ∷ 7 ∷ [])) ∷ stands 16 1 7 2 0 ∷ not (stands 16 1 7 4 0)
-    ∷ not (stands 0 2 0 2 0) ∷ not (stands 0 2 0 0 2) ∷ not (stands 0 12 7 0 0) ∷ [])
+    ∷ not (stands 0 2 0 2 0) ∷ not (stands 0 2 0 0 2) ∷ not (stands 0 12 7 0 0) ∷ not (stands 0 12 1 0 0) ∷ [])
 
-cornersOfCertificates : T (all (arms ∷ finals ∷ lowestFinal ∷ finalVote ∷ weightsStay ∷ repeats ∷ tenth ∷ order ∷ writers ∷ twoKept ∷ proofs ∷ heavy ∷ large ∷ records ∷ []))
+cornersOfCertificates : T (all (serving ∷ arms ∷ finals ∷ lowestFinal ∷ finalVote ∷ weightsStay ∷ repeats ∷ tenth ∷ order ∷ writers ∷ twoKept ∷ proofs ∷ heavy ∷ large ∷ records ∷ []))
 unfolding rules
 cornersOfCertificates = tt

@@ -42,7 +42,7 @@ spelled =
 -- A count outside 1 to 2,048 "is 1, tested first": before 12, and before 9.
 abbrev counts : Bool
 counts =
-    all (reads 1 0 [] ∷ reads 1 2049 [] ∷ reads 12 1 [] ∷ reads 12 65 [] ∷ reads 12 2048 [] ∷ writes 1 0 0 9 9 0 0 ∷ writes 1 2049 0 9 9 0 0 ∷ [])
+    all (reads 1 0 [] ∷ reads 1 2049 [] ∷ reads 12 1 [] ∷ reads 12 65 [] ∷ reads 12 2048 [] ∷ writes 1 0 0 9 9 0 0 ∷ writes 1 2049 0 9 9 0 0 ∷ writes 1 0 16 1 0 1 7 ∷ writes 1 2049 16 1 0 1 7 ∷ [])
 
 -- "12 and 13 as met over the four numbers": before 4 where the kind is none; a number that is not shortest before the end.
 abbrev met : Bool
@@ -61,7 +61,7 @@ ordered =
 abbrev written : Bool
 written =
     all (writes 9 4 15 6 4 17 0 ∷ writes 4 4 16 6 4 17 0 ∷ writes 3 4 16 1 4 17 0 ∷ writes 2 4 16 1 4 16 0 ∷ writes 2 4 16 1 99 16 0 ∷ writes 5 4 16 1 3 16 0
-    ∷ writes 5 4 16 5 3 16 7 ∷ writes 9 4 15 1 3 16 7 ∷ equal (packed 4 17 1 3 16 7) (0 ∷ 4 ∷ 1 ∷ 3 ∷ 16 ∷ 7 ∷ []) ∷ [])
+    ∷ writes 5 4 16 5 3 16 7 ∷ writes 9 4 15 1 3 16 7 ∷ equal (packed 4 17 1 3 16 7) (0 ∷ 4 ∷ 1 ∷ 3 ∷ 16 ∷ 7 ∷ []) ∷ equal (packed 4 2049 1 3 16 7) (0 ∷ 4 ∷ 1 ∷ 3 ∷ 16 ∷ 7 ∷ []) ∷ [])
 
 messages : T (all (spelled ∷ counts ∷ met ∷ ordered ∷ written ∷ []))
 unfolding rules

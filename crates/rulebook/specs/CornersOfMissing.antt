@@ -7,10 +7,11 @@ use lib.Dec.{T}
 use Rattle.rulebook.specs.declared.CertificateKind.the-variants as certificate
 use Rattle.rulebook.specs.declared.CheckAnswer.{CheckAnswer}
 use Rattle.rulebook.specs.Weights.{missing}
-use Rattle.rulebook.specs.PaperNumbers.{checkMissing, checkNumber}
+use Rattle.rulebook.specs.declared.Refusal.the-variants as refusal
+use Rattle.rulebook.specs.PaperNumbers.{refusalMissing, checkMissing, checkNumber}
 use Rattle.rulebook.specs.Pool.{missingTo}
 use Rattle.rulebook.specs.Checker.{checkCertificate, checkProof}
-use Rattle.rulebook.specs.Scripts.{votes, stored, equal, equals, all}
+use Rattle.rulebook.specs.Scripts.{votes, stored, ring, equal, equals, all}
 use Rattle.rulebook.specs.Bench.{ten}
 use Rattle.rulebook.specs.Computes.{rules}
 
@@ -71,6 +72,20 @@ ofVotes =
     ∷ missingTo l certificate.Notar 1 8 ∷ [])
     (4 ∷ 2 ∷ 1 ∷ 2 ∷ 0 ∷ 6 ∷ [])
 
-cornersOfMissing : T (all (distances ∷ uneven ∷ light ∷ others ∷ ofProofs ∷ ofVotes ∷ []))
+-- Stakes 4, 2, 1: what is missing is stake, not nodes. Node 1's notar vote, and node 2's.
+abbrev ofStake : Bool
+ofStake =
+    let l = stored (ring (4 ∷ 2 ∷ 1 ∷ []) []) (votes 1 (1 ∷ 2 ∷ []) 2 7) in
+    equal (missingTo l certificate.FastFinal 2 7 ∷ missingTo l certificate.Notar 2 7 ∷ missingTo l certificate.Final 2 0 ∷ []) (3 ∷ 2 ∷ 5 ∷ [])
+
+-- Each refusal by itself: 15 alone has a figure.
+abbrev figures : Bool
+figures =
+    equal (refusalMissing refusal.BadSizes ∷ refusalMissing refusal.BadNode ∷ refusalMissing refusal.BadSlot ∷ refusalMissing refusal.BadKind ∷ refusalMissing refusal.BadBlock ∷ refusalMissing refusal.OwnName
+    ∷ refusalMissing refusal.AlreadyKept ∷ refusalMissing refusal.OtherStands ∷ refusalMissing refusal.NoRoom ∷ refusalMissing refusal.NotArmed ∷ refusalMissing refusal.BadParent ∷ refusalMissing refusal.BadLength
+    ∷ refusalMissing refusal.BadNumber ∷ refusalMissing refusal.BadSigners ∷ refusalMissing (refusal.TooLight (record { 0 = 9 })) ∷ refusalMissing refusal.NotAProof ∷ refusalMissing refusal.BadRecord ∷ refusalMissing refusal.NotHeld ∷ [])
+    (replicate 14 0 ++ (9 ∷ 0 ∷ 0 ∷ 0 ∷ []))
+
+cornersOfMissing : T (all (distances ∷ uneven ∷ light ∷ others ∷ ofProofs ∷ ofVotes ∷ ofStake ∷ figures ∷ []))
 unfolding rules
 cornersOfMissing = tt

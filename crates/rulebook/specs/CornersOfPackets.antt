@@ -4,8 +4,9 @@ use mathlib.Core.List.{List, [], _∷_, _++_}
 use Prim.Native.Nat.{ℕ, _+_, _-_, _*_, _^_}
 use lib.ListN.{length, replicate}
 use lib.Dec.{T}
-use Rattle.rulebook.specs.PaperNumbers.{readingPanel, checkPanel, checkNumber}
-use Rattle.rulebook.specs.Packets.{numberBytes, numberFrom, maskAt, maskBytes, joined}
+use Rattle.rulebook.specs.PaperNumbers.{certificateNumber, readingPanel, foundPanel, checkPanel, checkNumber}
+use Rattle.rulebook.specs.declared.CertificateKind.the-variants as certificate
+use Rattle.rulebook.specs.Packets.{numberBytes, numberFrom, certificateAt, maskAt, maskBytes, joined}
 use Rattle.rulebook.specs.Checker.{checkCertificate, checkProof}
 use Rattle.rulebook.specs.Scripts.{equal, all}
 use Rattle.rulebook.specs.Bench.{shown}
@@ -24,10 +25,10 @@ proofs stakes (p ∷ ps) = checkNumber (checkProof stakes p) ∷ proofs stakes p
 abbrev three : List ℕ
 three = 3 ∷ 1 ∷ 1 ∷ []
 
--- 12 and 13 as met, then 4, 3, 5, 14, 15, leftover bytes last.
+-- 1 for no stakes and for more than 2,048; 12 and 13 as met, then 4, 3, 5, 14, 15, leftover bytes last.
 abbrev checkOrder : Bool
 checkOrder =
-    equal (checks [] ([] ∷ [])) (1 ∷ [])
+    equal (checks [] ([] ∷ []) ++ checks (replicate 2049 1) ([] ∷ [])) (1 ∷ 1 ∷ [])
     && equal (checks three ([] ∷ (9 ∷ 0 ∷ 0 ∷ 8 ∷ []) ∷ (9 ∷ 128 ∷ 0 ∷ 0 ∷ []) ∷ (9 ∷ 0 ∷ 0 ∷ 8 ∷ 8 ∷ 0 ∷ []) ∷ (2 ∷ 17 ∷ 0 ∷ 8 ∷ 8 ∷ []) ∷ (2 ∷ 0 ∷ 0 ∷ 8 ∷ 8 ∷ [])
     ∷ (2 ∷ 1 ∷ 0 ∷ 8 ∷ 8 ∷ []) ∷ (2 ∷ 1 ∷ 7 ∷ 8 ∷ 0 ∷ []) ∷ (2 ∷ 1 ∷ 7 ∷ 6 ∷ 0 ∷ 0 ∷ []) ∷ (2 ∷ 1 ∷ 7 ∷ 1 ∷ 0 ∷ 0 ∷ []) ∷ (2 ∷ 16 ∷ 7 ∷ 1 ∷ 0 ∷ []) ∷ []))
     (12 ∷ 12 ∷ 13 ∷ 4 ∷ 3 ∷ 3 ∷ 5 ∷ 14 ∷ 15 ∷ 12 ∷ 0 ∷ [])
@@ -52,14 +53,22 @@ weights =
     ∷ (4 ∷ 1 ∷ 0 ∷ 1 ∷ 0 ∷ []) ∷ (4 ∷ 1 ∷ 0 ∷ 2 ∷ 4 ∷ []) ∷ (5 ∷ 1 ∷ 0 ∷ 1 ∷ 0 ∷ []) ∷ (5 ∷ 1 ∷ 0 ∷ 6 ∷ 0 ∷ []) ∷ []))
     (0 ∷ 15 ∷ 0 ∷ 15 ∷ 0 ∷ 15 ∷ 0 ∷ 15 ∷ 0 ∷ 15 ∷ [])
 
--- 1 for a bad table, whatever the packet; 16 for each other kind first, and for a second of a lower or a higher slot, or of another kind.
+-- A certificate's numbers and the place after it, from a place of the packet on; 12 and 13 with zeros. A number that is no kind is 0.
+abbrev readWhole : Bool
+readWhole =
+    let reads : List ℕ → List ℕ = (λ bytes. shown (foundPanel (certificateAt bytes 1))) in
+    all (equal (reads (99 ∷ 3 ∷ 2 ∷ 7 ∷ 6 ∷ 1 ∷ 9 ∷ [])) (0 ∷ 3 ∷ 2 ∷ 7 ∷ 6 ∷ 1 ∷ 6 ∷ []) ∷ equal (reads (99 ∷ 3 ∷ 2 ∷ 7 ∷ 6 ∷ [])) (12 ∷ 0 ∷ 0 ∷ 0 ∷ 0 ∷ 0 ∷ 0 ∷ []) ∷ equal (reads (99 ∷ 3 ∷ 2 ∷ 128 ∷ 0 ∷ [])) (13 ∷ 0 ∷ 0 ∷ 0 ∷ 0 ∷ 0 ∷ 0 ∷ [])
+    ∷ equal (certificateNumber certificate.Other ∷ []) (0 ∷ []) ∷ [])
+
+-- 1 for a bad table, whatever the packet; 16 for each other kind first, and for a second of a lower or a higher slot, or of another kind;
+-- 12 however many bytes follow.
 abbrev proofOrder : Bool
 proofOrder =
     let fast : List ℕ = 1 ∷ 1 ∷ 7 ∷ 1 ∷ 0 ∷ [] in
     equal (proofs [] (fast ∷ [] ∷ []) ++ (proofs (5 ∷ []) (fast ∷ []) ++ proofs (5 ∷ 0 ∷ []) (fast ∷ []))) (1 ∷ 1 ∷ 0 ∷ 1 ∷ [])
     && equal (proofs three ((3 ∷ 1 ∷ 7 ∷ 1 ∷ 0 ∷ []) ∷ (4 ∷ 1 ∷ 0 ∷ 1 ∷ 0 ∷ []) ∷ (5 ∷ 1 ∷ 0 ∷ 1 ∷ 0 ∷ []) ∷ (2 ∷ 3 ∷ 7 ∷ 1 ∷ 0 ∷ 5 ∷ 2 ∷ 0 ∷ 1 ∷ 0 ∷ []) ∷ (2 ∷ 3 ∷ 7 ∷ 1 ∷ 0 ∷ 5 ∷ 4 ∷ 0 ∷ 1 ∷ 0 ∷ [])
-    ∷ (2 ∷ 3 ∷ 7 ∷ 1 ∷ 0 ∷ 3 ∷ 3 ∷ 7 ∷ 1 ∷ 0 ∷ []) ∷ (2 ∷ 3 ∷ 7 ∷ 1 ∷ 0 ∷ 5 ∷ 3 ∷ 0 ∷ 1 ∷ 0 ∷ []) ∷ []))
-    (16 ∷ 16 ∷ 16 ∷ 16 ∷ 16 ∷ 16 ∷ 0 ∷ []) &&
+    ∷ (2 ∷ 3 ∷ 7 ∷ 1 ∷ 0 ∷ 3 ∷ 3 ∷ 7 ∷ 1 ∷ 0 ∷ []) ∷ (2 ∷ 3 ∷ 7 ∷ 1 ∷ 0 ∷ 5 ∷ 3 ∷ 0 ∷ 1 ∷ 0 ∷ []) ∷ ((1 ∷ 1 ∷ 7 ∷ 3 ∷ 0 ∷ []) ++ replicate 60 0) ∷ ((2 ∷ 3 ∷ 7 ∷ 1 ∷ 0 ∷ 5 ∷ 3 ∷ 0 ∷ 1 ∷ 0 ∷ []) ++ replicate 60 0) ∷ []))
+    (16 ∷ 16 ∷ 16 ∷ 16 ∷ 16 ∷ 16 ∷ 0 ∷ 12 ∷ 12 ∷ []) &&
     equal (proofs three ((1 ∷ 1 ∷ 7 ∷ 3 ∷ 0 ∷ []) ∷ (1 ∷ 1 ∷ 7 ∷ 3 ∷ 0 ∷ 0 ∷ []) ∷ (3 ∷ 1 ∷ 7 ∷ 1 ∷ 0 ∷ 128 ∷ []) ∷ (2 ∷ 1 ∷ 7 ∷ 1 ∷ 0 ∷ [])
     ∷ (2 ∷ 1 ∷ 7 ∷ 1 ∷ 0 ∷ 4 ∷ 0 ∷ 0 ∷ 1 ∷ 0 ∷ []) ∷ (2 ∷ 1 ∷ 7 ∷ 1 ∷ 0 ∷ 5 ∷ 2 ∷ 0 ∷ 1 ∷ 0 ∷ 9 ∷ []) ∷ (2 ∷ 1 ∷ 7 ∷ 1 ∷ 0 ∷ 4 ∷ 1 ∷ 0 ∷ 1 ∷ 0 ∷ [])
     ∷ (2 ∷ 1 ∷ 7 ∷ 1 ∷ 0 ∷ 5 ∷ 1 ∷ 0 ∷ 1 ∷ 0 ∷ 9 ∷ []) ∷ (2 ∷ 1 ∷ 7 ∷ 1 ∷ 0 ∷ 5 ∷ 1 ∷ 0 ∷ 6 ∷ 0 ∷ []) ∷ (2 ∷ 1 ∷ 7 ∷ 1 ∷ 0 ∷ 5 ∷ 1 ∷ 0 ∷ 1 ∷ 0 ∷ []) ∷ []))
@@ -91,6 +100,6 @@ twoWords =
     ∷ equal (reads (5 ∷ [])) (12 ∷ 0 ∷ 0 ∷ []) ∷ equal (reads (5 ∷ 128 ∷ 0 ∷ [])) (13 ∷ 0 ∷ 0 ∷ [])
     ∷ equal (joined (5 ∷ 2 ∷ []) ∷ []) ((2 ^ 65 + 5) ∷ []) ∷ [])
 
-cornersOfPackets : T (all (checkOrder ∷ blockOfKind ∷ masks ∷ weights ∷ proofOrder ∷ counted ∷ tenBytes ∷ twoWords ∷ []))
+cornersOfPackets : T (all (checkOrder ∷ blockOfKind ∷ masks ∷ weights ∷ readWhole ∷ proofOrder ∷ counted ∷ tenBytes ∷ twoWords ∷ []))
 unfolding rules
 cornersOfPackets = tt

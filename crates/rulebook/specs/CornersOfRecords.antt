@@ -51,7 +51,7 @@ cells =
     let fits = withCell 1 1 in
     all (not (fits (cell 7 1 0 0 0 0 0)) ∷ not (fits (cell 0 2 0 0 0 0 0)) ∷ not (fits (cell 0 0 0 0 0 2 0)) ∷ not (fits (cell 0 0 0 0 0 0 2))
     ∷ not (fits (cell 0 0 0 6 0 0 0)) ∷ not (fits (cell 0 0 0 0 6 0 0)) ∷ not (fits (cell 0 0 5 0 6 0 0))
-    ∷ not (fits (cell 0 0 5 5 0 0 0)) ∷ not (fits (cell 0 0 5 6 6 0 0)) ∷ not (fits (cell 0 0 5 6 5 0 0)) ∷ not (withCell 16 1 (cell 0 2 0 0 0 0 0)) ∷ [])
+    ∷ not (fits (cell 0 0 5 5 0 0 0)) ∷ not (fits (cell 0 0 5 6 6 0 0)) ∷ not (fits (cell 0 0 5 6 5 0 0)) ∷ not (fits (cell 1 1 0 0 0 0 0)) ∷ not (fits (cell 0 0 1 2 1 0 0)) ∷ not (fits (cell 0 0 0 1 0 0 0)) ∷ fits (cell 0 0 1 5 0 0 0) ∷ not (withCell 16 1 (cell 0 2 0 0 0 0 0)) ∷ [])
 
 -- The own fallbacks of the own cell c, of five nodes of one fifth each: node 1 has skip, nodes 2 to 4 have notar for 21, 22 and 23.
 abbrev fifths : Cell → Ledger
@@ -70,7 +70,7 @@ ownFallbacks =
     let l = fifths (cell 0 1 21 22 23 0 0) in
     let own : Cell → Bool = (λ c. wellFormed (fifths c)) in
     all (wellFormed l ∷ not (own (cell 0 1 24 22 23 0 0)) ∷ not (own (cell 0 1 21 24 23 0 0)) ∷ not (own (cell 0 1 21 22 24 0 0))
-    ∷ not (own (cell 7 0 21 0 0 0 0)) ∷ not (wellFormed (withVotes l 1 1 (cell 0 0 0 0 0 1 0))) ∷ wellFormed (withVotes l 1 1 (cell 0 1 31 32 33 0 0))
+    ∷ not (own (cell 0 1 1 22 23 0 0)) ∷ not (own (cell 7 0 21 0 0 0 0)) ∷ not (wellFormed (withVotes l 1 1 (cell 0 0 0 0 0 1 0))) ∷ wellFormed (withVotes l 1 1 (cell 0 1 31 32 33 0 0))
     ∷ not (wellFormed (withVotes l 2 0 (cell 0 1 21 0 0 0 0))) ∷ not (wellFormed (withVotes l 16 0 (cell 0 1 21 0 0 0 0)))
     ∷ wellFormed (withOwn (fifths (cell 0 1 31 32 33 0 0)) 4) ∷ not (wellFormed (withOwn (withVotes l 1 4 (cell 23 0 31 0 0 0 0)) 4)) ∷ [])
 
@@ -122,7 +122,7 @@ abbrev numbersApart : Bool
 numbersApart =
     let fits : ℕ → ℕ → ℕ → ℕ → Bool = (λ a b c d. fourFit (keptAs a 5) (keptAs b 5) (keptAs c 6) (keptAs d 5)) in
     all (fits 0 0 0 0 ∷ fits 7 0 0 0 ∷ fits 7 8 0 0 ∷ fits 9 8 7 0 ∷ fits 7 8 9 10 ∷ not (fits 0 7 0 0) ∷ not (fits 0 0 7 0) ∷ not (fits 0 0 0 7) ∷ not (fits 7 0 8 0) ∷ not (fits 7 0 0 8)
-    ∷ not (fits 7 8 0 9) ∷ not (fits 0 7 8 9) ∷ not (fits 7 7 0 0) ∷ not (fits 7 8 7 0) ∷ not (fits 7 8 9 7) ∷ not (fits 7 8 8 0) ∷ not (fits 7 8 9 8) ∷ not (fits 7 8 9 9) ∷ [])
+    ∷ not (fits 7 8 0 9) ∷ not (fits 0 7 8 9) ∷ not (fits 7 7 0 0) ∷ not (fits 7 8 7 0) ∷ not (fits 7 8 9 7) ∷ not (fits 7 8 8 0) ∷ not (fits 0 1 0 0) ∷ fits 1 7 0 0 ∷ not (fits 7 8 9 8) ∷ not (fits 7 8 9 9) ∷ [])
 
 -- A timeout mark above 1, a mark of two final blocks above 1, and one that is in range; row 0's words, each.
 abbrev marks : Bool
@@ -131,7 +131,7 @@ marks =
     let blankBut : Block → Bool = (λ b. wellFormed (withBlock odd 0 b)) in
     let withMarks : ℕ → ℕ → Bool = (λ t c. wellFormed (putRow odd 2 (record { blocks = r .blocks; timedOut = t; final = r .final; clash = c; card = r .card; certificates = r .certificates; cells = r .cells }))) in
     all (withMarks 1 1 ∷ not (withMarks 2 0) ∷ not (withMarks 0 2) ∷ not (wellFormed (putTimedOut odd 0)) ∷ not (wellFormed (putClash odd 0))
-    ∷ not (wellFormed (putFinal odd 0 7)) ∷ not (blankBut (blockOf 7 0 0)) ∷ not (blankBut (blockOf 0 1 0)) ∷ not (blankBut (blockOf 0 0 1))
+    ∷ not (wellFormed (putFinal odd 0 7)) ∷ not (wellFormed (putFinal odd 0 1)) ∷ not (blankBut (blockOf 7 0 0)) ∷ not (blankBut (blockOf 0 1 0)) ∷ not (blankBut (blockOf 0 0 1))
     ∷ not (wellFormed (withBlocks odd 0 noBlock noBlock noBlock (blockOf 7 0 0))) ∷ [])
 
 -- The record with another header, its cards recounted.
@@ -146,7 +146,7 @@ heads =
     let a = odd .armed in
     let w = odd .stakes in
     let begun : ℕ → Bool = (λ g. headFits (fresh (6 ∷ 4 ∷ []) 0 g)) in
-    all (not (headed 0 0 0 a []) ∷ not (headed 3 10 0 a (w ++ (0 ∷ []))) ∷ not (headed 1 6 0 a w) ∷ not (headed 2 9 0 a w) ∷ not (headed 2 11 0 a w)
+    all (not (headed 0 0 0 a []) ∷ not (headed 3 10 0 a (w ++ (0 ∷ []))) ∷ not (headed 1 6 0 a w) ∷ not (headed 2 9 0 a w) ∷ not (headed 2 11 0 a w) ∷ not (headed 3 2 0 a (1 ∷ 1 ∷ 3 ∷ []))
     ∷ not (headed 2 10 3 a w) ∷ begun 1 ∷ not (begun 0) ∷ not (headed 2 10 0 (set a 0 2) w) ∷ not (headed 2 10 0 (set a 1 2) w) ∷ not (headed 2 10 0 (set a 2 2) w)
     ∷ not (headed 2 10 0 (set a 3 2) w) ∷ not (headed 2 6 0 a (set w 1 0)) ∷ not (headed 2 10 0 a (w ++ (1 ∷ []))) ∷ not (headed 2 (2 ^ 48 + 1) 0 a (set (set w 0 (2 ^ 48)) 1 1)) ∷ [])
 
@@ -155,7 +155,7 @@ abbrev otherGenesis : Bool
 otherGenesis =
     let l = fresh (6 ∷ 4 ∷ []) 0 9 in
     let fits : ℕ → Bool = (λ g. wellFormed (withBlock l 2 (blockOf 7 0 g))) in
-    all (headFits l ∷ fits 9 ∷ not (fits 1) ∷ not (fits 8) ∷ not (fits 10) ∷ [])
+    all (headFits l ∷ equal (l .armed) (0 ∷ 0 ∷ 0 ∷ 0 ∷ []) ∷ fits 9 ∷ not (fits 1) ∷ not (fits 8) ∷ not (fits 10) ∷ [])
 
 -- A ring of n nodes of stake 1 whose record has p places.
 abbrev sized : ℕ → ℕ → Ledger

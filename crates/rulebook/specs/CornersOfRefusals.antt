@@ -5,8 +5,13 @@ use Prim.Native.Nat.{ℕ, _-_, _^_}
 use lib.ListN.{replicate}
 use lib.Dec.{T}
 use Rattle.rulebook.specs.declared.Input.{Input}
-use Rattle.rulebook.specs.PaperNumbers.{verdictNumber, writePanel, kindIn}
+use Rattle.rulebook.specs.declared.Cell.{Cell}
+use Rattle.rulebook.specs.declared.VoteKind.{VoteKind}
+use Rattle.rulebook.specs.declared.VoteKind.the-variants as kind
+use Rattle.rulebook.specs.declared.Place.the-variants as place
+use Rattle.rulebook.specs.PaperNumbers.{verdictNumber, placeNumber, writePanel, kindIn}
 use Rattle.rulebook.specs.Ledger.{Ledger, cellAt, putArmed, putTimedOut, fresh, keepsBlock}
+use Rattle.rulebook.specs.Votes.{withVote}
 use Rattle.rulebook.specs.Inputs.{startVerdict}
 use Rattle.rulebook.specs.Writers.{writeCertificate, writeProof, over}
 use Rattle.rulebook.specs.Scripts.{vote, block, timeout, look, answers, stored, laterArmed, allArmed, cell, ring, equal, equals, all}
@@ -32,10 +37,26 @@ places =
     ((0 ∷ []) ∷ (7 ∷ []) ∷ (8 ∷ []) ∷ (8 ∷ []) ∷ (0 ∷ []) ∷ (7 ∷ []) ∷ (8 ∷ []) ∷ (0 ∷ []) ∷ (0 ∷ []) ∷ (0 ∷ []) ∷ (7 ∷ []) ∷ (8 ∷ [])
     ∷ (0 ∷ []) ∷ (7 ∷ []) ∷ (0 ∷ []) ∷ (7 ∷ []) ∷ [])
 
--- A node's votes in a slot, its seven places in their order.
+-- A cell's seven places in their order, and a node's in a slot.
+abbrev seven : Cell → List ℕ
+seven c = c .notar ∷ c .skip ∷ c .fallback1 ∷ c .fallback2 ∷ c .fallback3 ∷ c .skipfallback ∷ c .finalvote ∷ []
+
 abbrev kept : Ledger → ℕ → ℕ → List ℕ
-kept l s n =
-    let c = cellAt l s n in c .notar ∷ c .skip ∷ c .fallback1 ∷ c .fallback2 ∷ c .fallback3 ∷ c .skipfallback ∷ c .finalvote ∷ []
+kept l s n = seven (cellAt l s n)
+
+-- A vote of each kind changes its place alone, whatever stands in the others; fallbacks fill theirs from the front.
+abbrev ownPlace : Bool
+ownPlace =
+    let after : VoteKind → Cell → List ℕ = (λ k c. seven (withVote c k 9)) in
+    let full : Cell = cell 11 12 13 14 15 16 17 in
+    equals (after kind.Notar full ∷ after kind.Skip full ∷ after kind.SkipFallback full ∷ after kind.Final full ∷ after kind.Other full ∷ after kind.NotarFallback full
+    ∷ after kind.NotarFallback (cell 11 12 0 14 15 16 17) ∷ after kind.NotarFallback (cell 11 12 13 0 15 16 17) ∷ after kind.NotarFallback (cell 11 12 13 14 0 16 17) ∷ after kind.NotarFallback (cell 0 0 0 0 0 0 0) ∷ [])
+    ((9 ∷ 12 ∷ 13 ∷ 14 ∷ 15 ∷ 16 ∷ 17 ∷ []) ∷ (11 ∷ 1 ∷ 13 ∷ 14 ∷ 15 ∷ 16 ∷ 17 ∷ []) ∷ (11 ∷ 12 ∷ 13 ∷ 14 ∷ 15 ∷ 1 ∷ 17 ∷ []) ∷ (11 ∷ 12 ∷ 13 ∷ 14 ∷ 15 ∷ 16 ∷ 1 ∷ []) ∷ seven full ∷ seven full
+    ∷ (11 ∷ 12 ∷ 9 ∷ 14 ∷ 15 ∷ 16 ∷ 17 ∷ []) ∷ (11 ∷ 12 ∷ 13 ∷ 9 ∷ 15 ∷ 16 ∷ 17 ∷ []) ∷ (11 ∷ 12 ∷ 13 ∷ 14 ∷ 9 ∷ 16 ∷ 17 ∷ []) ∷ (0 ∷ 0 ∷ 9 ∷ 0 ∷ 0 ∷ 0 ∷ 0 ∷ []) ∷ [])
+
+-- What a vote finds at its place, as a number.
+abbrev found : Bool
+found = equal (placeNumber place.Free ∷ placeNumber place.Same ∷ placeNumber place.Taken ∷ []) (0 ∷ 7 ∷ 8 ∷ [])
 
 -- Votes of a node in any order stand beside each other: an initial vote behind fallbacks of either kind and behind a final, and they behind
 -- it. Each is kept in its place, and nothing else changes.
@@ -126,6 +147,6 @@ written =
     ((1 ∷ 1 ∷ 7 ∷ 3 ∷ 0 ∷ []) ∷ (2 ∷ 1 ∷ 7 ∷ 3 ∷ 0 ∷ []) ∷ (3 ∷ 1 ∷ 7 ∷ 3 ∷ 4 ∷ []) ∷ (5 ∷ 1 ∷ 0 ∷ 1 ∷ 0 ∷ []) ∷ [] ∷ (1 ∷ 1 ∷ 7 ∷ 3 ∷ 0 ∷ []) ∷ []
     ∷ (4 ∷ 1 ∷ 0 ∷ 1 ∷ 2 ∷ []) ∷ (2 ∷ 1 ∷ 7 ∷ 6 ∷ 0 ∷ 5 ∷ 1 ∷ 0 ∷ 6 ∷ 0 ∷ []) ∷ (1 ∷ 2 ∷ 8 ∷ 9 ∷ []) ∷ (6 ∷ 7 ∷ []) ∷ [])
 
-cornersOfRefusals : T (all (voteOrder ∷ places ∷ besideEachOther ∷ blockOrder ∷ fourBlocks ∷ announcedAgain ∷ keeping ∷ otherGenesis ∷ timeoutOrder ∷ noRuleRun ∷ starts ∷ writerOrder ∷ written ∷ []))
+cornersOfRefusals : T (all (voteOrder ∷ places ∷ ownPlace ∷ found ∷ besideEachOther ∷ blockOrder ∷ fourBlocks ∷ announcedAgain ∷ keeping ∷ otherGenesis ∷ timeoutOrder ∷ noRuleRun ∷ starts ∷ writerOrder ∷ written ∷ []))
 unfolding rules
 cornersOfRefusals = tt

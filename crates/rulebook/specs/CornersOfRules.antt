@@ -86,6 +86,12 @@ restart =
     equal (told (stored (armed (1 ∷ 4 ∷ 1 ∷ 4 ∷ []) []) (vote 1 1 1 9 ∷ votes 1 (0 ∷ 1 ∷ 2 ∷ []) 3 7 ++ (vote 3 3 3 0 ∷ votes 5 (1 ∷ 2 ∷ 3 ∷ []) 3 0))))
     (5 ∷ 3 ∷ 0 ∷ 3 ∷ 1 ∷ 0 ∷ 3 ∷ 2 ∷ 0 ∷ 3 ∷ 4 ∷ 0 ∷ 2 ∷ 1 ∷ 9 ∷ 6 ∷ 3 ∷ 7 ∷ [])
 
+-- E in slot 2 skips slot 1, where D then falls back before F in slot 3, whose block was final all along.
+abbrev restartLower : Bool
+restartLower =
+    equal (told (stored (armed (1 ∷ 4 ∷ 1 ∷ 4 ∷ []) []) (vote 1 1 1 9 ∷ vote 1 0 2 7 ∷ vote 3 1 2 0 ∷ votes 1 (1 ∷ 3 ∷ []) 3 7)))
+    (3 ∷ 1 ∷ 0 ∷ 3 ∷ 3 ∷ 0 ∷ 3 ∷ 4 ∷ 0 ∷ 4 ∷ 2 ∷ 0 ∷ 2 ∷ 1 ∷ 9 ∷ 6 ∷ 3 ∷ 7 ∷ [])
+
 -- Two final blocks, both unreported, one of them in the last slot.
 abbrev slotsAscend : Bool
 slotsAscend =
@@ -147,6 +153,13 @@ parents =
     ∷ arms (notar 9) (cell 8 0 21 22 9 0 0) ∷ arms (fallback 9) (fallback 8) ∷ [])
     ((7 ∷ 5 ∷ 0 ∷ []) ∷ (7 ∷ 5 ∷ 0 ∷ []) ∷ (7 ∷ 5 ∷ 0 ∷ []) ∷ (7 ∷ 5 ∷ 0 ∷ []) ∷ [] ∷ [])
     && all (not (ready l 1 1 7) ∷ not (ready l 1 2 7) ∷ [])
+
+-- A parent is ready where it was certified, by notar votes or fallbacks: not by final votes, nor in the slot above, nor where its number
+-- names a slot or its slot a number. Block 7 in slot 1, 2 in slot 4 and 4 in slot 5; finals in slot 2.
+abbrev parentsApart : Bool
+parentsApart =
+    let l = stored (ring (4 ∷ 6 ∷ []) []) (vote 1 1 1 7 ∷ vote 5 1 2 0 ∷ vote 1 1 4 2 ∷ vote 1 1 5 4 ∷ []) in
+    all (ready l 2 1 7 ∷ not (ready l 3 2 7) ∷ not (ready l 3 2 4) ∷ ready l 5 4 2 ∷ ready l 6 5 4 ∷ [])
 
 -- Off a window's first slot the parent stands in the slot before, and the own vote there is for it; equal numbers in several slots are
 -- told apart.
@@ -255,10 +268,13 @@ threeCast =
     ((2 ∷ 1 ∷ 24 ∷ []) ∷ [] ∷ (2 ∷ 1 ∷ 21 ∷ 2 ∷ 1 ∷ 22 ∷ 2 ∷ 1 ∷ 23 ∷ []) ∷ [])
     && wellFormed (f .ledger)
 
--- D with its fallback cast and the window open: the skips alone.
+-- D with its fallback cast and the window open: the skips alone. With a fallback for a block that has the slot's number: the one for 8.
+-- E with the window open: the skips and the skip-fallback.
 abbrev skipsBesideFallback : Bool
 skipsBesideFallback =
-    equal (toldBy ruleD 1 (armed (1 ∷ 4 ∷ 5 ∷ []) (cell 0 1 8 0 0 0 0 ∷ notar 8 ∷ noCell ∷ []))) (3 ∷ 2 ∷ 0 ∷ 3 ∷ 3 ∷ 0 ∷ 3 ∷ 4 ∷ 0 ∷ [])
+    equals (toldBy ruleD 1 (armed (1 ∷ 4 ∷ 5 ∷ []) (cell 0 1 8 0 0 0 0 ∷ notar 8 ∷ noCell ∷ [])) ∷ toldBy ruleD 1 (closed (1 ∷ 4 ∷ 5 ∷ []) (cell 0 1 1 0 0 0 0 ∷ notar 8 ∷ noCell ∷ []))
+    ∷ toldBy ruleE 1 (armed (2 ∷ 4 ∷ 4 ∷ []) (notar 7 ∷ skip ∷ noCell ∷ [])) ∷ [])
+    ((3 ∷ 2 ∷ 0 ∷ 3 ∷ 3 ∷ 0 ∷ 3 ∷ 4 ∷ 0 ∷ []) ∷ (2 ∷ 1 ∷ 8 ∷ []) ∷ (3 ∷ 2 ∷ 0 ∷ 3 ∷ 3 ∷ 0 ∷ 3 ∷ 4 ∷ 0 ∷ 4 ∷ 1 ∷ 0 ∷ []) ∷ [])
 
 -- Beside an own final D and E still cast the window's skips, whichever slot lacks an own initial vote. Asked in slot 6, the last
 -- time: of slots 1 to 9 slot 5 alone lacks one.
@@ -290,7 +306,7 @@ finals =
     ∷ toldBy ruleF 1 (putFinal (armed (1 ∷ 8 ∷ 1 ∷ []) (noCell ∷ notar 7 ∷ noCell ∷ [])) 1 7) ∷ three (notar 8) (notar 9) (notar 10) ∷ three (notar 10) (notar 9) (notar 8) ∷ [])
     ((6 ∷ 1 ∷ 7 ∷ []) ∷ [] ∷ (6 ∷ 1 ∷ 7 ∷ []) ∷ [] ∷ [] ∷ [] ∷ (6 ∷ 1 ∷ 8 ∷ 8 ∷ 1 ∷ 9 ∷ []) ∷ (6 ∷ 1 ∷ 8 ∷ 8 ∷ 1 ∷ 9 ∷ []) ∷ [])
 
-cornersOfRules : T (all (AbeforeC ∷ BbeforeF ∷ CbeforeD ∷ DbeforeE ∷ EbeforeF ∷ restart ∷ slotsAscend ∷ windowsOfFour ∷ nextDoor ∷ sixteenSkips
-    ∷ farParent ∷ parents ∷ chain ∷ insideWindows ∷ notArmedInside ∷ otherGenesis ∷ manyRules ∷ timeouts ∷ thresholds ∷ finalVotes ∷ fallbacks ∷ threeCast ∷ skipsBesideFallback ∷ skipsBesideFinal ∷ skipFallbacks ∷ finals ∷ []))
+cornersOfRules : T (all (AbeforeC ∷ BbeforeF ∷ CbeforeD ∷ DbeforeE ∷ EbeforeF ∷ restart ∷ restartLower ∷ slotsAscend ∷ windowsOfFour ∷ nextDoor ∷ sixteenSkips
+    ∷ farParent ∷ parents ∷ parentsApart ∷ chain ∷ insideWindows ∷ notArmedInside ∷ otherGenesis ∷ manyRules ∷ timeouts ∷ thresholds ∷ finalVotes ∷ fallbacks ∷ threeCast ∷ skipsBesideFallback ∷ skipsBesideFinal ∷ skipFallbacks ∷ finals ∷ []))
 unfolding rules
 cornersOfRules = tt

@@ -6,7 +6,7 @@ use lib.ListN.{length}
 use lib.Dec.{T}
 use Rattle.rulebook.specs.declared.Input.{Input}
 use Rattle.rulebook.specs.PaperNumbers.{stepPanel, verdictNumber, writePanel}
-use Rattle.rulebook.specs.Ledger.{Ledger, fresh, isWatcher, putTimedOut}
+use Rattle.rulebook.specs.Ledger.{Ledger, fresh, rowAt, isWatcher, putTimedOut}
 use Rattle.rulebook.specs.Inputs.{startVerdict, watchVerdict}
 use Rattle.rulebook.specs.Taking.{ofPacket, served}
 use Rattle.rulebook.specs.Writers.{writeProof}
@@ -43,13 +43,16 @@ walks =
     equals (answers (watcher (5 ∷ [])) (vote 1 0 2 9 ∷ block 1 7 0 1 ∷ block 2 9 1 7 ∷ []))
     ((0 ∷ 7 ∷ 1 ∷ 0 ∷ 6 ∷ 2 ∷ 9 ∷ []) ∷ (0 ∷ []) ∷ (0 ∷ 6 ∷ 1 ∷ 7 ∷ []) ∷ [])
 
--- "Timeouts are refused with 4, right after 17 and 9", whatever the slot; refused ones are not kept.
+-- "Timeouts are refused with 4, right after 17 and 9", whatever the slot; refused ones are not kept. A mark that stands in the record is in
+-- range, and changes nothing of it.
 abbrev timeouts : Bool
 timeouts =
     let l = after (watcher (5 ∷ [])) (look ∷ []) in
+    let marks : Ledger → List ℕ = (λ m. rowAt (step m 480 (timeout 1) .ledger) 1 .timedOut ∷ rowAt (step m 480 (timeout 1) .ledger) 2 .timedOut ∷ []) in
     let number : Ledger → ℕ → Input → ℕ = (λ m room i. stepPanel (step m room i .answer) .number) in
-    equal (number (putTimedOut l 0) 0 (timeout 1) ∷ number l 479 (timeout 1) ∷ number l 480 (timeout 1) ∷ number l 480 (timeout 0) ∷ number l 480 (timeout 17) ∷ number l 480 look ∷ [])
-    (17 ∷ 9 ∷ 4 ∷ 4 ∷ 4 ∷ 0 ∷ [])
+    equal (number (putTimedOut l 0) 0 (timeout 1) ∷ number l 479 (timeout 1) ∷ number l 480 (timeout 1) ∷ number l 480 (timeout 0) ∷ number l 480 (timeout 17) ∷ number l 480 look ∷ number (putTimedOut l 1) 480 (timeout 1) ∷ number (putTimedOut l 1) 480 look ∷ [])
+    (17 ∷ 9 ∷ 4 ∷ 4 ∷ 4 ∷ 0 ∷ 4 ∷ 0 ∷ [])
+    && equals (marks l ∷ marks (putTimedOut l 2) ∷ []) ((0 ∷ 0 ∷ []) ∷ (0 ∷ 1 ∷ []) ∷ [])
 
 -- "6 is never given": votes in any node's name, 2 for a number past the table, the watcher's own place among them.
 abbrev anyName : Bool

@@ -105,11 +105,15 @@ certificateFits stakes s i q = given (isKept q) (none (q .block)) (λ _. isFine 
 unfoldable pub inTurn : Kept → Kept → Bool
 inTurn q r = isKept q && not (eqb (q .block) (r .block))
 
--- ".. or repeats another".
+-- Place j stands after place i and keeps a certificate of its kind.
+abbrev pub isLater : ℕ → ℕ → Kept → Bool
+isLater i j r = isKept r && sameKind (placeKind i) (placeKind j)
+
+-- ".. or repeats another": what place i keeps, q, and what each later place of its kind keeps stand in turn; and so from the next place on.
 unfoldable pub certificatesApart : ℕ → List Kept → Bool
 certificatesApart i [] = true
 certificatesApart i (q ∷ qs) =
-    eachKept (λ j r. given (isKept r && sameKind (placeKind i) (placeKind j)) true (λ _. inTurn q r)) (suc i) qs && certificatesApart (suc i) qs
+    eachKept (λ j r. given (isLater i j r) true (λ _. inTurn q r)) (suc i) qs && certificatesApart (suc i) qs
 
 -- The kept certificates of a slot.
 unfoldable pub certificatesFit : List ℕ → ℕ → List Kept → Bool

@@ -2,14 +2,14 @@
 use mathlib.Core.Bool.{Bool, true, false, _&&_}
 use mathlib.Core.List.{List, [], _∷_, _++_}
 use Prim.Native.Nat.{ℕ}
-use lib.ListN.{replicate}
+use lib.ListN.{length, replicate}
 use lib.Dec.{T}
 use Rattle.rulebook.specs.PaperNumbers.{verdictNumber, startPanel}
 use Rattle.rulebook.specs.Scripts.{equal, all}
 use Rattle.rulebook.specs.Computes.{rules}
 use Rattle.record.specs.Layout.{maskWords, rowStart}
 use Rattle.record.specs.Spelling.{joined, spellMask, wordsOf}
-use Rattle.starts.specs.Starting.{startJudged, startAnswer, startLeft, watchJudged, begunJudged}
+use Rattle.starts.specs.Starting.{startJudged, startAnswer, startLeft, watchJudged, begunJudged, freshTo}
 
 -- Words that are lent, so many of them.
 abbrev lent : ℕ → List ℕ
@@ -50,6 +50,12 @@ left =
     let fresh : ℕ → List ℕ = (λ own. (2 ∷ 10 ∷ own ∷ 9 ∷ 0 ∷ 0 ∷ 0 ∷ 0 ∷ 6 ∷ 4 ∷ []) ++ replicate 1241 0) in
     all (equal (node 1251 1) (fresh 1) ∷ equal (watcher 1251) (fresh 2) ∷ equal (node 1251 2) (lent 1251) ∷ equal (node 1250 1) (lent 1250) ∷ equal (watcher 1252) (lent 1252) ∷ [])
 
-cornersOfStarts : T (all (lengths ∷ sizes ∷ begun ∷ left ∷ []))
-unfolding rules maskWords rowStart joined spellMask wordsOf startJudged startAnswer startLeft watchJudged begunJudged
+-- While one of two stakes is in: the other's place is 0, and the total is the one given.
+abbrev part : Bool
+part =
+    let l = freshTo (6 ∷ 4 ∷ []) 1 12 3 9 in
+    all (equal (l .count ∷ l .total ∷ l .own ∷ l .genesis ∷ length (l .rows) ∷ []) (2 ∷ 12 ∷ 3 ∷ 9 ∷ 17 ∷ []) ∷ equal (l .armed) (0 ∷ 0 ∷ 0 ∷ 0 ∷ []) ∷ equal (l .stakes) (6 ∷ 0 ∷ []) ∷ equal (freshTo (6 ∷ 4 ∷ []) 0 12 3 9 .stakes) (0 ∷ 0 ∷ []) ∷ [])
+
+cornersOfStarts : T (all (lengths ∷ sizes ∷ begun ∷ left ∷ part ∷ []))
+unfolding rules maskWords rowStart joined spellMask wordsOf startJudged startAnswer startLeft watchJudged begunJudged freshTo
 cornersOfStarts = tt

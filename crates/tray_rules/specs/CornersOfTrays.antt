@@ -49,6 +49,8 @@ order =
     all (equals (shown (tray (fresh (4 ∷ 3 ∷ 3 ∷ []) 4 1) 479 0 part)) (refusedWith 17)
     ∷ equals (shown (tray three 479 1 part)) (refusedWith 9)
     ∷ equals (shown (tray three 480 0 part)) (refusedWith 9)
+    ∷ equals (shown (tray three 480 6 mixed)) (refusedWith 9)
+    ∷ equals (shown (tray three 480 4 (part ++ (part ++ (part ++ part))))) (refusedWith 9)
     ∷ equals (shown (tray three 480 1 part)) (refusedWith 12)
     ∷ equals (shown (tray three 480 0 (1 ∷ 1 ∷ 1 ∷ []))) (refusedWith 12) ∷ [])
 
