@@ -4,3 +4,4 @@ pub mod State
 pub mod Promises
 pub mod CornersOfPieces
 pub mod CornersOfState
+pub mod CornersOfCalls
