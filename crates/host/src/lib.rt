@@ -1,0 +1,376 @@
+// A host in Rattle. It calls every function of the header and every public operation, and its contracts say what is promised of them: the calls that a
+// life is made of, and what is written, read, checked, compared and taken in pieces, in the words in which the promises speak of it, by name and
+// argument. Where a contract of the face drifts, the host is refused. Then it lives: what its calls make together.
+ghost use mathlib.Core.Path.{_≡_};
+ghost use lib.ListN.{length};
+ghost use Rattle.rulebook.specs.declared.Input.the-variants as input;
+ghost use Rattle.rulebook.specs.Checker.{checkCertificate, checkProof};
+ghost use Rattle.rulebook.specs.Messages.{voteOf, readVote, writeVote};
+ghost use Rattle.rulebook.specs.PaperNumbers.{startPanel};
+ghost use Rattle.rulebook.specs.Weights.{placesFor};
+ghost use Rattle.rulebook.specs.WellFormed.{outboxWords};
+ghost use Rattle.record.specs.Layout.{recordWords};
+ghost use Rattle.writers.specs.Writing.{certificateOn, proofOn};
+ghost use Rattle.cards.specs.Asked.{cardOn};
+ghost use Rattle.readers.specs.Asked.{finalOn, armedOn, votesOn};
+ghost use Rattle.texts.specs.Texts.{textOn};
+ghost use Rattle.pieces.specs.State.{stateWords, frontBytes};
+ghost use Rattle.inputs.specs.Inputs.{voteInput, blockInput, timeoutInput};
+ghost use Rattle.answers.specs.Face.{version, Started, Watched, Wrote, MessageRead, CardRead, FinalRead, ArmedRead, VotesRead, Checked, Compared, Pieced, Ended};
+ghost use Rattle.calls.specs.Operation.{oneInput, aTray, aPacket};
+ghost use Rattle.calls.specs.Life.{Met, MetWith, GoesOn, Life, begun};
+use node::step;
+use quointrowel::qr_block;
+use quointrowel::qr_card;
+use quointrowel::qr_check_certificate;
+use quointrowel::qr_check_proof;
+use quointrowel::qr_differ;
+use quointrowel::qr_end;
+use quointrowel::qr_final_block;
+use quointrowel::qr_is_armed;
+use quointrowel::qr_kept_votes;
+use quointrowel::qr_look;
+use quointrowel::qr_outbox_words;
+use quointrowel::qr_piece;
+use quointrowel::qr_pieces_bytes;
+use quointrowel::qr_pieces_words;
+use quointrowel::qr_read_vote;
+use quointrowel::qr_record_words;
+use quointrowel::qr_refusal_text;
+use quointrowel::qr_start;
+use quointrowel::qr_take;
+use quointrowel::qr_timeout;
+use quointrowel::qr_tray;
+use quointrowel::qr_version;
+use quointrowel::qr_vote;
+use quointrowel::qr_watch;
+use quointrowel::qr_write_certificate;
+use quointrowel::qr_write_proof;
+use quointrowel::qr_write_vote;
+use rulebook::Input;
+use rulebook::Node;
+use rulebook::StartAnswer;
+use rulebook::StepAnswer;
+use starts::start;
+use starts::watch;
+use taking::take;
+use trays::tray;
+
+// ---- the functions of the header: what a life is made of
+
+// Calls qr_start.
+pub fn face_start(rec: &mut [u64], stakes: &[u64], own: usize, genesis: u64) -> u64
+    ensures { λ r. ⌜ Started (now (rec .entry)) (now (stakes .entry)) own genesis r (now (rec .exit)) ⌝ }
+{
+    qr_start(rec, stakes, own, genesis)
+}
+
+// Calls qr_watch.
+pub fn face_watch(rec: &mut [u64], stakes: &[u64], genesis: u64) -> u64
+    ensures { λ r. ⌜ Watched (now (rec .entry)) (now (stakes .entry)) genesis r (now (rec .exit)) ⌝ }
+{
+    qr_watch(rec, stakes, genesis)
+}
+
+// Calls qr_vote.
+pub fn face_vote(
+    rec: &mut [u64],
+    outbox: &mut [u64],
+    made: &mut usize,
+    kind: u64,
+    node: usize,
+    slot: usize,
+    block: u64,
+) -> u64
+    ensures { λ r. ⌜ Met (oneInput (voteInput kind node slot block)) (now (rec .entry)) (now (outbox .entry)) r (now (made .exit)) (now (rec .exit)) (now (outbox .exit)) ⌝ }
+{
+    qr_vote(rec, outbox, made, kind, node, slot, block)
+}
+
+// Calls qr_block.
+pub fn face_block(
+    rec: &mut [u64],
+    outbox: &mut [u64],
+    made: &mut usize,
+    slot: usize,
+    number: u64,
+    parentslot: usize,
+    parent: u64,
+) -> u64
+    ensures { λ r. ⌜ Met (oneInput (blockInput slot number parentslot parent)) (now (rec .entry)) (now (outbox .entry)) r (now (made .exit)) (now (rec .exit)) (now (outbox .exit)) ⌝ }
+{
+    qr_block(rec, outbox, made, slot, number, parentslot, parent)
+}
+
+// Calls qr_timeout.
+pub fn face_timeout(rec: &mut [u64], outbox: &mut [u64], made: &mut usize, slot: usize) -> u64
+    ensures { λ r. ⌜ Met (oneInput (timeoutInput slot)) (now (rec .entry)) (now (outbox .entry)) r (now (made .exit)) (now (rec .exit)) (now (outbox .exit)) ⌝ }
+{
+    qr_timeout(rec, outbox, made, slot)
+}
+
+// Calls qr_look.
+pub fn face_look(rec: &mut [u64], outbox: &mut [u64], made: &mut usize) -> u64
+    ensures { λ r. ⌜ Met (oneInput input.Look) (now (rec .entry)) (now (outbox .entry)) r (now (made .exit)) (now (rec .exit)) (now (outbox .exit)) ⌝ }
+{
+    qr_look(rec, outbox, made)
+}
+
+// Calls qr_take.
+pub fn face_take(rec: &mut [u64], outbox: &mut [u64], made: &mut usize, packet: &[u8]) -> u64
+    ensures { λ r. ⌜ Met (aPacket (now (packet .entry))) (now (rec .entry)) (now (outbox .entry)) r (now (made .exit)) (now (rec .exit)) (now (outbox .exit)) ⌝ }
+{
+    qr_take(rec, outbox, made, packet)
+}
+
+// Calls qr_tray.
+pub fn face_tray(
+    rec: &mut [u64],
+    outbox: &mut [u64],
+    made: &mut usize,
+    votes: &[u64],
+    answers: &mut [u64],
+) -> u64
+    ensures { λ r. ⌜ Met (aTray (now (votes .entry)) (now (answers .entry)) (now (answers .exit))) (now (rec .entry)) (now (outbox .entry)) r (now (made .exit)) (now (rec .exit)) (now (outbox .exit)) ⌝ }
+{
+    qr_tray(rec, outbox, made, votes, answers)
+}
+
+// ---- what is written, read and checked
+
+// Calls qr_write_certificate.
+pub fn face_write_certificate(
+    rec: &[u64],
+    buffer: &mut [u8],
+    written: &mut usize,
+    kind: u64,
+    slot: usize,
+    block: u64,
+) -> u64
+    ensures { λ r. ⌜ Wrote (certificateOn (now (rec .entry)) (length (now (buffer .entry))) kind slot block) (now (buffer .entry)) r (now (written .exit)) (now (buffer .exit)) ⌝ }
+{
+    qr_write_certificate(rec, buffer, written, kind, slot, block)
+}
+
+// Calls qr_write_proof.
+pub fn face_write_proof(
+    rec: &[u64],
+    buffer: &mut [u8],
+    written: &mut usize,
+    slot: usize,
+    block: u64,
+) -> u64
+    ensures { λ r. ⌜ Wrote (proofOn (now (rec .entry)) (length (now (buffer .entry))) slot block) (now (buffer .entry)) r (now (written .exit)) (now (buffer .exit)) ⌝ }
+{
+    qr_write_proof(rec, buffer, written, slot, block)
+}
+
+// Calls qr_card.
+pub fn face_card(rec: &[u64], slot: usize, values: &mut [u64; 5]) -> u64
+    ensures { λ r. ⌜ CardRead (cardOn (now (rec .entry)) slot) r (now (values .exit)) ⌝ }
+{
+    qr_card(rec, slot, values)
+}
+
+// Calls qr_final_block.
+pub fn face_final_block(rec: &[u64], slot: usize, block: &mut u64) -> u64
+    ensures { λ r. ⌜ FinalRead (finalOn (now (rec .entry)) slot) r (now (block .exit)) ⌝ }
+{
+    qr_final_block(rec, slot, block)
+}
+
+// Calls qr_is_armed.
+pub fn face_is_armed(rec: &[u64], slot: usize, armed: &mut u64) -> u64
+    ensures { λ r. ⌜ ArmedRead (armedOn (now (rec .entry)) slot) r (now (armed .exit)) ⌝ }
+{
+    qr_is_armed(rec, slot, armed)
+}
+
+// Calls qr_kept_votes.
+pub fn face_kept_votes(rec: &[u64], slot: usize, node: usize, values: &mut [u64; 7]) -> u64
+    ensures { λ r. ⌜ VotesRead (votesOn (now (rec .entry)) slot node) r (now (values .exit)) ⌝ }
+{
+    qr_kept_votes(rec, slot, node, values)
+}
+
+// Calls qr_check_certificate.
+pub fn face_check_certificate(
+    stakes: &[u64],
+    packet: &[u8],
+    values: &mut [u64; 5],
+    missing: &mut u64,
+) -> u64
+    ensures { λ r. ⌜ Checked (length (now (stakes .entry))) (checkCertificate (now (stakes .entry)) (now (packet .entry))) r (now (values .exit)) (now (missing .exit)) ⌝ }
+{
+    qr_check_certificate(stakes, packet, values, missing)
+}
+
+// Calls qr_check_proof.
+pub fn face_check_proof(
+    stakes: &[u64],
+    packet: &[u8],
+    values: &mut [u64; 5],
+    missing: &mut u64,
+) -> u64
+    ensures { λ r. ⌜ Checked (length (now (stakes .entry))) (checkProof (now (stakes .entry)) (now (packet .entry))) r (now (values .exit)) (now (missing .exit)) ⌝ }
+{
+    qr_check_proof(stakes, packet, values, missing)
+}
+
+// ---- proofs in pieces, vote messages, comparisons, texts, sizes
+
+// Calls qr_piece.
+pub fn face_piece(words: &mut [u64], front: &mut [u8], stakes: &[u64], bytes: &[u8]) -> u64
+    ensures { λ r. ⌜ Pieced (now (words .entry)) (now (front .entry)) (now (stakes .entry)) (now (bytes .entry)) r (now (words .exit)) (now (front .exit)) ⌝ }
+{
+    qr_piece(words, front, stakes, bytes)
+}
+
+// Calls qr_end.
+pub fn face_end(
+    words: &mut [u64],
+    front: &mut [u8],
+    values: &mut [u64; 5],
+    missing: &mut u64,
+) -> u64
+    ensures { λ r. ⌜ Ended (now (words .entry)) (now (front .entry)) r (now (values .exit)) (now (missing .exit)) (now (words .exit)) (now (front .exit)) ⌝ }
+{
+    qr_end(words, front, values, missing)
+}
+
+// Calls qr_read_vote.
+pub fn face_read_vote(count: usize, message: &[u8], values: &mut [u64; 4]) -> u64
+    ensures { λ r. ⌜ MessageRead (readVote count (now (message .entry))) r (now (values .exit)) ⌝ }
+{
+    qr_read_vote(count, message, values)
+}
+
+// Calls qr_write_vote.
+pub fn face_write_vote(
+    buffer: &mut [u8],
+    written: &mut usize,
+    count: usize,
+    kind: u64,
+    node: usize,
+    slot: usize,
+    block: u64,
+) -> u64
+    ensures { λ r. ⌜ Wrote (writeVote count (length (now (buffer .entry))) (voteOf kind node slot block)) (now (buffer .entry)) r (now (written .exit)) (now (buffer .exit)) ⌝ }
+{
+    qr_write_vote(buffer, written, count, kind, node, slot, block)
+}
+
+// Calls qr_differ.
+pub fn face_differ(first: &[u64], second: &[u64], list: &mut [u64], beside: &mut usize) -> u64
+    ensures { λ r. ⌜ Compared (now (first .entry)) (now (second .entry)) (now (list .entry)) r (now (beside .exit)) (now (list .exit)) ⌝ }
+{
+    qr_differ(first, second, list, beside)
+}
+
+// Calls qr_refusal_text.
+pub fn face_refusal_text(buffer: &mut [u8], written: &mut usize, number: u64) -> u64
+    ensures { λ r. ⌜ Wrote (textOn (length (now (buffer .entry))) number) (now (buffer .entry)) r (now (written .exit)) (now (buffer .exit)) ⌝ }
+{
+    qr_refusal_text(buffer, written, number)
+}
+
+// Calls qr_version.
+pub fn face_version() -> u64
+    ensures { λ r. ⌜ r ≡ version ⌝ }
+{
+    qr_version()
+}
+
+// Calls qr_record_words.
+pub fn face_record_words(count: usize) -> usize
+    ensures { λ r. ⌜ r ≡ recordWords (placesFor count) ⌝ }
+{
+    qr_record_words(count)
+}
+
+// Calls qr_outbox_words.
+pub fn face_outbox_words() -> usize
+    ensures { λ r. ⌜ r ≡ outboxWords ⌝ }
+{
+    qr_outbox_words()
+}
+
+// Calls qr_pieces_words.
+pub fn face_pieces_words() -> usize
+    ensures { λ r. ⌜ r ≡ stateWords ⌝ }
+{
+    qr_pieces_words()
+}
+
+// Calls qr_pieces_bytes.
+pub fn face_pieces_bytes() -> usize
+    ensures { λ r. ⌜ r ≡ frontBytes ⌝ }
+{
+    qr_pieces_bytes()
+}
+
+// ---- the public operations: what a life is made of
+
+// Calls the public start.
+pub fn plain_start(rec: &mut [u64], stakes: &[u64], own: Node, genesis: u64) -> StartAnswer
+    ensures { λ r. ⌜ Started (now (rec .entry)) (now (stakes .entry)) (own .0) genesis (startPanel r .number) (now (rec .exit)) ⌝ }
+{
+    start(rec, stakes, own, genesis)
+}
+
+// Calls the public start of a watcher.
+pub fn plain_watch(rec: &mut [u64], stakes: &[u64], genesis: u64) -> StartAnswer
+    ensures { λ r. ⌜ Watched (now (rec .entry)) (now (stakes .entry)) genesis (startPanel r .number) (now (rec .exit)) ⌝ }
+{
+    watch(rec, stakes, genesis)
+}
+
+// Calls the public step.
+pub fn plain_step(rec: &mut [u64], outbox: &mut [u64], input: Input) -> StepAnswer
+    ensures { λ r. ⌜ MetWith (oneInput input) (now (rec .entry)) (now (outbox .entry)) r (now (rec .exit)) (now (outbox .exit)) ⌝ }
+{
+    step(rec, outbox, input)
+}
+
+// Calls the public taking.
+pub fn plain_take(rec: &mut [u64], outbox: &mut [u64], packet: &[u8]) -> StepAnswer
+    ensures { λ r. ⌜ MetWith (aPacket (now (packet .entry))) (now (rec .entry)) (now (outbox .entry)) r (now (rec .exit)) (now (outbox .exit)) ⌝ }
+{
+    take(rec, outbox, packet)
+}
+
+// Calls the public tray.
+pub fn plain_tray(
+    rec: &mut [u64],
+    outbox: &mut [u64],
+    votes: &[u64],
+    answers: &mut [u64],
+) -> StepAnswer
+    ensures { λ r. ⌜ MetWith (aTray (now (votes .entry)) (now (answers .entry)) (now (answers .exit))) (now (rec .entry)) (now (outbox .entry)) r (now (rec .exit)) (now (outbox .exit)) ⌝ }
+{
+    tray(rec, outbox, votes, answers)
+}
+
+// ---- lives
+
+// Calls qr_start: a life begins where it answers 0.
+pub fn lives_from(rec: &mut [u64], stakes: &[u64], own: usize, genesis: u64) -> u64
+    ensures { λ r. ⌜ (r ≡ 0 → Life (now (stakes .entry)) own genesis (begun (now (rec .exit)))) ⌝ }
+{
+    qr_start(rec, stakes, own, genesis)
+}
+
+// Calls qr_vote: every life on the words that it finds goes on, a watcher's too.
+pub fn lives_on(
+    rec: &mut [u64],
+    outbox: &mut [u64],
+    made: &mut usize,
+    kind: u64,
+    node: usize,
+    slot: usize,
+    block: u64,
+) -> u64
+    ensures { λ r. ⌜ GoesOn (oneInput (voteInput kind node slot block)) (now (rec .entry)) (now (outbox .entry)) r (now (made .exit)) (now (rec .exit)) (now (outbox .exit)) ⌝ }
+{
+    qr_vote(rec, outbox, made, kind, node, slot, block)
+}
