@@ -3,7 +3,7 @@ use mathlib.Core.Path.{_≡_}
 use mathlib.Core.Bool.{Bool, true, false, not, _&&_, _||_}
 use Prim.Native.Nat.{ℕ, suc, _*_, _≤_, _<_}
 use native.Mathlib.Omega.{arith}
-use lib.Dec.{T, eqb, leb, eqb→eq, eqb-refl, leb→le, le→leb, ltb→lt, lt→ltb, T-not}
+use lib.Dec.{T, eqb, leb, eqb-refl, leb→le, le→leb, ltb→lt, lt→ltb, T-not}
 use lib.ListN.{length}
 use Rattle.rulebook.specs.Tools.{choose, allTo, someTo}
 use Rattle.rulebook.specs.Weights.{lastSlot, windowOf, weight, isFirst}

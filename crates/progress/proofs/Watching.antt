@@ -21,7 +21,7 @@ use Rattle.safety.proofs.Weighing.{le-reaches, weight-mono}
 use Rattle.safety.proofs.Lives.{life-ready, life-table, fresh-ready, watch-sized}
 use Rattle.safety.proofs.Safety.{counted}
 use Rattle.chain.specs.OneChain.{keptBy}
-use Rattle.progress.specs.Rest.{isFinalVote, Decided, backed, passed}
+use Rattle.progress.specs.Rest.{Decided, backed, passed}
 use Rattle.progress.specs.Progress.{AtRest, MailIn}
 use Rattle.progress.specs.Watching.{WatcherMail, DecidedEverywhere, notarized, skippedOver, WatcherWokenArmed, WatchersDecide, WatchersArm}
 use Rattle.progress.proofs.Going.{first-one, honest-heavy, slots-decided}

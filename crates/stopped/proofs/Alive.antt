@@ -2,11 +2,11 @@
 use mathlib.Core.Path.{_≡_, sym, ap, _∙_, subst}
 use mathlib.Core.Bool.{Bool, false, not, _&&_, _||_}
 use mathlib.Core.List.{List}
-use Prim.Native.Nat.{ℕ, zero, suc, _*_, _≤_, _<_}
+use Prim.Native.Nat.{ℕ, zero, suc, _≤_}
 use native.Mathlib.Omega.{arith}
 use lib.Dec.{T, eqb, eqb→eq, eqb-refl, T-not, not-T}
 use lib.ListN.{length, getD}
-use Rattle.rulebook.specs.Weights.{lastSlot, weight, totalTo, reaches, isFirst, windowOf, dWeights}
+use Rattle.rulebook.specs.Weights.{lastSlot, weight, totalTo, reaches, dWeights}
 use Rattle.rulebook.specs.Ledger.{Ledger, none, fresh, cellAt, isWatcher, ownCell, noInitial, isArmed}
 use Rattle.rulebook.specs.Taking.{Arrival}
 use Rattle.safety.specs.Slot.{Test, Ballot, notar, notarFallback, skip, skipFallback, Heavy}
