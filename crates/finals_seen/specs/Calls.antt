@@ -24,7 +24,7 @@ use Rattle.finals_seen.specs.Finals.{Proved, Told}
 -- ---- patience
 
 -- A call of qr_timeout, or a step with a timeout, for a slot of window w in which the words that it found have no initial vote of node own: neither notar
--- nor skip, as qr_votes reads them.
+-- nor skip, as qr_kept_votes reads them.
 abbrev pub isHasty : ℕ → Seen → Operation → ℕ → Bool
 isHasty own v (oneInput (input.Vote x)) w = false
 isHasty own v (oneInput (input.Block s b)) w = false
