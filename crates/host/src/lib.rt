@@ -19,7 +19,19 @@ ghost use Rattle.inputs.specs.Inputs.{voteInput, blockInput, timeoutInput};
 ghost use Rattle.answers.specs.Face.{version, Started, Watched, Wrote, MessageRead, CardRead, FinalRead, ArmedRead, VotesRead, Checked, Compared, Pieced, Ended};
 ghost use Rattle.calls.specs.Operation.{oneInput, aTray, aPacket};
 ghost use Rattle.calls.specs.Life.{Met, MetWith, GoesOn, Life, begun};
+ghost use Rattle.host.specs.Answered.{WroteWith, CheckedWith, CardWith, FinalWith, ArmedWith, VotesWith, MessageWith, ComparedWith, PiecedWith, EndedWith};
+use cards::CardAnswer;
+use cards::read_card;
+use checker::check_certificate;
+use checker::check_proof;
+use differences::DifferAnswer;
+use differences::differ;
+use messages::read_vote;
+use messages::write_vote;
 use node::step;
+use pieces::PieceAnswer;
+use pieces::end;
+use pieces::piece;
 use quointrowel::qr_block;
 use quointrowel::qr_card;
 use quointrowel::qr_check_certificate;
@@ -47,14 +59,29 @@ use quointrowel::qr_watch;
 use quointrowel::qr_write_certificate;
 use quointrowel::qr_write_proof;
 use quointrowel::qr_write_vote;
+use readers::ArmedAnswer;
+use readers::FinalAnswer;
+use readers::VotesAnswer;
+use readers::read_armed;
+use readers::read_final;
+use readers::read_votes;
+use record::record_words;
+use rulebook::CheckAnswer;
 use rulebook::Input;
 use rulebook::Node;
+use rulebook::ReadAnswer;
+use rulebook::Slot;
 use rulebook::StartAnswer;
 use rulebook::StepAnswer;
+use rulebook::Vote;
+use rulebook::WriteAnswer;
 use starts::start;
 use starts::watch;
 use taking::take;
+use texts::refusal_text;
 use trays::tray;
+use writers::write_certificate;
+use writers::write_proof;
 
 // ---- the functions of the header: what a life is made of
 
@@ -349,6 +376,119 @@ pub fn plain_tray(
     ensures { λ r. ⌜ MetWith (aTray (now (votes .entry)) (now (answers .entry)) (now (answers .exit))) (now (rec .entry)) (now (outbox .entry)) r (now (rec .exit)) (now (outbox .exit)) ⌝ }
 {
     tray(rec, outbox, votes, answers)
+}
+
+// ---- the public operations: what is written, read and checked
+
+// Calls the public certificate writer.
+pub fn plain_write_certificate(
+    rec: &[u64],
+    buffer: &mut [u8],
+    kind: u64,
+    slot: Slot,
+    block: u64,
+) -> WriteAnswer
+    ensures { λ r. ⌜ WroteWith (certificateOn (now (rec .entry)) (length (now (buffer .entry))) kind (slot .0) block) (now (buffer .entry)) r (now (buffer .exit)) ⌝ }
+{
+    write_certificate(rec, buffer, kind, slot, block)
+}
+
+// Calls the public proof writer.
+pub fn plain_write_proof(rec: &[u64], buffer: &mut [u8], slot: Slot, block: u64) -> WriteAnswer
+    ensures { λ r. ⌜ WroteWith (proofOn (now (rec .entry)) (length (now (buffer .entry))) (slot .0) block) (now (buffer .entry)) r (now (buffer .exit)) ⌝ }
+{
+    write_proof(rec, buffer, slot, block)
+}
+
+// Calls the public check of a certificate.
+pub fn plain_check_certificate(stakes: &[u64], packet: &[u8]) -> CheckAnswer
+    ensures { λ r. ⌜ CheckedWith (length (now (stakes .entry))) (checkCertificate (now (stakes .entry)) (now (packet .entry))) r ⌝ }
+{
+    check_certificate(stakes, packet)
+}
+
+// Calls the public check of a proof.
+pub fn plain_check_proof(stakes: &[u64], packet: &[u8]) -> CheckAnswer
+    ensures { λ r. ⌜ CheckedWith (length (now (stakes .entry))) (checkProof (now (stakes .entry)) (now (packet .entry))) r ⌝ }
+{
+    check_proof(stakes, packet)
+}
+
+// Calls the public reader of a card.
+pub fn plain_read_card(rec: &[u64], slot: Slot) -> CardAnswer
+    ensures { λ r. ⌜ CardWith (cardOn (now (rec .entry)) (slot .0)) r ⌝ }
+{
+    read_card(rec, slot)
+}
+
+// Calls the public reader of a final block.
+pub fn plain_read_final(rec: &[u64], slot: Slot) -> FinalAnswer
+    ensures { λ r. ⌜ FinalWith (finalOn (now (rec .entry)) (slot .0)) r ⌝ }
+{
+    read_final(rec, slot)
+}
+
+// Calls the public reader of an armed window.
+pub fn plain_read_armed(rec: &[u64], slot: Slot) -> ArmedAnswer
+    ensures { λ r. ⌜ ArmedWith (armedOn (now (rec .entry)) (slot .0)) r ⌝ }
+{
+    read_armed(rec, slot)
+}
+
+// Calls the public reader of stored votes.
+pub fn plain_read_votes(rec: &[u64], slot: Slot, node: Node) -> VotesAnswer
+    ensures { λ r. ⌜ VotesWith (votesOn (now (rec .entry)) (slot .0) (node .0)) r ⌝ }
+{
+    read_votes(rec, slot, node)
+}
+
+// Calls the public operation that takes a piece.
+pub fn plain_piece(words: &mut [u64], front: &mut [u8], stakes: &[u64], bytes: &[u8]) -> PieceAnswer
+    ensures { λ r. ⌜ PiecedWith (now (words .entry)) (now (front .entry)) (now (stakes .entry)) (now (bytes .entry)) r (now (words .exit)) (now (front .exit)) ⌝ }
+{
+    piece(words, front, stakes, bytes)
+}
+
+// Calls the public operation that ends a proof in pieces.
+pub fn plain_end(words: &mut [u64], front: &mut [u8]) -> CheckAnswer
+    ensures { λ r. ⌜ EndedWith (now (words .entry)) (now (front .entry)) r (now (words .exit)) (now (front .exit)) ⌝ }
+{
+    end(words, front)
+}
+
+// Calls the public reader of vote messages.
+pub fn plain_read_vote(count: usize, message: &[u8]) -> ReadAnswer
+    ensures { λ r. ⌜ MessageWith (readVote count (now (message .entry))) r ⌝ }
+{
+    read_vote(count, message)
+}
+
+// Calls the public writer of vote messages.
+pub fn plain_write_vote(count: usize, vote: Vote, buffer: &mut [u8]) -> WriteAnswer
+    ensures { λ r. ⌜ WroteWith (writeVote count (length (now (buffer .entry))) vote) (now (buffer .entry)) r (now (buffer .exit)) ⌝ }
+{
+    write_vote(count, vote, buffer)
+}
+
+// Calls the public comparison.
+pub fn plain_differ(one: &[u64], two: &[u64], list: &mut [u64]) -> DifferAnswer
+    ensures { λ r. ⌜ ComparedWith (now (one .entry)) (now (two .entry)) (now (list .entry)) r (now (list .exit)) ⌝ }
+{
+    differ(one, two, list)
+}
+
+// Calls the public writer of texts.
+pub fn plain_refusal_text(buffer: &mut [u8], number: u64) -> WriteAnswer
+    ensures { λ r. ⌜ WroteWith (textOn (length (now (buffer .entry))) number) (now (buffer .entry)) r (now (buffer .exit)) ⌝ }
+{
+    refusal_text(buffer, number)
+}
+
+// Calls the public size of a record.
+pub fn plain_record_words(count: usize) -> usize
+    ensures { λ r. ⌜ r ≡ recordWords (placesFor count) ⌝ }
+{
+    record_words(count)
 }
 
 // ---- lives
