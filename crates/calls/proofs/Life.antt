@@ -35,7 +35,7 @@ use Rattle.safety.proofs.Lives.{life-on}
 use Rattle.seen.specs.Seen.{Seen, LifeSeen}
 use Rattle.seen.proofs.Numbers.{refusal-above}
 use Rattle.calls.specs.Operation.{Operation, oneInput, aTray, aPacket, fedBy}
-use Rattle.calls.specs.Life.{Met, MetWith, begun, next, Calls, none, then, notStarted, notWatched, Life, Watch, LifeIsSeen, WatchIsSeen, LivesAreNodes, CallsEarlier, LifeBegins, WatchBegins, MetGoesOn}
+use Rattle.calls.specs.Life.{Met, MetWith, begun, next, Calls, none, then, notStarted, notWatched, Life, Watch, LifeIsSeen, WatchIsSeen, LivesAreNodes, CallsEarlier, LifeBegins, WatchBegins, MetGoesOn, RefusedStays}
 use Rattle.calls.proofs.OneCall.{call-did}
 
 -- ---- the public operations, in numbers
@@ -193,6 +193,15 @@ met-goes-on o ws lent number made words left m =
           record { found = h .found; words = h .words; start = h .start; calls = then (h .calls) o lent number made words left (subst (λ (x : List ℕ). Met o x lent number made words left) (sym e) m) };
       watcher = λ stakes genesis v e h.
           record { found = h .found; words = h .words; start = h .start; calls = then (h .calls) o lent number made words left (subst (λ (x : List ℕ). Met o x lent number made words left) (sym e) m) };
+    }
+
+pub refused-stays : RefusedStays
+refused-stays ws stakes own genesis number words s n =
+    record {
+      node = λ table me g v e h.
+          record { found = h .found; words = h .words; start = h .start; calls = notStarted (h .calls) stakes own genesis number words (subst (λ (x : List ℕ). Started x stakes own genesis number words) (sym e) s) n };
+      watcher = λ table g v e h.
+          record { found = h .found; words = h .words; start = h .start; calls = notStarted (h .calls) stakes own genesis number words (subst (λ (x : List ℕ). Started x stakes own genesis number words) (sym e) s) n };
     }
 
 -- ---- on any words that 17 lets pass

@@ -100,3 +100,12 @@ pub record GoesOn (o : Operation) (ws lent : List ℕ) (number made : ℕ) (word
 -- A call that meets its contract does.
 abbrev pub MetGoesOn : Type 0
 MetGoesOn = (o : Operation) (ws lent : List ℕ) (number made : ℕ) (words left : List ℕ) → Met o ws lent number made words left → GoesOn o ws lent number made words left
+
+-- What a start that is refused does to any life on the words that it found: the life stays.
+pub record Stays (ws words : List ℕ) : Type 0 where
+  pub node : (stakes : List ℕ) (own genesis : ℕ) (v : Seen) → v .words ≡ ws → Life stakes own genesis v → Life stakes own genesis (refusedTo v words)
+  pub watcher : (stakes : List ℕ) (genesis : ℕ) (v : Seen) → v .words ≡ ws → Watch stakes genesis v → Watch stakes genesis (refusedTo v words)
+
+abbrev pub RefusedStays : Type 0
+RefusedStays =
+    (ws stakes : List ℕ) (own genesis number : ℕ) (words : List ℕ) → Started ws stakes own genesis number words → ¬ (number ≡ 0) → Stays ws words

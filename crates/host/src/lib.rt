@@ -18,7 +18,7 @@ ghost use Rattle.pieces.specs.State.{stateWords, frontBytes};
 ghost use Rattle.inputs.specs.Inputs.{voteInput, blockInput, timeoutInput};
 ghost use Rattle.answers.specs.Face.{version, Started, Watched, Wrote, MessageRead, CardRead, FinalRead, ArmedRead, VotesRead, Checked, Compared, Pieced, Ended};
 ghost use Rattle.calls.specs.Operation.{oneInput, aTray, aPacket};
-ghost use Rattle.calls.specs.Life.{Met, MetWith, GoesOn, Life, begun};
+ghost use Rattle.calls.specs.Life.{Met, MetWith, GoesOn, Stays, Life, Watch, begun};
 ghost use Rattle.host.specs.Answered.{WroteWith, CheckedWith, CardWith, FinalWith, ArmedWith, VotesWith, MessageWith, ComparedWith, PiecedWith, EndedWith};
 use cards::CardAnswer;
 use cards::read_card;
@@ -496,6 +496,20 @@ pub fn plain_record_words(count: usize) -> usize
 // Calls qr_start: a life begins where it answers 0.
 pub fn lives_from(rec: &mut [u64], stakes: &[u64], own: usize, genesis: u64) -> u64
     ensures { λ r. ⌜ (r ≡ 0 → Life (now (stakes .entry)) own genesis (begun (now (rec .exit)))) ⌝ }
+{
+    qr_start(rec, stakes, own, genesis)
+}
+
+// Calls qr_watch: a watcher's life begins where it answers 0.
+pub fn lives_watching(rec: &mut [u64], stakes: &[u64], genesis: u64) -> u64
+    ensures { λ r. ⌜ (r ≡ 0 → Watch (now (stakes .entry)) genesis (begun (now (rec .exit)))) ⌝ }
+{
+    qr_watch(rec, stakes, genesis)
+}
+
+// Calls qr_start on a record that lives: where it does not answer 0, every life on the words that it finds stays.
+pub fn lives_through(rec: &mut [u64], stakes: &[u64], own: usize, genesis: u64) -> u64
+    ensures { λ r. ⌜ (¬ (r ≡ 0) → Stays (now (rec .entry)) (now (rec .exit))) ⌝ }
 {
     qr_start(rec, stakes, own, genesis)
 }
