@@ -170,11 +170,16 @@ uint64_t qr_vote(uint64_t *record, size_t record_words, uint64_t *outbox, size_t
  * So that the four places never run out, announce a slot's first block as it comes, and a further one only once it has rule D's
  * weights in this record: its notar votes reach 40 percent of the stake, or reach 20 and together with skip votes 60. At most
  * three blocks of a slot ever have them. By this policy 8 means a number that is kept with another parent, and nothing else.
+ *
+ * For finality the leader's block must be the first of its slot that is answered 0, since the node votes for no other.
  */
 uint64_t qr_block(uint64_t *record, size_t record_words, uint64_t *outbox, size_t outbox_words, size_t *made, size_t slot,
                   uint64_t number, size_t parent_slot, uint64_t parent);
 
-/* A slot's time is out. Refusals: 17, 9, 3, 10, 7; of a watcher 17, 9, and then 4 whatever the slot. */
+/*
+ * A slot's time is out. Refusals: 17, 9, 3, 10, 7; of a watcher 17, 9, and then 4 whatever the slot. Where the node has not voted in
+ * the slot it skips every slot of the window in which it has not; so that blocks become final, wait for its vote there.
+ */
 uint64_t qr_timeout(uint64_t *record, size_t record_words, uint64_t *outbox, size_t outbox_words, size_t *made, size_t slot);
 
 /* Only runs the rules. Refusals: 17, 9. */

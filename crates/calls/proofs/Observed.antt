@@ -42,7 +42,7 @@ use Rattle.calls.proofs.OneCall.{OneServed, step-leaves, take-leaves, c
 use Rattle.calls.proofs.Life.{many, born-seen, life-is-seen}
 
 -- 0 is the number of "done".
-done-zero : (a : StepAnswer) (number : ℕ) → number ≡ stepPanel a .number → eqb number 0 ≡ isDone a
+pub done-zero : (a : StepAnswer) (number : ℕ) → number ≡ stepPanel a .number → eqb number 0 ≡ isDone a
 unfolding stepPanel isDone
 done-zero (Done n) number e = rw e
 done-zero (Refused r) number e = by-test (eqb number 0) (λ t. refusal-above r (sym e ∙ eqb-true number 0 t)) (λ t. t)
@@ -51,11 +51,11 @@ done-zero (Refused r) number e = by-test (eqb number 0) (λ t. refusal-above r (
 
 -- A step that is answered 0 had room in its outbox, and the rules accept what arrived with it.
 module _ (ws lent : List ℕ) (i : Input) (number made : ℕ) (words left : List ℕ) (sound : soundWords ws ≡ true) (s : Stepped ws lent i number made words left) where
-  record Accepted : Type 0 where
-    arrived : oneWith (ofInput i) lent ≡ ofInput i ∷ []
-    done : T (isDone (served (ledgerOf ws) (ofInput i) .answer))
+  pub record Accepted : Type 0 where
+    pub arrived : oneWith (ofInput i) lent ≡ ofInput i ∷ []
+    pub done : T (isDone (served (ledgerOf ws) (ofInput i) .answer))
 
-  accepted : T (eqb number 0) → Accepted
+  pub accepted : T (eqb number 0) → Accepted
   unfolding oneWith
   accepted z =
       by-test (leb outboxWords (length lent))

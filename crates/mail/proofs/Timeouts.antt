@@ -104,7 +104,7 @@ slot-low l zero e = absurd (passed _ _ _ (passed _ _ _ e .1) .0)
 slot-low l (suc s) e = omega arith
 
 -- An input that is answered 0 has passed the tests.
-done-fine : (l : Ledger) (i : Input) → T (isDone (served l (ofInput i) .answer)) → verdict l i ≡ verdicts.Fine
+pub done-fine : (l : Ledger) (i : Input) → T (isDone (served l (ofInput i) .answer)) → verdict l i ≡ verdicts.Fine
 unfolding served feed fedOn refusedWith isDone
 done-fine l i t = go (verdict l i) t
   where
@@ -113,7 +113,7 @@ done-fine l i t = go (verdict l i) t
     go (verdicts.Refused r) u = absurd u
 
 module _ {most : ℕ} (me : ℕ) (l : Ledger) (r : Ready most me l) where
-  timeout-votes : (i : Arrival) (s : ℕ) → timeoutVerdict l s ≡ verdicts.Fine → Voted me (timeOut l s .ledger) s
+  pub timeout-votes : (i : Arrival) (s : ℕ) → timeoutVerdict l s ≡ verdicts.Fine → Voted me (timeOut l s .ledger) s
   unfolding timeOut
   timeout-votes i s e =
       let g = start-going me l r i in

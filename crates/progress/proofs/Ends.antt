@@ -88,7 +88,7 @@ lives-settle stakes own genesis e lived t = life-rests (fresh stakes own genesis
 -- ---- woken
 
 -- Before it nothing has changed.
-life-stays : (l : Ledger) (is : List Arrival) → Sound l → acceptedIn l is ≡ false → afterAll l is ≡ l
+pub life-stays : (l : Ledger) (is : List Arrival) → Sound l → acceptedIn l is ≡ false → afterAll l is ≡ l
 unfolding afterAll acceptedIn
 life-stays l [] h e = refl
 life-stays l (i ∷ is) h e =

@@ -62,7 +62,7 @@ module _ (ws : List ℕ) (k : ℕ) (honest : Test) (genesis : ℕ → ℕ) (cast
   -- ---- weights
 
   -- Honest stake is over four fifths.
-  honest-heavy : 4 * total < 5 * weight ws k honest
+  pub honest-heavy : 4 * total < 5 * weight ws k honest
   honest-heavy =
       omega (
         arith,
@@ -77,7 +77,7 @@ module _ (ws : List ℕ) (k : ℕ) (honest : Test) (genesis : ℕ → ℕ) (cast
       let v = weight-find ws k honest (λ n. false) (omega (arith, honest-heavy, weight-zero ws k (λ n. false) (λ n l. tt))) in (v .0, v .1)
 
   -- A set with all honest nodes reaches 60.
-  pub all-reach : (p : Test) → ((n : ℕ) → T (honest n) → T (p n)) → Heavy 3 ws k p
+  all-reach : (p : Test) → ((n : ℕ) → T (honest n) → T (p n)) → Heavy 3 ws k p
   all-reach p f = le-reaches 3 total (weight ws k p) (omega (arith, honest-heavy, weight-mono ws k honest p f))
 
   -- 60 for block c in an honest eye are more than 40 of honest initial votes.

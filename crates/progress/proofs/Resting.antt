@@ -73,12 +73,12 @@ module _ (l : Ledger) where
   not-none : (x : ℕ) → 1 ≤ x → T (not (none x))
   not-none x h = not-T (none x) (λ t. let e = eqb→eq x 0 t in omega arith)
 
-  positive : (x : ℕ) → T (not (none x)) → 1 ≤ x
+  pub positive : (x : ℕ) → T (not (none x)) → 1 ≤ x
   positive zero t = absurd (T-not (none 0) t (eqb-refl 0))
   positive (suc x) t = omega arith
 
   -- A test that weighs something names somebody in the table.
-  look : (p : ℕ → Bool) → 1 ≤ weight (l .stakes) (l .count) p → (n : ℕ) × (n < l .count) × T (p n)
+  pub look : (p : ℕ → Bool) → 1 ≤ weight (l .stakes) (l .count) p → (n : ℕ) × (n < l .count) × T (p n)
   look p h =
       let m = weight-find (l .stakes) (l .count) p (λ n. not (ltb n (l .count)))
       (omega (arith, weight-zero (l .stakes) (l .count) (λ n. not (ltb n (l .count))) (λ n z. yes (ltb n (l .count)) (lt→ltb n (l .count) z)))) in
@@ -168,7 +168,7 @@ module _ (l : Ledger) where
             (T-and (not (isFree k)) (hasNumber b k) (a .0) (c .0))
             (rw (eqb→eq (k .parentslot .0) p (d .0), eqb→eq (k .parent) x (d .1)) h)
 
-        grounded : (s b : ℕ) → (T (not (isFirst s)) → Ground s b) → T (isGrounded l s b)
+        pub grounded : (s b : ℕ) → (T (not (isFirst s)) → Ground s b) → T (isGrounded l s b)
         unfolding isGrounded keepsBlock
         grounded s b g =
             by-test (isFirst s) (λ f. T-left (isFirst s) (someBlock (isBacked l s b) (blocksAt l s)) f)
@@ -186,7 +186,7 @@ module _ (l : Ledger) where
             (reaches-more 2 (l .total) (weight (l .stakes) (l .count) (λ m. has (cellAt l s m) (notar b))) x
             (weight-mono (l .stakes) (l .count) (λ m. has (cellAt l s m) (notar b)) (λ n. eqb (cellAt l s n .notar) b) (λ n u. notar-is (cellAt l s n) b u .1)) t)
 
-        falls-holds : (s b : ℕ) → T (not (eqb (ownCell l s .notar) b)) → T (mayFallback (ownCell l s) b) → T (fallbackWeights l s b) → T (isGrounded l s b) → T (fallsBack l s b)
+        pub falls-holds : (s b : ℕ) → T (not (eqb (ownCell l s .notar) b)) → T (mayFallback (ownCell l s) b) → T (fallbackWeights l s b) → T (isGrounded l s b) → T (fallsBack l s b)
         unfolding fallsBack
         falls-holds s b nb may w g =
             let c = ownCell l s in
@@ -201,7 +201,7 @@ module _ (l : Ledger) where
             and-T (not (eqb (c .notar) b)) (windowOpen l s || mayFallback c b)
             (given-T (not (eqb (c .notar) b) && (windowOpen l s || mayFallback c b)) (λ _. given (fallbackWeights l s b) false (λ _. isGrounded l s b)) t .0) .1
 
-        d-grows : (rs : List Record) (s b : ℕ) → T (not (noInitial (ownCell l s))) → Among b (names l s) → T (fallsBack l s b) → made (stateOf l rs) < made (ruleD (stateOf l rs) s)
+        pub d-grows : (rs : List Record) (s b : ℕ) → T (not (noInitial (ownCell l s))) → Among b (names l s) → T (fallsBack l s b) → made (stateOf l rs) < made (ruleD (stateOf l rs) s)
         unfolding ruleD fallbackBlock names
         d-grows rs s b init named t =
             let o : State = stateOf l rs in

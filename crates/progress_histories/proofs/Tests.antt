@@ -42,34 +42,34 @@ along-at f d (is ∷ iss) n zero m e h = let p : n ≡ m = omega arith in ap (λ
 along-at f d (is ∷ iss) n (suc i) m e h = along-at f d iss (suc n) i m (omega arith) (omega arith)
 
 module _ (h : History) where
-  within-table : (n : ℕ) → T (honestIn h n) → n < length (h .arrived)
+  pub within-table : (n : ℕ) → T (honestIn h n) → n < length (h .arrived)
   within-table n z = ltb→lt n (length (h .arrived)) z
 
-  end-is : (n : ℕ) → T (honestIn h n) → endOf (ends h) n ≡ endIn h n
+  pub end-is : (n : ℕ) → T (honestIn h n) → endOf (ends h) n ≡ endIn h n
   unfolding ends
   end-is n z = along-at (λ n is. afterAll (fresh (h .stakes) n (h .genesis n)) is) (fresh [] 0 0) (h .arrived) 0 n n (omega arith) (within-table n z)
 
-  told-is : (n : ℕ) → T (honestIn h n) → toldIn (fresh (h .stakes) n (h .genesis n)) (fedIn h n) ≡ toldOf (tolds h) n
+  pub told-is : (n : ℕ) → T (honestIn h n) → toldIn (fresh (h .stakes) n (h .genesis n)) (fedIn h n) ≡ toldOf (tolds h) n
   unfolding tolds
   told-is n z = sym (along-at (λ n is. toldIn (fresh (h .stakes) n (h .genesis n)) is) [] (h .arrived) 0 n n (omega arith) (within-table n z))
 
   -- What holds of the computed end holds of the end.
-  at-end : (P : Ledger → Bool) (n : ℕ) → T (honestIn h n) → T (P (endOf (ends h) n)) → T (P (endIn h n))
+  pub at-end : (P : Ledger → Bool) (n : ℕ) → T (honestIn h n) → T (P (endOf (ends h) n)) → T (P (endIn h n))
   at-end P n z t = subst (λ (l : Ledger). T (P l)) (end-is n z) t
 
   each : (p : ℕ → Bool) → T (everywhere h p) → (n : ℕ) → T (honestIn h n) → T (p n)
   each p t n z = true-T (p n) (all-at (length (h .arrived)) n p (T-true (everywhere h p) t) (within-table n z))
 
-  slot-of : (u : ℕ) (p : ℕ → Bool) → T (upTo u p) → (s : ℕ) → s ≤ u → T (p s)
+  pub slot-of : (u : ℕ) (p : ℕ → Bool) → T (upTo u p) → (s : ℕ) → s ≤ u → T (p s)
   slot-of u p t s hi = true-T (p s) (all-at (suc u) s p (T-true (upTo u p) t) (omega arith))
 
   -- ---- the ring
 
-  few-ok : T (fewOthers h) → FewOthers (h .stakes) (honestIn h)
+  pub few-ok : T (fewOthers h) → FewOthers (h .stakes) (honestIn h)
   unfolding fewOthers
   few-ok t = ltb→lt _ (total h) t
 
-  started-ok : T (allStarted h) → (n : ℕ) → T (honestIn h n) → startVerdict (h .stakes) n (h .genesis n) ≡ Fine
+  pub started-ok : T (allStarted h) → (n : ℕ) → T (honestIn h n) → startVerdict (h .stakes) n (h .genesis n) ≡ Fine
   unfolding allStarted
   started-ok t n z =
       let a = and-T (stakesFit (h .stakes) (length (h .stakes))) _ t in
@@ -83,7 +83,7 @@ module _ (h : History) where
     abbrev cast : ℕ → ℕ → Ballot → Bool
     cast n s v = castBy (h .stakes) (h .genesis) (honestIn h) (fedIn h) n s v
 
-    own : (n s : ℕ) (v : Ballot) → T (honestIn h n) → T (cast n s v) → T (has (cellAt (endIn h n) s n) v)
+    pub own : (n s : ℕ) (v : Ballot) → T (honestIn h n) → T (cast n s v) → T (has (cellAt (endIn h n) s n) v)
     own n s v z t =
         life-stored n (fresh (h .stakes) n (h .genesis n)) (fedIn h n) (fresh-ready (h .stakes) n (h .genesis n) (start-sized (h .stakes) n (h .genesis n) (st n z))) s v t
 
@@ -145,7 +145,7 @@ module _ (h : History) where
   -- ---- all of them
 
   -- A premise that is not left out is found to hold.
-  meant : (left q : ℕ) (found : Bool) → T (asMeant left q found) → ¬ (left ≡ q) → T found
+  pub meant : (left q : ℕ) (found : Bool) → T (asMeant left q found) → ¬ (left ≡ q) → T found
   unfolding asMeant choose
   meant left q found t ne = go (eqb left q) (λ e. ne (eqb→eq left q e)) t
     where

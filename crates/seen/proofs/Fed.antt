@@ -44,7 +44,7 @@ use Rattle.seen.proofs.Progress.{ledger-is, stake-told, never-hangs}
 
 module _ (stakes : List ℕ) (own genesis : ℕ) (l : Seen) (h : NodeSeen stakes own genesis l) where
   -- The own cell is the one under the number of the start.
-  own-cell : (s : ℕ) → ownCell (afterAll (fresh stakes own genesis) (l .came)) s ≡ cellAt (ledgerIn l) s own
+  pub own-cell : (s : ℕ) → ownCell (afterAll (fresh stakes own genesis) (l .came)) s ≡ cellAt (ledgerIn l) s own
   own-cell s =
       let start : Ledger = fresh stakes own genesis in
       let e = life-ready own start (l .came) (fresh-ready stakes own genesis (start-sized stakes own genesis (h .started))) .own in
@@ -100,10 +100,10 @@ module _ (stakes : List ℕ) (genesis : ℕ → ℕ) (honest : Test) (lives : Li
   now : (n : ℕ) → T (honest n) → ledgerIn (lives n) ≡ end n
   now = ledger-is stakes genesis honest lives ring
 
-  armed-words : (n s : ℕ) → T (honest n) → T (isArmed (end n) s) → T (armedIn (lives n) s)
+  pub armed-words : (n s : ℕ) → T (honest n) → T (isArmed (end n) s) → T (armedIn (lives n) s)
   armed-words n s h t = subst (λ (l : Ledger). T (isArmed l s)) (sym (now n h)) t
 
-  initial-or-timed : (n s : ℕ) → T (honest n) → T (not (noInitial (cellAt (ledgerIn (lives n)) s n)) || timedOutIn (fresh stakes n (genesis n)) (fed n) s)
+  pub initial-or-timed : (n s : ℕ) → T (honest n) → T (not (noInitial (cellAt (ledgerIn (lives n)) s n)) || timedOutIn (fresh stakes n (genesis n)) (fed n) s)
       → T (not (noInitial (ownCell (end n) s)) || timedOutIn (fresh stakes n (genesis n)) (fed n) s)
   initial-or-timed n s h t =
       let one = not (noInitial (ownCell (end n) s)) in

@@ -83,11 +83,11 @@ module _ (stakes : List ℕ) (own genesis : ℕ) (size : Sized stakes own) (life
             kind lo hi block (T-true (held now k s b) t));
       }
 
-  gives-three : (s b : ℕ) → 1 ≤ s → s ≤ lastSlot → T (not (none b)) → T (held now certificate.NotarFallback s b) → Gives stakes life certificate.NotarFallback s b
+  pub gives-three : (s b : ℕ) → 1 ≤ s → s ≤ lastSlot → T (not (none b)) → T (held now certificate.NotarFallback s b) → Gives stakes life certificate.NotarFallback s b
   unfolding isOtherKind blockMisfits
   gives-three s b lo hi some t = gives certificate.NotarFallback s b refl lo hi (not-false (none b) some) t
 
-  gives-four : (s : ℕ) → 1 ≤ s → s ≤ lastSlot → T (held now certificate.Skip s 0) → Gives stakes life certificate.Skip s 0
+  pub gives-four : (s : ℕ) → 1 ≤ s → s ≤ lastSlot → T (held now certificate.Skip s 0) → Gives stakes life certificate.Skip s 0
   unfolding isOtherKind blockMisfits
   gives-four s lo hi t = gives certificate.Skip s 0 refl lo hi refl t
 
@@ -116,7 +116,7 @@ module _ (stakes : List ℕ) (genesis : ℕ → ℕ) (honest : Test) (lives : Li
 
   module _ (u : ℕ) (mail : MailIn stakes honest lives u) where
     -- The mail is in by the ledgers.
-    mail-in : book.MailIn stakes genesis honest fed u
+    pub mail-in : book.MailIn stakes genesis honest fed u
     mail-in =
         record {
           woken = λ n h. subst T (sym (ends.woken-armed stakes n (genesis n) (all n h .started) (fed n)))
