@@ -35,6 +35,8 @@ pub struct Check {
 #[derive(Clone, Copy, Debug, PartialEq, Eq)]
 pub enum Outcome {
     Final(u64),
+    /// Honest firms have different final blocks.
+    Twice,
     Skipped,
     Open,
 }
@@ -109,7 +111,7 @@ fn proofs(ring: &Ring, spoil: bool) -> Check {
             }
         }
     }
-    check("Every proof that a firm writes is accepted, whole and in pieces", (tried, "proofs"), true, broken)
+    check("Every proof is accepted, whole and in pieces", (tried, "proofs"), true, broken)
 }
 
 /// The answer to a proof cut at random places, a piece without bytes among them.
@@ -160,7 +162,7 @@ fn one_chain(ring: &Ring, spoil: bool) -> Check {
         }
     }
     let broken = broken.or_else(|| off_the_chain(ring, &finals));
-    check("One chain; no record 8; final blocks equal, each told once", (tried, "final blocks"), ring.is_promised(), broken)
+    check("One chain; no record 8; final blocks equal", (tried, "final blocks"), ring.is_promised(), broken)
 }
 
 /// A final block that is no ancestor of the next final one.
@@ -221,10 +223,12 @@ fn decisions(ring: &Ring, spoil: bool) -> Vec<Decision> {
 fn outcomes(ring: &Ring, decided: &[Decision]) -> [Outcome; SLOTS + 1] {
     let mut outcomes = [Outcome::Open; SLOTS + 1];
     for slot in 1..=SLOTS {
-        let mut finals = ring.standing().map(|firm| ring.hosts[firm].record().final_block(Slot(slot)).ok().flatten());
-        let first = finals.next().flatten();
-        outcomes[slot] = match first {
-            Some(block) if finals.all(|other| other == first) => Outcome::Final(block),
+        let of_firm = |firm: usize| ring.hosts[firm].record().final_block(Slot(slot)).ok().flatten();
+        let finals: BTreeSet<u64> = ring.honest().filter_map(of_firm).collect();
+        let everywhere = ring.standing().all(|firm| of_firm(firm).is_some());
+        outcomes[slot] = match finals.first() {
+            Some(_) if finals.len() > 1 => Outcome::Twice,
+            Some(&block) if everywhere => Outcome::Final(block),
             None if decided[slot - 1].skip => Outcome::Skipped,
             _ => Outcome::Open,
         };
@@ -242,7 +246,7 @@ fn progress(ring: &Ring, decided: &[Decision]) -> Check {
     let broken = undecided.map(|slot| format!("slot {} is not decided alike at every honest firm", slot + 1));
     let broken = broken.or_else(|| left_open(ring)).or_else(|| odd_answer(ring));
     let tried = if is_promised || broken.is_some() { standing * SLOTS as u64 } else { 0 };
-    let promise = "Every slot decided at every honest firm; every answer one that the policy allows for";
+    let promise = "Every slot decided at every honest firm";
     check(promise, (tried, "slots"), is_promised, broken)
 }
 
@@ -308,7 +312,7 @@ fn watchers(ring: &Ring, spoil: bool) -> Check {
             }
         }
     }
-    check("Watchers have the votes and certificates; differ tells what was fed", (tried, "votes compared"), true, broken)
+    check("Watchers have the votes; differ tells what was fed", (tried, "votes"), true, broken)
 }
 
 /// A watcher fed a firm's life; spoilt, all of it but the last vote.
@@ -385,8 +389,8 @@ fn named(ring: &Ring, clash: &Option<Clash>, not_clear: &[(usize, usize)]) -> Ch
     let weight = ring.weight(not_clear.iter().map(|&(firm, _)| firm));
     let too_few = clash.as_ref().is_some_and(Clash::has_two_proofs) && !ring.agreed.reaches(1, weight);
     let broken = broken.or(too_few.then(|| "two blocks of a slot have proofs, and less than a fifth is named".to_string()));
-    let promise = "Who cast two initial votes in a slot: no honest firm, and a fifth where two blocks are proved";
-    check(promise, (ring.honest().count() as u64, "firms asked"), true, broken)
+    let promise = "Who is not clear: no honest firm is named";
+    check(promise, (ring.honest().count() as u64, "firms"), true, broken)
 }
 
 /// Every vote that was cast, and what `--break 2` and `--break 6` forge in honest names: in a final slot a skip-fallback of every

@@ -112,7 +112,6 @@ impl Options {
             ("firms", firms.to_string(), firms == usual.firms.0 || is_file),
             ("stakes", stakes, self.stakes == usual.stakes),
             ("lying", self.lying.to_string(), self.lying == usual.lying),
-            ("how", self.how.as_ref().map_or(String::new(), how), self.how.is_none()),
             ("late", self.late.to_string(), self.late == usual.late),
             ("twice", self.twice.to_string(), self.twice == usual.twice),
             ("lost", self.lost.to_string(), self.lost == usual.lost),
@@ -120,6 +119,7 @@ impl Options {
             ("crash", self.crash.to_string(), self.crash == usual.crash),
             ("watchers", self.watchers.to_string(), self.watchers == usual.watchers),
             ("seed", self.seed.to_string(), false),
+            ("how", self.how.as_ref().map_or(String::new(), how), self.how.is_none()),
             ("break", self.spoil.map_or(String::new(), |k| k.to_string()), self.spoil.is_none()),
         ]
     }

@@ -46,10 +46,16 @@ impl Clash {
         }
     }
 
-    /// Who signed on both sides.
+    /// The two certificates that contradict each other: the ones for blocks, else the final one against the rival.
+    pub fn pair(&self) -> (&Packet, &Packet) {
+        let against = if self.has_two_proofs() { &self.proof[0] } else { self.proof.last().unwrap_or(&self.proof[0]) };
+        (against, &self.rival[0])
+    }
+
+    /// Who signed both of them.
     pub fn in_both(&self) -> Vec<usize> {
-        let signed = |packets: &[Packet], firm: usize| packets.iter().any(|packet| packet.signers[firm]);
-        (0..self.proof[0].signers.len()).filter(|&firm| signed(&self.proof, firm) && signed(&self.rival, firm)).collect()
+        let (first, second) = self.pair();
+        (0..first.signers.len()).filter(|&firm| first.signers[firm] && second.signers[firm]).collect()
     }
 }
 

@@ -120,7 +120,7 @@ fn capital(text: &str) -> String {
 }
 
 fn facts(ring: &Ring, findings: &Findings) -> String {
-    let (finals, skipped, open) = tally(findings);
+    let (finals, skipped, open, twice) = tally(findings);
     let restarts: u64 = ring.hosts.iter().map(|host| host.seen.restarts).sum();
     let stopped = ring.stopped.iter().filter(|&&stopped| stopped).count();
     let mut facts = vec![
@@ -132,14 +132,17 @@ fn facts(ring: &Ring, findings: &Findings) -> String {
         ("falls", grouped(restarts), ""),
         ("simulated time", seconds(ring.ended), "s"),
     ];
+    if twice > 0 {
+        facts.insert(3, ("final twice", twice.to_string(), ""));
+    }
     if stopped > 0 {
-        facts.insert(6, ("stopped", stopped.to_string(), ""));
+        facts.insert(facts.len() - 1, ("stopped", stopped.to_string(), ""));
     }
     let fact = |(name, value, unit): &(&str, String, &str)| {
         let unit = if unit.is_empty() { String::new() } else { format!(" <small>{unit}</small>") };
-        format!("<div><dt>{name}</dt><dd>{value}{unit}</dd></div>")
+        format!("<li><span class=\"dt\">{name}</span> <span class=\"dd\">{value}{unit}</span></li>")
     };
-    format!("<dl class=\"facts\">{}</dl>\n", facts.iter().map(fact).collect::<String>())
+    format!("<ul class=\"facts\">{}</ul>\n", facts.iter().map(fact).collect::<String>())
 }
 
 fn run_and_held(ring: &Ring, findings: &Findings) -> String {
@@ -147,7 +150,7 @@ fn run_and_held(ring: &Ring, findings: &Findings) -> String {
     words.push("--page FILE".to_string());
     let words: Vec<String> = words.iter().map(|word| format!("<span class=\"nb\">{}</span>", escaped(word))).collect();
     let mut html = format!(
-        "<div class=\"run\"><div><p class=\"replay\">To run it again:</p><pre style=\"margin-top:-10px\"><code>{}</code></pre>\n<h3 style=\"margin-top:18px\">Options <span class=\"soft\" style=\"font-weight:400\">(bold: other than usual)</span></h3>\n<dl class=\"opts\">",
+        "<div class=\"run\"><div><p class=\"replay\">To run it again:</p><pre style=\"margin-top:-10px\"><code>{}</code></pre>\n<h3 style=\"margin-top:18px\">Options <span class=\"soft\" style=\"font-weight:400\">(bold: other than usual)</span></h3>\n<ul class=\"opts\">",
         words.join(" ")
     );
     for (name, value, is_usual) in ring.options.values() {
@@ -160,9 +163,13 @@ fn run_and_held(ring: &Ring, findings: &Findings) -> String {
         };
         let wide = if name == "how" { " wide" } else { "" };
         let set = if is_usual || name == "seed" && ring.options.seed == 1 { "" } else { "set" };
-        let _ = write!(html, "<div class=\"{set}{wide}\"><dt>{name}</dt><dd>{}</dd></div>", escaped(&value));
+        let _ = write!(
+            html,
+            "<li class=\"{set}{wide}\"><span class=\"dt\">{name}</span> <span class=\"dd\">{}</span></li>",
+            escaped(&value)
+        );
     }
-    html.push_str("</dl></div>\n<table class=\"held\"><caption>What was held</caption><thead><tr><th scope=\"col\"></th><th scope=\"col\">promise</th><th scope=\"col\" class=\"n\">tried</th><th scope=\"col\" class=\"n\"></th></tr></thead><tbody>");
+    html.push_str("</ul></div>\n<table class=\"held\"><caption>What was held</caption><thead><tr><th scope=\"col\"></th><th scope=\"col\">promise</th><th scope=\"col\" class=\"n\">tried</th><th scope=\"col\" class=\"n\"></th></tr></thead><tbody>");
     for (at, check) in findings.checks.iter().enumerate() {
         let state = match &check.verdict {
             Verdict::Held => "<span class=\"ok\">✓ held</span>",
@@ -199,6 +206,7 @@ fn votes_heading(ring: &Ring, findings: &Findings, cells: &[Vec<Cell>], letters:
         let (first, second) = (voted(slot, letters.0[slot.0][0]), rival(slot));
         let end = match findings.outcomes[slot.0] {
             Outcome::Final(_) => "and b lost",
+            Outcome::Twice => "and both are final",
             Outcome::Skipped => "and the slot was skipped",
             Outcome::Open => "and it is open",
         };

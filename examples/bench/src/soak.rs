@@ -75,7 +75,7 @@ fn summary(tallies: &BTreeMap<String, Tally>, tried: [u64; 6], answers: &Answers
         let share = percent(tally.broken, tally.rings);
         let _ = writeln!(text, "{way:<16}{:>10}{:>10}{share:>10}   {promises}", grouped(tally.rings), grouped(tally.broken));
     }
-    let units = ["proofs", "packets", "final blocks", "slots", "votes compared", "firms asked"];
+    let units = ["proofs", "packets", "final blocks", "slots", "votes", "firms"];
     let tried: Vec<String> = tried.iter().zip(units).map(|(&count, unit)| format!("{} {unit}", grouped(count))).collect();
     let _ = writeln!(text, "tried: {}", tried.join(", "));
     let _ = writeln!(text, "verdict: in {} rings every promise that was made held", grouped(rings));

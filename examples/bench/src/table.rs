@@ -34,13 +34,14 @@ pub fn seconds(time: u64) -> String {
 
 pub const MAIL_NAMES: [&str; KINDS.len()] = ["votes", "blocks", "certificates", "proofs", "asks for blocks"];
 
-/// How many slots are final, skipped and open.
-pub fn tally(findings: &Findings) -> (usize, usize, usize) {
+/// How many slots are final, skipped and open, and how many have two final blocks.
+pub fn tally(findings: &Findings) -> (usize, usize, usize, usize) {
     let count = |wanted: fn(&Outcome) -> bool| findings.outcomes[1..].iter().filter(|outcome| wanted(outcome)).count();
     (
         count(|outcome| matches!(outcome, Outcome::Final(_))),
         count(|outcome| *outcome == Outcome::Skipped),
         count(|outcome| *outcome == Outcome::Open),
+        count(|outcome| *outcome == Outcome::Twice),
     )
 }
 
@@ -80,7 +81,7 @@ pub fn verdict(ring: &Ring, findings: &Findings) -> String {
 
 pub fn table(ring: &Ring, findings: &Findings) -> String {
     let mut text = String::new();
-    let (finals, skipped, open) = tally(findings);
+    let (finals, skipped, open, twice) = tally(findings);
     let ways: Vec<&str> = ring.how.iter().map(|how| how.name()).collect();
     let liars = ring.hosts.len() - ring.honest().count();
     let _ = writeln!(
@@ -99,13 +100,15 @@ pub fn table(ring: &Ring, findings: &Findings) -> String {
     );
     let _ = writeln!(
         text,
-        "slots     {finals} final, {skipped} skipped, {open} open after {} s of simulated time",
+        "slots     {finals} final, {skipped} skipped, {open} open{} after {} s of simulated time",
+        if twice > 0 { format!(", {twice} with two final blocks") } else { String::new() },
         seconds(ring.ended)
     );
     let _ = writeln!(text, "\nslot  outcome     first ms  last ms");
     for slot in 1..=SLOTS {
         let outcome = match findings.outcomes[slot] {
             Outcome::Final(block) => format!("final {block}"),
+            Outcome::Twice => "two final".to_string(),
             Outcome::Skipped => "skipped".to_string(),
             Outcome::Open => "open".to_string(),
         };

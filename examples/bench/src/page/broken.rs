@@ -81,12 +81,12 @@ fn name(packet: &Packet) -> String {
 }
 
 fn picture(ring: &Ring, clash: &Clash, letters: &Letters) -> String {
-    let signed = |packets: &[Packet], firm: usize| packets.iter().any(|packet| packet.signers[firm]);
-    let side = |firm: &usize| match (signed(&clash.proof, *firm), signed(&clash.rival, *firm)) {
+    let (one, other) = clash.pair();
+    let side = |firm: &usize| match (one.signers[*firm], other.signers[*firm]) {
         (true, false) => 0,
         (true, true) => 1,
-        (false, true) => 2,
-        (false, false) => 3,
+        (false, false) => 2,
+        (false, true) => 3,
     };
     let mut firms: Vec<usize> = (0..ring.hosts.len()).collect();
     firms.sort_by_key(|firm| (side(firm), *firm));
@@ -113,7 +113,7 @@ fn picture(ring: &Ring, clash: &Clash, letters: &Letters) -> String {
     if left > 190.0 {
         let _ = write!(svg, r#"<text class="s" x="1" y="13">{first} signed packet 1 alone</text>"#);
     }
-    let second = count(2);
+    let second = count(3);
     if WIDTH - left - wide > 190.0 {
         let _ = write!(svg, r#"<text class="e s" x="717" y="13">{second} signed packet 2 alone</text>"#);
     }

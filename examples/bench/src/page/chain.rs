@@ -9,38 +9,42 @@ use quointrowel::{Block, CertificateKind, Slot, VoteKind};
 use std::collections::BTreeSet;
 use std::fmt::Write;
 
+/// Rows of boxes, their distance, half a box, and where genesis stands.
 const MAIN_Y: f64 = 75.0;
-const RIVAL_Y: f64 = 129.0;
+const ROW: f64 = 44.0;
 const HALF: f64 = 15.0;
 const GENESIS_X: f64 = 30.0;
 
-/// Whether a block is drawn on the main line: the final block, or the first of an open slot.
-fn is_main(findings: &Findings, letters: &Letters, block: &Block) -> bool {
+/// The row of a block: the first is on the main line, unless its slot was skipped, where the chain passes; the rival a row lower.
+fn row(findings: &Findings, letters: &Letters, block: &Block) -> usize {
     let is_first = letters.of(block.slot, block.number) == 'a';
-    is_first && findings.outcomes[block.slot.0] != Outcome::Skipped
+    usize::from(!is_first) + usize::from(findings.outcomes[block.slot.0] == Outcome::Skipped)
 }
 
 /// The blocks that are drawn: of a slot the first and one rival.
 fn drawn<'a>(ring: &'a Ring, letters: &'a Letters, slot: Slot) -> impl Iterator<Item = &'a Block> {
-    letters.0[slot.0].iter().filter_map(move |&number| ring.blocks.get(&(slot, number))).take(2)
+    letters.0[slot.0].iter().take(2).filter_map(move |&number| ring.blocks.get(&(slot, number)))
 }
 
 pub fn section(ring: &Ring, findings: &Findings, letters: &Letters) -> String {
     let label = "The chain of blocks over sixteen slots; the table below it tells the same in numbers";
     let mut svg = String::new();
-    heads(&mut svg, ring, findings);
     let all: Vec<&Block> = slots().flat_map(|slot| drawn(ring, letters, slot)).collect();
+    let rows = all.iter().map(|block| row(findings, letters, block)).max().unwrap_or(0).max(1);
+    let foot = MAIN_Y + ROW * rows as f64 + HALF + 10.0;
+    heads(&mut svg, ring, findings, foot);
     for block in &all {
         arrow(&mut svg, &all, findings, letters, block);
     }
     for block in &all {
         draw_box(&mut svg, ring, findings, letters, block);
     }
-    numbers(&mut svg, ring, findings, letters);
+    numbers(&mut svg, ring, findings, letters, foot + 9.0);
     let heading = heading(findings);
     let text = text(ring, findings, letters);
     format!(
-        "<section><h2>{heading}</h2>\n<figure><svg class=\"w\" viewBox=\"0 0 720 260\" role=\"img\" aria-label=\"{label}\">{svg}</svg></figure>\n<aside>{text}</aside></section>\n"
+        "<section><h2>{heading}</h2>\n<figure><svg class=\"w\" viewBox=\"0 0 720 {:.0}\" role=\"img\" aria-label=\"{label}\">{svg}</svg></figure>\n<aside>{text}</aside></section>\n",
+        foot + 104.0
     )
 }
 
@@ -55,19 +59,16 @@ fn named(slots: &[usize], what: &str) -> String {
 fn heading(findings: &Findings) -> String {
     let finals = slots_with(findings, |outcome| matches!(outcome, Outcome::Final(_)));
     let mut text = format!("{} of 16 slots final", finals.len());
-    for (outcome, what) in [(Outcome::Skipped, "skipped"), (Outcome::Open, "open")] {
+    for (outcome, what) in [(Outcome::Twice, "with two final blocks"), (Outcome::Skipped, "skipped"), (Outcome::Open, "open")] {
         let slots = slots_with(findings, |other| other == outcome);
         if !slots.is_empty() {
             text.push_str(&named(&slots, what));
         }
     }
-    if let Some(clash) = findings.clash.as_ref().filter(|clash| clash.has_two_proofs()) {
-        let _ = write!(text, "; in slot {} two blocks are final", clash.slot.0);
-    }
     text
 }
 
-fn heads(svg: &mut String, ring: &Ring, findings: &Findings) {
+fn heads(svg: &mut String, ring: &Ring, findings: &Findings, foot: f64) {
     for window in 0..WINDOWS {
         let (first, last) = (WIDE.cell(Slot(4 * window + 1)) - 1.0, WIDE.cell(Slot(4 * window + 4)) - 1.0 + WIDE.pitch);
         let middle = (first + last) / 2.0;
@@ -83,22 +84,23 @@ fn heads(svg: &mut String, ring: &Ring, findings: &Findings) {
         let (x, width) = (WIDE.cell(slot), WIDE.width());
         let _ = write!(
             svg,
-            r#"<rect class="fs" style="opacity:.55" x="{x:.1}" y="54" width="{width}" height="102"><title>slot {}: skipped</title></rect>"#,
+            r#"<rect class="fs" style="opacity:.55" x="{x:.1}" y="54" width="{width}" height="{:.1}"><title>slot {}: skipped</title></rect>"#,
+            foot - 54.0,
             slot.0
         );
     }
     let genesis = format!("genesis, block {} of slot 0", ring.agreed.genesis);
     let _ = write!(
         svg,
-        r#"<rect x="15" y="65" width="30" height="20" rx="2" style="fill:none;stroke:var(--ink)"><title>{genesis}</title></rect><text class="m s" x="30" y="79">0</text><text class="m s" x="30" y="99">genesis</text>"#
+        r#"<rect x="15" y="65" width="30" height="20" rx="2" style="fill:none;stroke:var(--ink)"><title>{genesis}</title></rect><text class="m s" x="30" y="79">0</text><text class="m s" x="30" y="60">genesis</text>"#
     );
 }
 
 fn place(findings: &Findings, letters: &Letters, block: &Block) -> (f64, f64) {
-    (WIDE.middle(block.slot), if is_main(findings, letters, block) { MAIN_Y } else { RIVAL_Y })
+    (WIDE.middle(block.slot), MAIN_Y + ROW * row(findings, letters, block) as f64)
 }
 
-/// An arrow to the parent: straight where nothing is in between, else below the boxes.
+/// An arrow to the parent: straight within a row, else up between two columns; below the boxes of its row where some are in between.
 fn arrow(svg: &mut String, all: &[&Block], findings: &Findings, letters: &Letters, block: &Block) {
     let (x, y) = place(findings, letters, block);
     let parent = all.iter().find(|other| (other.slot, other.number) == (block.parent_slot, block.parent));
@@ -109,20 +111,16 @@ fn arrow(svg: &mut String, all: &[&Block], findings: &Findings, letters: &Letter
     };
     let is_final = findings.outcomes[block.slot.0] == Outcome::Final(block.number);
     let style = if is_final { "arr" } else { "arrf" };
-    let edge = x - HALF;
-    let is_between = |other: &&&Block| {
+    let (edge, between, end) = (x - HALF, to_x + WIDE.pitch / 2.0, to_x + HALF + 0.6);
+    let is_blocked = all.iter().any(|other| {
         let (other_x, other_y) = place(findings, letters, other);
-        other_y == y && other_x < x && other_x > to_x - 1.0 && (other_x, other_y) != (to_x, to_y)
-    };
-    let is_blocked = all.iter().any(|other| is_between(&other));
-    let path = if y == to_y && !is_blocked {
-        format!("M{edge:.1} {y:.1}H{:.1}", to_x + HALF + 0.6)
-    } else if y == MAIN_Y && to_y == RIVAL_Y {
-        format!("M{:.1} {:.1}v12q0 6 -6 6H{:.1}V{:.1}", x - 6.0, y + HALF, to_x, to_y - HALF - 1.0)
-    } else if is_blocked {
-        format!("M{x:.1} {:.1}v3q0 6 -6 6H{:.1}q-6 0 -6 -6V91.0", y + HALF, to_x + 5.5)
-    } else {
-        format!("M{edge:.1} {y:.1}H{:.1}q-6 0 -6 -6V91.0", to_x + 13.5)
+        other_y == y && other_x < x && other_x > to_x
+    });
+    let into = if y > to_y { to_y + 8.0 } else { to_y - 8.0 };
+    let path = match (y == to_y, is_blocked) {
+        (true, false) => format!("M{edge:.1} {y:.1}H{end:.1}"),
+        (false, false) => format!("M{edge:.1} {y:.1}H{between:.1}V{into:.1}H{end:.1}"),
+        (_, true) => format!("M{x:.1} {:.1}v4H{between:.1}V{into:.1}H{end:.1}", y + HALF),
     };
     let _ = write!(svg, r#"<path class="{style}" d="{path}"/>"#);
 }
@@ -136,13 +134,11 @@ fn weight(ring: &Ring, slot: Slot, kinds: &[VoteKind], block: u64) -> u64 {
 fn draw_box(svg: &mut String, ring: &Ring, findings: &Findings, letters: &Letters, block: &Block) {
     let (x, y) = place(findings, letters, block);
     let (slot, letter) = (block.slot, letters.of(block.slot, block.number));
-    let proved =
-        |clash: &crate::packets::Clash| clash.has_two_proofs() && clash.slot == slot && clash.rival[0].block == block.number;
+    let is_second = findings.outcomes[slot.0] == Outcome::Twice && has_proof(findings, slot, block.number);
     let is_final = findings.outcomes[slot.0] == Outcome::Final(block.number);
-    let is_second = findings.clash.as_ref().is_some_and(proved);
     let notar = percent(weight(ring, slot, &[VoteKind::Notar], block.number), ring.agreed.total);
     let state = if is_second {
-        "has a proof too"
+        "one of two final blocks"
     } else if is_final {
         "final"
     } else {
@@ -187,36 +183,48 @@ fn draw_box(svg: &mut String, ring: &Ring, findings: &Findings, letters: &Letter
     );
 }
 
+fn holds(findings: &Findings, kind: CertificateKind, slot: Slot, block: u64) -> bool {
+    findings.packets.iter().any(|packet| packet.kind == kind && packet.slot == slot && packet.block == block)
+}
+
+/// Whether a proof of the block can be put together from all votes.
+fn has_proof(findings: &Findings, slot: Slot, block: u64) -> bool {
+    use CertificateKind::*;
+    holds(findings, FastFinal, slot, block) || holds(findings, Notar, slot, block) && holds(findings, Final, slot, 0)
+}
+
 /// How a slot ended, in a word.
 fn by(findings: &Findings, slot: Slot) -> &'static str {
-    let Outcome::Final(block) = findings.outcomes[slot.0] else {
-        return if findings.outcomes[slot.0] == Outcome::Skipped { "skip" } else { "open" };
-    };
-    let holds = |kind, block| findings.packets.iter().any(|p| p.kind == kind && p.slot == slot && p.block == block);
-    if holds(CertificateKind::FastFinal, block) {
-        "fast"
-    } else if holds(CertificateKind::Notar, block) && holds(CertificateKind::Final, 0) {
-        "final"
-    } else {
-        "child"
+    match findings.outcomes[slot.0] {
+        Outcome::Final(block) if holds(findings, CertificateKind::FastFinal, slot, block) => "fast",
+        Outcome::Final(block) if has_proof(findings, slot, block) => "final",
+        Outcome::Final(_) => "child",
+        Outcome::Twice => "both",
+        Outcome::Skipped => "skip",
+        Outcome::Open => "open",
     }
 }
 
-fn numbers(svg: &mut String, ring: &Ring, findings: &Findings, letters: &Letters) {
+fn numbers(svg: &mut String, ring: &Ring, findings: &Findings, letters: &Letters, top: f64) {
     use VoteKind::*;
-    let _ = write!(svg, r#"<path class="ax" d="M0 165H712"/><text class="s" x="0" y="181">final by</text>"#);
+    let y = top + 16.0;
+    let _ = write!(svg, r#"<path class="ax" d="M0 {top:.1}H712"/><text class="s" x="0" y="{y:.1}">final by</text>"#);
     for slot in slots() {
         let word = by(findings, slot);
-        let style = if matches!(findings.outcomes[slot.0], Outcome::Final(_)) { "m" } else { "m s" };
-        let _ = write!(svg, r#"<text class="{style}" x="{:.1}" y="181">{word}</text>"#, WIDE.middle(slot));
+        let style = match findings.outcomes[slot.0] {
+            Outcome::Final(_) => "m",
+            Outcome::Twice => "m bd",
+            _ => "m s",
+        };
+        let _ = write!(svg, r#"<text class="{style}" x="{:.1}" y="{y:.1}">{word}</text>"#, WIDE.middle(slot));
     }
     let block = |slot: Slot, place: usize| letters.0[slot.0].get(place).copied();
     let notar = |slot: Slot, place: usize| block(slot, place).map_or(0, |block| weight(ring, slot, &[Notar], block));
     let rows: [(&str, f64, &dyn Fn(Slot) -> u64); 4] = [
-        ("notar, %", 203.0, &|slot| notar(slot, 0)),
-        ("rival, %", 220.0, &|slot| notar(slot, 1)),
-        ("skip, %", 237.0, &|slot| weight(ring, slot, &[Skip, SkipFallback], 0)),
-        ("final, %", 254.0, &|slot| weight(ring, slot, &[Final], 0)),
+        ("notar, %", top + 38.0, &|slot| notar(slot, 0)),
+        ("rival, %", top + 55.0, &|slot| notar(slot, 1)),
+        ("skip, %", top + 72.0, &|slot| weight(ring, slot, &[Skip, SkipFallback], 0)),
+        ("final, %", top + 89.0, &|slot| weight(ring, slot, &[Final], 0)),
     ];
     for (name, y, row) in rows {
         let _ = write!(svg, r#"<text class="s" x="0" y="{y}">{name}</text>"#);

@@ -127,7 +127,7 @@ impl Cell {
             let _ = write!(svg, r#"<rect class="h" x="{x:.1}" y="{y:.1}" width="{width:.1}" height="{CELL_HEIGHT}"/>"#);
         }
         for (place, &block) in self.initial.iter().take(2).enumerate().filter(|(_, &block)| block != 0) {
-            let at = if shown == 1 { width.min(34.0) / 4.0 } else { width / shown as f64 * (place as f64 + 0.4) };
+            let at = if shown == 1 { width.min(34.0) / 4.0 } else { width * (0.13 + 0.5 * place as f64) };
             draw_letter(svg, x + at, y + 8.6, letter(block), is_lying);
         }
         self.draw_fallbacks(svg, x, y, width, slot, letters);
@@ -142,17 +142,20 @@ impl Cell {
         }
     }
 
+    /// Triangles behind the letter; in a halved cell one behind each letter.
     fn draw_fallbacks(&self, svg: &mut String, x: f64, y: f64, width: f64, slot: Slot, letters: &Letters) {
         let count = self.fallbacks.len() + usize::from(self.has_skip_fallback);
-        let step = if count > 1 { 5.4 } else { 8.0 };
-        let mut left = x + (0.47 * width).min(width - 4.0 - step * count as f64);
-        for &block in &self.fallbacks {
-            let fill = class(letters.of(slot, block));
-            let _ = write!(svg, r#"<path class="k{fill} tri" d="M{left:.1} {:.1}h{step}l-{:.1} -6.6z"/>"#, y + 8.8, step / 2.0);
-            left += step;
-        }
-        if self.has_skip_fallback {
-            let _ = write!(svg, r#"<path class="ks tri" d="M{left:.1} {:.1}h{step}l-{:.1} 6.6z"/>"#, y + 2.4, step / 2.0);
+        let step = if width < 30.0 { 4.0 } else { 5.4 };
+        let size = if count > 1 || self.initial.len() > 1 { step } else { 8.0 };
+        let first = if self.initial.len() > 1 { 0.27 } else { 0.47 };
+        let pitch = if self.initial.len() > 1 { width / 2.0 } else { size };
+        let left = |place: usize| x + first * width + pitch * place as f64;
+        let up = self.fallbacks.iter().map(|&block| (class(letters.of(slot, block)), y + 8.8, -6.6));
+        let down = self.has_skip_fallback.then_some(('s', y + 2.4, 6.6));
+        let most = if self.initial.len() > 1 { 2 } else { 3 };
+        for (place, (fill, from, rise)) in up.chain(down).take(most).enumerate() {
+            let at = left(place);
+            let _ = write!(svg, r#"<path class="k{fill} tri" d="M{at:.1} {from:.1}h{size}l-{:.1} {rise}z"/>"#, size / 2.0);
         }
     }
 }

@@ -74,8 +74,10 @@ fn header(word: &str, heading: &str, text: &str) -> String {
 }
 
 fn facts(facts: &[(&str, String)]) -> String {
-    let fact = |(name, value): &(&str, String)| format!("<div><dt>{name}</dt><dd>{}</dd></div>", escaped(value));
-    format!("<dl class=\"facts\">{}</dl>\n", facts.iter().map(fact).collect::<String>())
+    let fact = |(name, value): &(&str, String)| {
+        format!("<li><span class=\"dt\">{name}</span> <span class=\"dd\">{}</span></li>", escaped(value))
+    };
+    format!("<ul class=\"facts\">{}</ul>\n", facts.iter().map(fact).collect::<String>())
 }
 
 fn draw_again(records: &[&Named]) -> String {
