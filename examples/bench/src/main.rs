@@ -64,6 +64,7 @@ pub fn prepare(options: &Options) -> Result<(), String> {
 
 fn run(options: &Options, page: Option<&Path>) -> Result<bool, String> {
     prepare(options)?;
+    page.map_or(Ok(()), try_page)?;
     let began = Instant::now();
     let ring = ring::run(options).map_err(|error| format!("a record could not be stored or read: {error}"))?;
     let findings = checks::look_through(&ring);
@@ -97,11 +98,23 @@ fn draw(records: &[PathBuf], file: &Path) -> Result<bool, String> {
 
 /// A page is written beside its file and renamed, so that nothing half written stands there.
 fn write_page(file: &Path, text: &str) -> Result<(), String> {
-    let mut beside = file.as_os_str().to_owned();
-    beside.push(".new");
+    let beside = beside(file);
     let written = fs::write(&beside, text).and_then(|()| fs::rename(&beside, file));
     written.map_err(|error| {
         let _ = fs::remove_file(&beside);
         format!("--page {}: {error}", file.display())
     })
+}
+
+fn beside(file: &Path) -> PathBuf {
+    let mut name = file.as_os_str().to_owned();
+    name.push(".new");
+    PathBuf::from(name)
+}
+
+/// Whether a page can be written there, asked before a long run.
+fn try_page(file: &Path) -> Result<(), String> {
+    let beside = beside(file);
+    let tried = fs::write(&beside, "").and_then(|()| fs::remove_file(&beside));
+    tried.map_err(|error| format!("--page {}: {error}", file.display()))
 }

@@ -21,9 +21,12 @@ fn row(findings: &Findings, letters: &Letters, block: &Block) -> usize {
     usize::from(!is_first) + usize::from(findings.outcomes[block.slot.0] == Outcome::Skipped)
 }
 
-/// The blocks that are drawn: of a slot the first and one rival.
+/// The blocks that are drawn: of a slot the first, and one rival that an honest firm voted for.
 fn drawn<'a>(ring: &'a Ring, letters: &'a Letters, slot: Slot) -> impl Iterator<Item = &'a Block> {
-    letters.0[slot.0].iter().take(2).filter_map(move |&number| ring.blocks.get(&(slot, number)))
+    let is_named = move |block: u64| ring.cast.iter().any(|v| v.slot == slot && v.block == block && ring.is_honest(v.node.0));
+    let numbers = letters.0[slot.0].iter().take(2).enumerate();
+    let shown = numbers.filter(move |&(place, &number)| place == 0 || is_named(number));
+    shown.filter_map(move |(_, &number)| ring.blocks.get(&(slot, number)))
 }
 
 pub fn section(ring: &Ring, findings: &Findings, letters: &Letters) -> String {

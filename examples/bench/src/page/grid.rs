@@ -241,24 +241,38 @@ impl Shares {
         if is_lying {
             let _ = write!(svg, r#"<rect class="h" x="{x:.1}" y="{y:.1}" width="{width:.1}" height="{CELL_HEIGHT}"/>"#);
         }
-        let mut left = x;
+        let (mut left, right) = (x, x + width - self.triangles_width());
         for (place, &weight) in self.initial.iter().enumerate().take(SKIP) {
-            if part(weight) >= 9.0 {
-                draw_letter(svg, left + part(weight).min(15.0) / 2.0, y + 8.3, PLACES[place], is_lying);
+            let middle = left + part(weight).min(15.0) / 2.0;
+            if part(weight) >= 9.0 && middle + 4.0 <= right {
+                draw_letter(svg, middle, y + 8.3, PLACES[place], is_lying);
             }
             left += part(weight);
         }
         self.draw_beside(svg, x, y, width, part(self.last));
     }
 
+    /// The block that half of the group fell back to, and whether half fell back to the skip.
+    fn fell_back(&self) -> (Option<char>, bool) {
+        let place = self.fallback.iter().position(|&part| 2 * part >= self.whole);
+        (place.map(|place| PLACES[place]), 2 * self.skip_fallback >= self.whole)
+    }
+
+    /// The room at the cell's right edge that the triangles take.
+    fn triangles_width(&self) -> f64 {
+        let (block, skip) = self.fell_back();
+        9.0 * (f64::from(u8::from(block.is_some())) + f64::from(u8::from(skip)))
+    }
+
     /// Triangles where half of the group fell back, and a bar at the foot as long as the share of final votes.
     fn draw_beside(&self, svg: &mut String, x: f64, y: f64, width: f64, last: f64) {
-        if let Some(place) = self.fallback.iter().position(|&part| 2 * part >= self.whole) {
-            let fill = class(PLACES[place]);
-            let _ = write!(svg, r#"<path class="k{fill} tri" d="M{:.1} {:.1}h8l-4 -6.2z"/>"#, x + width / 2.0, y + 8.0);
+        let (block, skip) = self.fell_back();
+        let left = x + width - self.triangles_width();
+        if let Some(letter) = block {
+            let _ = write!(svg, r#"<path class="k{} tri" d="M{left:.1} {:.1}h8l-4 -6.2z"/>"#, class(letter), y + 8.0);
         }
-        if 2 * self.skip_fallback >= self.whole {
-            let _ = write!(svg, r#"<path class="ks tri" d="M{:.1} {:.1}h8l-4 6.2z"/>"#, x + width / 2.0 + 9.0, y + 1.8);
+        if skip {
+            let _ = write!(svg, r#"<path class="ks tri" d="M{:.1} {:.1}h8l-4 6.2z"/>"#, x + width - 9.0, y + 1.8);
         }
         if self.last > 0 {
             let fill = if self.initial[0] >= self.initial[1] { 'a' } else { 'b' };
