@@ -22,8 +22,7 @@ use quointrowel::{
 use std::io;
 use std::rc::Rc;
 
-/// A leader builds a block every slot time. A window's first slot is timed out when the host's patience has passed since it was
-/// armed, each later one a slot time later. In milliseconds.
+/// In ms: between a leader's blocks; and from a window's arming to its first slot's timeout, each later one a slot time later.
 pub const SLOT_TIME: u64 = 200;
 const PATIENCE: u64 = 500;
 
@@ -49,8 +48,7 @@ impl Host {
     pub fn start(own: Node, agreed: &Rc<Agreed>, store: Store, seen: Seen) -> io::Result<Host> {
         let record = Record::start(&agreed.stakes, own, agreed.genesis).expect("stakes that were looked through");
         let mut host = Host::around(own, agreed, store, record, seen);
-        host.is_unstored = true;
-        host.keep()?;
+        host.put_away()?;
         Ok(host)
     }
 
@@ -277,14 +275,18 @@ impl Host {
         answer.expect("a record that the library left, and a slot of the ring")
     }
 
-    /// Stores the record, with the blocks that are known, where something was made since; whether it was.
+    /// Stores the record where something was made since; whether it was.
     fn keep(&mut self) -> io::Result<bool> {
         let is_unstored = std::mem::take(&mut self.is_unstored);
         if is_unstored {
-            self.store.save(self.record.words(), &self.blocks.notes())?;
-            self.seen.stores += 1;
+            self.put_away()?;
         }
         Ok(is_unstored)
+    }
+
+    /// Stores the record, with the blocks that are known.
+    pub fn put_away(&mut self) -> io::Result<()> {
+        self.store.save(self.record.words(), &self.blocks.notes())
     }
 
     /// The firm's fall: what was stored stays, and what the bench saw.

@@ -233,15 +233,18 @@ fn votes_heading(ring: &Ring, findings: &Findings, cells: &[Vec<Cell>], letters:
     format!("In no slot did more than {} of {} honest firms vote to skip", grouped(most as u64), grouped(honest as u64))
 }
 
+/// What the marks mean; those of lying firms only where some lie.
 fn key(seats: &Seats) -> String {
-    let votes = include_str!("page/key.html");
-    let groups = include_str!("page/key-groups.html");
+    let some_lie = seats.lying.contains(&true);
+    let all = if seats.is_grouped() { include_str!("page/key-groups.html") } else { include_str!("page/key.html") };
+    let lines: Vec<&str> = all.lines().filter(|line| some_lie || !line.contains("class=\"h\"")).collect();
+    let below = if some_lie { ", the lying ones below" } else { "" };
     let rows = if seats.is_grouped() {
-        "<p>Each row is a group of firms with about a sixty-fourth of the stake, the lying ones below. A cell is a bar by stake; who voted twice counts half for each. A cell tells its shares in words where the pointer rests on it.</p>".to_string()
+        format!("Each row is a group of firms with about a sixty-fourth of the stake{below}. A cell is a bar by stake; who voted twice counts half for each. A cell tells its shares in words where the pointer rests on it.")
     } else {
-        "<p>Firms by number, the lying ones below. A cell tells its votes in words where the pointer rests on it.</p>".to_string()
+        format!("Firms by number{below}. A cell tells its votes in words where the pointer rests on it.")
     };
-    format!("{}{rows}", if seats.is_grouped() { groups } else { votes })
+    format!("{}<p>{rows}</p>", lines.concat())
 }
 
 fn number_cell(number: u64) -> String {

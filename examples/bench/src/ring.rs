@@ -379,6 +379,14 @@ impl Running {
                 self.restart(ended, firm)?;
             }
         }
+        // What came after a firm's last storing is in its file too once the ring is over.
+        for (_, state) in
+            self.firms.iter_mut().enumerate().filter(|&(firm, _)| options.store.is_some() && self.stops[firm].is_none())
+        {
+            if let State::Up(host) = state {
+                host.put_away()?;
+            }
+        }
         let stopped = (0..self.firms.len()).map(|firm| self.has_stopped(ended, firm)).collect();
         let hosts = self.firms.into_iter().filter_map(|state| match state {
             State::Up(host) => Some(*host),

@@ -87,14 +87,13 @@ pub struct Seen {
     pub journal: Option<Vec<Fed>>,
     /// Slots whose timeout was accepted.
     pub timed_out: Vec<Slot>,
-    pub stores: u64,
     pub restarts: u64,
 }
 
 impl Seen {
     pub fn new(is_watched: bool) -> Seen {
         let journal = is_watched.then(Vec::new);
-        Seen { answers: Answers::new(), told: Vec::new(), journal, timed_out: Vec::new(), stores: 0, restarts: 0 }
+        Seen { answers: Answers::new(), told: Vec::new(), journal, timed_out: Vec::new(), restarts: 0 }
     }
 
     /// Notes an answer, about the mail of the firm that is named.
