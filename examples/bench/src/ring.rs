@@ -307,7 +307,7 @@ impl Running {
     /// An honest firm's votes and blocks are cast once its host has stored them, sent or not; and so are votes that lying firms tell
     /// nobody and put into certificates.
     fn log_cast(&mut self, now: u64, firm: usize, letters: &[Letter]) {
-        if self.plot.how[firm].is_none_or(|how| how == How::Certificates) {
+        if self.plot.how[firm].map_or(true, |how| how == How::Certificates) {
             for letter in letters {
                 self.log(now, Node(firm), &letter.piece);
             }
