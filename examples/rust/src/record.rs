@@ -8,6 +8,9 @@ use crate::words::{Block, Card, CertificateKind, Event, Node, Slot, Vote};
 const CERTIFICATE_BYTES: usize = 768;
 const PROOF_BYTES: usize = 1536;
 
+/// A ring has so many nodes at most.
+const MOST_NODES: usize = 2048;
+
 /// Up to so many nodes certificates have the kinds 1 to 5; with more, 10 is added.
 const MOST_SMALL: usize = 64;
 const LARGE_KINDS: u64 = 10;
@@ -75,6 +78,11 @@ impl Record {
     /// The words, to be stored.
     pub fn words(&self) -> &[u64] {
         &self.words
+    }
+
+    /// How many nodes the ring has, by the length of the words; None where no ring has a record so long.
+    pub fn nodes(&self) -> Option<usize> {
+        (1..=MOST_NODES).find(|&nodes| face::record_words(nodes) == self.words.len())
     }
 
     /// Another node's vote, its signature verified by the host.

@@ -75,6 +75,11 @@ impl Refusal {
         })
     }
 
+    /// The refusal of a number of the header; None for 0, and for numbers that it has not.
+    pub fn of_number(number: u64) -> Option<Refusal> {
+        Refusal::check(number, 0).err().filter(|refusal| !matches!(refusal, Refusal::Unknown(_)))
+    }
+
     /// Its number in the header.
     pub fn number(self) -> u64 {
         let same = |other: &Refusal| std::mem::discriminant(other) == std::mem::discriminant(&self);
