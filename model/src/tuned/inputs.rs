@@ -245,7 +245,6 @@ pub fn block(words: &mut [u64], outbox: &mut [u64], block: [u64; 4]) -> Answer {
 }
 
 /// 3, 10, 7; then the window's skips are cast and the rules are run.
-#[cfg(test)]
 pub fn timeout(words: &mut [u64], outbox: &mut [u64], slot: u64) -> Answer {
     answer(open(words, outbox).and_then(|found| {
         if slot < 1 || slot > LAST_SLOT as u64 {

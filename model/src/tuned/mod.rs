@@ -27,8 +27,9 @@ mod writer;
 pub use checker::check_certificate;
 #[cfg(test)]
 pub use checker::{check_proof, Check};
-pub use inputs::{block, look, start, store_certificate, store_vote, take_certificate, tray, vote};
 #[cfg(test)]
-pub use inputs::{card, timeout};
+pub use inputs::card;
+pub use inputs::{block, look, start, store_certificate, store_vote, take_certificate, timeout, tray, vote};
 pub use layout::{record_words, OUTBOX_WORDS};
+pub use weights::on_one_place;
 pub use writer::write_certificate;

@@ -40,6 +40,13 @@ impl<const PLACES: usize> Blocks<PLACES> {
     }
 }
 
+/// A number that falls on the same place of the table as every other one from
+/// here, whatever its size: the places are bits 40 and up of the product.
+pub fn on_one_place(random: u64) -> u64 {
+    const INVERSE: u64 = 0xF1DE_83E1_9937_733D;
+    INVERSE.wrapping_mul(random & !(0xFFF << 40) | 1)
+}
+
 /// What rules ask of a slot and its card does not tell.
 #[derive(Clone, Copy, Default)]
 pub struct Weights {
