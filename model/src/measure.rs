@@ -113,7 +113,8 @@ fn certificate(task: &Task, written: Vec<u8>) -> (Vec<u64>, Vec<u8>, bool) {
 /// None when the operation is refused or there is none of that name. Records
 /// with certificates or blocks are not made here: the model takes them one by one.
 pub fn by_model(task: &Task) -> Option<()> {
-    let Ring { stakes, stored, has_chain, has_certificates, is_late, given } = ring(&task.record, task.nodes)?;
+    let Ring { stakes, stored, has_chain, has_certificates, is_late, given } =
+        ring(&task.record, task.nodes)?;
     (!has_chain && !has_certificates && !is_late).then_some(())?;
     let mut node = Node::start(0, 1, &stakes).ok()?.with_votes(stored);
     node.look();

@@ -28,10 +28,15 @@ pub struct Ring {
 
 /// None where there is no ring of that name.
 pub fn ring(name: &str, nodes: usize) -> Option<Ring> {
-    let full = |blocks, lowest, fallback| plain(nodes, full(nodes, blocks, lowest, fallback), |node, slot| [2, node, slot, 22]);
+    let full = |blocks, lowest, fallback| {
+        plain(nodes, full(nodes, blocks, lowest, fallback), |node, slot| [2, node, slot, 22])
+    };
     let scattered = |stakes, liars: Vec<usize>, numbers| {
         let stored = everywhere(&liars).map(|(slot, node)| (slot, node, Vote::Notar(0))).collect();
-        Ring { stored: renumbered(stored, numbers), ..plain_with(stakes, Vec::new(), |node, slot| [5, node, slot, 0]) }
+        Ring {
+            stored: renumbered(stored, numbers),
+            ..plain_with(stakes, Vec::new(), |node, slot| [5, node, slot, 0])
+        }
     };
     let others = || (1..nodes).collect();
     let ring = match name {
@@ -173,7 +178,9 @@ fn naming(stakes: Vec<u64>, liars: Vec<usize>) -> Ring {
     let mut stored = renumbered(names, Numbers::Random);
     let half = &reaching(&stakes, 1, 3);
     let honest = &half[..half.len() * 5 / 6];
-    stored.extend(everywhere(honest).filter(before).map(|(slot, node)| (slot, node, Vote::Notar(chained(slot)))));
+    stored.extend(
+        everywhere(honest).filter(before).map(|(slot, node)| (slot, node, Vote::Notar(chained(slot)))),
+    );
     let slots: Vec<u64> = (1..=LAST_SLOT).filter(|slot| !PARENTS.contains(slot)).collect();
     let vote = |i: usize| {
         let slot = slots[i % slots.len()];
@@ -189,11 +196,15 @@ fn skipped(nodes: usize) -> Ring {
     let (stakes, liars) = (vec![1; nodes], under_a_fifth(nodes));
     let leading = reaching(&stakes, 1, 2);
     let skipping = reaching(&stakes, leading.len() + 1, 1);
-    let mut stored = renumbered(everywhere(&liars).map(|(slot, node)| (slot, node, Vote::Notar(0))).collect(), Numbers::Random);
+    let mut stored = renumbered(
+        everywhere(&liars).map(|(slot, node)| (slot, node, Vote::Notar(0))).collect(),
+        Numbers::Random,
+    );
     let two = |(slot, node)| [(slot, node, Vote::Notar(chained(slot))), (slot, node, Vote::SkipFallback)];
     stored.extend(everywhere(&leading).flat_map(two));
     stored.extend(everywhere(&skipping).map(|(slot, node)| (slot, node, Vote::Skip)));
-    let (first, count) = (leading.len() + skipping.len() + 1, nodes - leading.len() - skipping.len() - 1 - liars.len());
+    let (first, count) =
+        (leading.len() + skipping.len() + 1, nodes - leading.len() - skipping.len() - 1 - liars.len());
     let skip = move |node: u64, slot| [3, (first + (node as usize - 1) % count.max(1)) as u64, slot, 0];
     Ring { stored, is_late: true, ..plain_with(stakes, Vec::new(), skip) }
 }
@@ -227,23 +238,31 @@ fn mixed(nodes: usize, liars: usize) -> Ring {
     let stakes = vec![1; nodes];
     let liars: Vec<usize> = (nodes - liars..nodes).collect();
     let mut stored = renumbered(everywhere(&liars).flat_map(four_names).collect(), Numbers::EqualBits);
-    let leading: Vec<usize> = reaching(&stakes, 1, 2).into_iter().filter(|node| !liars.contains(node)).collect();
+    let leading: Vec<usize> =
+        reaching(&stakes, 1, 2).into_iter().filter(|node| !liars.contains(node)).collect();
     stored.extend(everywhere(&leading).map(|(slot, node)| (slot, node, Vote::Notar(chained(slot)))));
-    Ring { stored, is_late: true, has_certificates: true, ..plain_with(stakes, Vec::new(), |node, slot| [5, node, slot, 0]) }
+    Ring {
+        stored,
+        is_late: true,
+        has_certificates: true,
+        ..plain_with(stakes, Vec::new(), |node, slot| [5, node, slot, 0])
+    }
 }
 
 /// A whole life: all other nodes vote for every slot's block and then for its
 /// finality, slot after slot. Liars, who do not, have each named another block in
 /// every slot before, and three more before windows.
 fn life(nodes: usize, liars: &[usize]) -> Ring {
-    let four = |at: (u64, usize)| four_names(at).into_iter().take(if PARENTS.contains(&at.0) { 4 } else { 1 });
+    let four =
+        |at: (u64, usize)| four_names(at).into_iter().take(if PARENTS.contains(&at.0) { 4 } else { 1 });
     let mut votes = renumbered(everywhere(liars).flat_map(four).collect(), Numbers::Random);
     let honest: Vec<usize> = (1..nodes - liars.len()).collect();
     for slot in 1..=LAST_SLOT {
         votes.extend(honest.iter().map(|&node| (slot, node, Vote::Notar(chained(slot)))));
         votes.extend(honest.iter().map(|&node| (slot, node, Vote::Final)));
     }
-    let given = votes.into_iter().map(|(slot, node, vote)| [vote.kind(), node as u64, slot, vote.block()]).collect();
+    let given =
+        votes.into_iter().map(|(slot, node, vote)| [vote.kind(), node as u64, slot, vote.block()]).collect();
     Ring { has_chain: true, given, ..plain(nodes, Vec::new(), |_, _| [0; 4]) }
 }
 
