@@ -224,7 +224,11 @@ pub fn by_tuned(task: &Task) -> Option<()> {
     let (outbox, answers) = (vec![0; tuned::OUTBOX_WORDS], vec![0; ring.given.len()]);
     let mut lent =
         Lent { kept: words.clone(), words, outbox, answers, buffer, is_dirty: false, changed: None };
-    let operation = task.operation.as_str();
+    let (operation, asks_every_slot) = match task.operation.strip_suffix("-every") {
+        Some(operation) => (operation, true),
+        None => (task.operation.as_str(), false),
+    };
+    tuned::ASKS_EVERY_SLOT.store(asks_every_slot, std::sync::atomic::Ordering::Relaxed);
     let most = operation.strip_prefix("life").and_then(|most| most.parse().ok()).filter(|&most| most > 0);
     let changes = most.is_some() || matches!(operation, "vote" | "tray" | "take");
     let operate = |Lent { words, outbox, answers, buffer, .. }: &mut Lent| match operation {

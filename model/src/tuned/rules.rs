@@ -4,8 +4,13 @@ use super::card::Card;
 use super::layout::*;
 use super::sound::Found;
 use super::weights::{behind, some_behind, Heavy};
+use std::sync::atomic::{AtomicBool, Ordering::Relaxed};
 
 const ROWS: usize = LAST_SLOT + 1;
+
+/// The rules of every slot are asked after each vote, as the product asks them,
+/// and not those alone that the vote can matter to: for a column beside it.
+pub static ASKS_EVERY_SLOT: AtomicBool = AtomicBool::new(false);
 
 const TOLD_FINAL: u64 = 6;
 const TOLD_ARMED: u64 = 7;
@@ -247,7 +252,7 @@ impl<'a> Call<'a> {
         let before = self.card(slot);
         self.store(kind, node, slot, block);
         let is_heard = self.waiting >> slot > 1 && self.may_certify(kind, slot, block, &before);
-        if !self.is_settled || is_heard || self.apply(slot) {
+        if !self.is_settled || is_heard || ASKS_EVERY_SLOT.load(Relaxed) || self.apply(slot) {
             self.settle();
         } else {
             self.waiting = self.waiting & !(1 << slot) | u32::from(self.waits(slot)) << slot;
