@@ -3,13 +3,15 @@
 ghost use mathlib.Core.Path.{_≡_};
 ghost use mathlib.Core.Bool.{not};
 ghost use Prim.Native.Nat.{_-_};
+ghost use lib.ListN.{length};
 ghost use Rattle.rulebook.specs.Tools.{lower, lowest};
 ghost use Rattle.rulebook.specs.Weights.{reaches, dWeights};
 ghost use Rattle.rulebook.specs.Pool.{certifiable};
 ghost use Rattle.rulebook.specs.Rules.{fallbackWeights, parentBacked, isBacked, isGrounded, fallsBack, fallbackBlock, skipWeights, isFinal, isNewcomer};
 ghost use Rattle.record.specs.Layout.{ledgerOf};
 ghost use Rattle.pool.specs.Weighing.{Carded, Passed, namedHolds};
-ghost use Rattle.candidates.specs.Judging.{Judging, Within, isNew};
+ghost use Rattle.candidates.specs.Judging.{Judging, Within, isNew, blocksTo};
+use heavy_blocks::heavy_notar;
 use kept_certificates::block_at;
 use own_votes::may_fallback;
 use own_votes::window_open;
@@ -20,11 +22,9 @@ use pool::weigh;
 use pool::weight_of;
 use record::MOST_BLOCKS;
 use record::MOST_CERTIFICATES;
-use record::count;
 use record::final_block;
 use record::load_block;
 use record::load_card;
-use record::load_cell;
 use record::own_cell;
 use record::total;
 use rulebook::Block;
@@ -152,22 +152,36 @@ pub fn is_new(rec: &[u64], s: Slot, n: Node, b: u64) -> bool
     !counted_before(rec, s, n, Who::Notar(b))
 }
 
-// The lowest block that D applies to, 0 where there is none. Only a block with a notar vote can be it, and each is weighed
-// once.
+// The lower of b, where there is one that D applies to, and m; 0 stands for none.
+fn lower_fallback(rec: &[u64], s: Slot, b: u64, m: u64) -> u64
+    requires { ⌜ Carded (now rec) (s .0) ⌝ }
+    ensures { λ r. ⌜ r ≡ lower (namedHolds (fallsBack (ledgerOf (now (rec .entry))) (s .0)) b) b m ⌝ }
+{
+    if b == 0 {
+        return m;
+    }
+    lower(falls_back(rec, s, b), b, m)
+}
+
+// The lowest of some blocks that D applies to, 0 where there is none.
+fn lowest_of(rec: &[u64], s: Slot, blocks: &[u64]) -> u64
+    requires { ⌜ Carded (now rec) (s .0) ⌝ }
+    ensures { λ r. ⌜ r ≡ lowest (fallsBack (ledgerOf (now (rec .entry))) (s .0)) (blocksTo (now (blocks .entry)) (length (now (blocks .entry)))) ⌝ }
+{
+    let mut best: u64 = 0;
+    for i in 0..blocks.len() {
+        best = lower_fallback(rec, s, blocks[i], best);
+    }
+    best
+}
+
+// The lowest block that D applies to, 0 where there is none: one of the six that can have 20 percent of notar votes.
 fn lowest_fallback(rec: &[u64], s: Slot) -> u64
     requires { ⌜ Carded (now rec) (s .0) ⌝ }
     ensures { λ r. ⌜ r ≡ fallbackBlock (ledgerOf (now (rec .entry))) (s .0) ⌝ }
 {
-    let nodes = count(rec);
-    let mut best: u64 = 0;
-    for n in 0..nodes {
-        let c = load_cell(rec, s, Node(n));
-        let b = c.notar;
-        if is_new(rec, s, Node(n), b) {
-            best = lower(falls_back(rec, s, b), b, best);
-        }
-    }
-    best
+    let blocks = heavy_notar(rec, s);
+    lowest_of(rec, s, &blocks)
 }
 
 // Whether all that the leading block does not have stays short of 40.

@@ -6,11 +6,11 @@ use Prim.Native.Nat.{ℕ, _+_, _≤_, _<_}
 use lib.ListN.{length, getD}
 use Rattle.rulebook.specs.declared.Cell.{Cell}
 use Rattle.rulebook.specs.declared.CertificateKind.the-variants as certificate
-use Rattle.rulebook.specs.Tools.{someTo, anyOf}
+use Rattle.rulebook.specs.Tools.{someTo}
 use Rattle.rulebook.specs.Weights.{weight, totalTo}
 use Rattle.rulebook.specs.Certificates.{Kept}
-use Rattle.rulebook.specs.Ledger.{Ledger, none, noKept, mostCertificates, places, cellAt, certificatesAt}
-use Rattle.rulebook.specs.Pool.{held, namesTo}
+use Rattle.rulebook.specs.Ledger.{Ledger, none, noKept, mostCertificates, cellAt, certificatesAt}
+use Rattle.rulebook.specs.Pool.{held}
 use Rattle.rulebook.specs.Cards.{CardsAgree}
 use Rattle.record.specs.Layout.{ledgerOf}
 use Rattle.pool.specs.Weighing.{Weighing, Carded, namedHolds}
@@ -64,14 +64,3 @@ pub record Leaving (ws : List ℕ) (s n left : ℕ) : Type 0 where
 pub record Unkept (ws : List ℕ) (s : ℕ) : Type 0 where
   pub carded : Carded ws s
   pub kept : someKeptHolds (held (ledgerOf ws) certificate.NotarFallback s) (certificatesAt (ledgerOf ws) s) ≡ false
-
--- Likewise, and no name of a node before n holds kind 3.
-pub record Naming (ws : List ℕ) (s n : ℕ) : Type 0 where
-  pub unkept : Unkept ws s
-  pub nodes : n ≤ places (ledgerOf ws)
-  pub earlier : anyOf (held (ledgerOf ws) certificate.NotarFallback s) (namesTo (ledgerOf ws) s n) ≡ false
-
--- Likewise, and the block tried last does not hold kind 3.
-pub record Trying (ws : List ℕ) (s n tried : ℕ) : Type 0 where
-  pub naming : Naming ws s n
-  pub failed : namedHolds (held (ledgerOf ws) certificate.NotarFallback s) tried ≡ false

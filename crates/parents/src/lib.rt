@@ -3,16 +3,17 @@
 ghost use mathlib.Core.Path.{_≡_};
 ghost use Rattle.rulebook.specs.declared.CertificateKind.the-variants as certificate;
 ghost use Prim.Native.Nat.{_+_};
-ghost use Rattle.rulebook.specs.Tools.{anyOf};
+ghost use Rattle.rulebook.specs.Tools.{anyOf, someTo};
+ghost use lib.ListN.{length, getD};
 ghost use Rattle.rulebook.specs.Weights.{reaches};
 ghost use Rattle.rulebook.specs.Cards.{most};
 ghost use Rattle.rulebook.specs.Pool.{held, names, certifiable, parentHeld, skippedBetween, ready, someReady};
 ghost use Rattle.rulebook.specs.Ledger.{certificatesAt, keptAt};
 ghost use Rattle.record.specs.Layout.{ledgerOf};
 ghost use Rattle.pool.specs.Weighing.{Weighing, Carded, namedHolds};
-ghost use Rattle.parents.specs.Naming.{Parental, Between, someNamed, someKeptHolds, Keeping, namesSome, namedWeight, Left, Leaving, Unkept, Naming, Trying};
+ghost use Rattle.parents.specs.Naming.{Parental, Between, someKeptHolds, Keeping, namesSome, namedWeight, Left, Leaving, Unkept};
+use heavy_blocks::heavy_names;
 use kept_certificates::block_at;
-use pool::counted_before;
 use pool::held;
 use pool::reached;
 use record::MOST_CERTIFICATES;
@@ -27,7 +28,6 @@ use rulebook::CertificateKind;
 use rulebook::Node;
 use rulebook::Slot;
 use rulebook::Weight;
-use rulebook::Who;
 use thresholds::Threshold;
 
 // Whether b is a parent that slot p holds, or genesis.
@@ -70,34 +70,28 @@ pub fn ready(rec: &[u64], s: Slot, p: Slot, b: u64) -> bool
     skipped_between(rec, p, s)
 }
 
-// Whether node n's name b in slot p holds kind 3: by votes, since no kept certificate's block does. A name of an earlier node does
-// not, nor does what was tried last: neither is weighed again.
-fn name_held(rec: &[u64], p: Slot, n: Node, b: u64, tried: u64) -> bool
-    requires { ⌜ Trying (now rec) (p .0) (n .0) tried ⌝ }
+// Whether there is a block b and it holds kind 3 in slot p: by votes, since no kept certificate's block does.
+fn name_held(rec: &[u64], p: Slot, b: u64) -> bool
+    requires { ⌜ Unkept (now rec) (p .0) ⌝ }
     ensures { λ r. ⌜ r ≡ namedHolds (held (ledgerOf (now (rec .entry))) certificate.NotarFallback (p .0)) b ⌝ }
 {
-    if (b == 0) | (b == tried) {
-        return false;
-    }
-    if counted_before(rec, p, n, Who::NotarOrFallback(b)) {
+    if b == 0 {
         return false;
     }
     reached(rec, CertificateKind::NotarFallback, p, b)
 }
 
-// Whether some name of node n's cell in slot p holds kind 3.
-fn cell_held(rec: &[u64], p: Slot, n: Node, c: Cell) -> bool
-    requires { ⌜ Naming (now rec) (p .0) (n .0) ⌝ }
-    ensures { λ r. ⌜ r ≡ someNamed (held (ledgerOf (now (rec .entry))) certificate.NotarFallback (p .0)) c ⌝ }
+// Whether one of some blocks holds kind 3 in slot p.
+fn some_block_held(rec: &[u64], p: Slot, blocks: &[u64]) -> bool
+    requires { ⌜ Unkept (now rec) (p .0) ⌝ }
+    ensures { λ r. ⌜ r ≡ someTo (length (now (blocks .entry))) (λ i. namedHolds (held (ledgerOf (now (rec .entry))) certificate.NotarFallback (p .0)) (getD (now (blocks .entry)) i 0)) ⌝ }
 {
-    let first = c.notar;
-    if name_held(rec, p, n, first, 0) {
-        return true;
+    for i in 0..blocks.len() {
+        if name_held(rec, p, blocks[i]) {
+            return true;
+        }
     }
-    let second = name_held(rec, p, n, c.fallback1, first);
-    let third = name_held(rec, p, n, c.fallback2, first);
-    let fourth = name_held(rec, p, n, c.fallback3, first);
-    second | (third | fourth)
+    false
 }
 
 // Whether the notar votes of slot p's leading block reach 60.
@@ -118,15 +112,15 @@ fn names_some(c: Cell) -> bool
 }
 
 // What is left of the total behind node n: its stake is taken off where it names no block.
-fn left_behind(rec: &[u64], p: Slot, n: Node, left: u64) -> u64
-    requires { ⌜ Leaving (now rec) (p .0) (n .0) left ⌝ }
-    ensures { λ r. ⌜ Left (ledgerOf (now (rec .entry))) (p .0) (n .0 + 1) r ⌝ }
+fn left_behind(rec: &[u64], p: Slot, n: Node, left: Weight) -> Weight
+    requires { ⌜ Leaving (now rec) (p .0) (n .0) (left .0) ⌝ }
+    ensures { λ r. ⌜ Left (ledgerOf (now (rec .entry))) (p .0) (n .0 + 1) (r .0) ⌝ }
 {
     if names_some(load_cell(rec, p, n)) {
         return left;
     }
     let w = stake(rec, n);
-    left - w.0
+    Weight(left.0 - w.0)
 }
 
 // Whether the nodes that name some block in slot p reach 60: else no block does. Where too little is left of the total without those
@@ -138,10 +132,10 @@ fn enough_named(rec: &[u64], p: Slot) -> bool
     let all = total(rec);
     let needed = Threshold::SIXTY.missing(Weight(0), all);
     let nodes = count(rec);
-    let mut left = all.0;
+    let mut left = all;
     for n in 0..nodes {
         left = left_behind(rec, p, Node(n), left);
-        if left < needed.0 {
+        if left.0 < needed.0 {
             return false;
         }
     }
@@ -149,7 +143,7 @@ fn enough_named(rec: &[u64], p: Slot) -> bool
 }
 
 // Whether some block that the votes of slot p name holds kind 3: the leader by notar votes alone, none where too few name any, else
-// each is weighed once.
+// one of the six that can.
 fn some_name_held(rec: &[u64], p: Slot) -> bool
     requires { ⌜ Unkept (now rec) (p .0) ⌝ }
     ensures { λ r. ⌜ r ≡ anyOf (held (ledgerOf (now (rec .entry))) certificate.NotarFallback (p .0)) (names (ledgerOf (now (rec .entry))) (p .0)) ⌝ }
@@ -160,14 +154,8 @@ fn some_name_held(rec: &[u64], p: Slot) -> bool
     if !enough_named(rec, p) {
         return false;
     }
-    let nodes = count(rec);
-    for n in 0..nodes {
-        let c = load_cell(rec, p, Node(n));
-        if cell_held(rec, p, Node(n), c) {
-            return true;
-        }
-    }
-    false
+    let blocks = heavy_names(rec, p);
+    some_block_held(rec, p, &blocks)
 }
 
 // Whether the block of one of slot p's places for certificates holds kind 3.

@@ -1,10 +1,11 @@
-// Whether some block of a slot leads a claimed leader. The votes for other blocks are summed in groups first, and only where a group
-// has enough are blocks weighed, each once.
+// Whether some block of a slot leads a claimed leader. The votes for other blocks are summed in groups first; where a group has enough
+// they are listed by block; and only where that shows nothing are blocks weighed, each once.
 ghost use mathlib.Core.Path.{_≡_};
 ghost use mathlib.Core.Bool.{false};
 ghost use Prim.Native.Nat.{_≤_, _^_};
 ghost use Rattle.rulebook.specs.Cards.{leads};
 ghost use Rattle.record.specs.Layout.{ledgerOf};
+ghost use Rattle.vote_orders.specs.Ordering.{Shows};
 ghost use Rattle.rivals.specs.Rivals.{Trying, Leading, Grouping, Claimed, firstWeight, hasRival};
 use candidates::is_new;
 use pool::weigh;
@@ -18,9 +19,12 @@ use rulebook::Slot;
 use rulebook::Weight;
 use rulebook::Who;
 use tally::leads;
+use vote_orders::Shown;
+use vote_orders::shown_by;
+use vote_sorting::list_votes;
 
-// How many groups there are in rings of at most so many nodes.
-const FEW_GROUPS: usize = 64;
+// The most nodes of a ring for which 64 words are enough, for groups and for a list of votes.
+const FEW_NODES: usize = 64;
 
 // The weight of node n's block m where n is the first that votes for it; 0 where it is no block, or b.
 fn first_weight(rec: &[u64], s: Slot, n: Node, m: u64, b: u64) -> Weight
@@ -70,8 +74,8 @@ fn is_ahead(m: u64, w: Weight, b: u64, v: Weight) -> bool
     v.0 < most
 }
 
-// Whether some group leads b at weight v: the notar votes for other blocks are summed in the lent groups, by their blocks' numbers.
-// No block has more than its group.
+// Whether some group leads b at weight v: the notar votes for other blocks are summed in the lent groups, by the last bits of their
+// blocks' numbers. No block has more than its group.
 fn group_leads(rec: &[u64], s: Slot, b: u64, v: Weight, groups: &mut [u64]) -> bool
     requires { ⌜ Grouping (now rec) (s .0) b (v .0) (now groups) ⌝ }
     ensures { λ r. ⌜ (r ≡ false → hasRival (ledgerOf (now (rec .entry))) (s .0) b (v .0) (ledgerOf (now (rec .entry)) .count) ≡ false) ⌝ }
@@ -83,36 +87,59 @@ fn group_leads(rec: &[u64], s: Slot, b: u64, v: Weight, groups: &mut [u64]) -> b
         if (m != 0) & (m != b) {
             let w = stake(rec, Node(n));
             let g = (m & (size - 1)) as usize;
-            let sum = groups[g] + w.0;
-            if is_ahead(m, Weight(sum), b, v) {
+            let before = groups[g];
+            let sum = Weight(before + w.0);
+            if is_ahead(m, sum, b, v) {
                 return true;
             }
-            groups[g] = sum;
+            groups[g] = sum.0;
         }
     }
     false
 }
 
-// Whether some block other than b may lead b at weight v. A larger ring has more groups, so that few blocks share one.
-fn may_be_led(rec: &[u64], s: Slot, b: u64, v: Weight) -> bool
-    requires { ⌜ Leading (now rec) (s .0) b (v .0) ⌝ }
-    ensures { λ r. ⌜ (r ≡ false → hasRival (ledgerOf (now (rec .entry))) (s .0) b (v .0) (ledgerOf (now (rec .entry)) .count) ≡ false) ⌝ }
+// What the slot's notar votes, listed by block in the lent words, show of the leader b at weight v.
+fn shown_in_order(rec: &[u64], s: Slot, b: u64, v: Weight, any: Weight, words: &mut [u64]) -> Shown
+    requires { ⌜ Claimed (now rec) (s .0) b (v .0) (any .0) ⌝ }
+    ensures { λ r. ⌜ Shows (ledgerOf (now (rec .entry))) (s .0) b (v .0) r ⌝ }
 {
-    if count(rec) <= FEW_GROUPS {
-        let mut few = [0u64; FEW_GROUPS];
-        return group_leads(rec, s, b, v, &mut few);
-    }
-    let mut many = [0u64; MOST_NODES];
-    group_leads(rec, s, b, v, &mut many)
+    let k = list_votes(rec, s, words);
+    shown_by(rec, s, b, v, any, &words[0..k])
 }
 
-// Whether some block of the slot leads b at weight v. Blocks are weighed only where a group has enough.
+// Whether some block of the slot leads b at weight v, over lent words with nothing in them. Only where a group has enough are the votes
+// listed by block, which shows whether one leads; were it not to, blocks would be weighed.
+fn is_led_over(rec: &[u64], s: Slot, b: u64, v: Weight, any: Weight, words: &mut [u64]) -> bool
+    requires { ⌜ Claimed (now rec) (s .0) b (v .0) (any .0) × Grouping (now rec) (s .0) b (v .0) (now words) ⌝ }
+    ensures { λ r. ⌜ r ≡ hasRival (ledgerOf (now (rec .entry))) (s .0) b (v .0) (ledgerOf (now (rec .entry)) .count) ⌝ }
+{
+    if !group_leads(rec, s, b, v, words) {
+        return false;
+    }
+    match shown_in_order(rec, s, b, v, any, words) {
+        Shown::Unled => false,
+        Shown::Led => true,
+        Shown::Neither => has_rival(rec, s, b, v, any),
+    }
+}
+
+// Likewise in a ring of more than 64 nodes.
+fn is_led_among_many(rec: &[u64], s: Slot, b: u64, v: Weight, any: Weight) -> bool
+    requires { ⌜ Claimed (now rec) (s .0) b (v .0) (any .0) ⌝ }
+    ensures { λ r. ⌜ r ≡ hasRival (ledgerOf (now (rec .entry))) (s .0) b (v .0) (ledgerOf (now (rec .entry)) .count) ⌝ }
+{
+    let mut words = [0u64; MOST_NODES];
+    is_led_over(rec, s, b, v, any, &mut words)
+}
+
+// Whether some block of the slot leads b at weight v. A larger ring has more groups, so that few blocks share one.
 pub fn is_led(rec: &[u64], s: Slot, b: u64, v: Weight, any: Weight) -> bool
     requires { ⌜ Claimed (now rec) (s .0) b (v .0) (any .0) ⌝ }
     ensures { λ r. ⌜ r ≡ hasRival (ledgerOf (now (rec .entry))) (s .0) b (v .0) (ledgerOf (now (rec .entry)) .count) ⌝ }
 {
-    if !may_be_led(rec, s, b, v) {
-        return false;
+    if count(rec) <= FEW_NODES {
+        let mut words = [0u64; FEW_NODES];
+        return is_led_over(rec, s, b, v, any, &mut words);
     }
-    has_rival(rec, s, b, v, any)
+    is_led_among_many(rec, s, b, v, any)
 }

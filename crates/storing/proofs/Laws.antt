@@ -22,7 +22,7 @@ use Rattle.record.specs.Tabled.{Tabled}
 use Rattle.recounting.proofs.Using.{recount-light}
 use Rattle.settling.specs.Facts.{HeadFacts}
 use Rattle.settling.proofs.FactLaws.{formed, count-placed}
-use Rattle.pool.specs.Weighing.{Weighing}
+use Rattle.pool.specs.Weighing.{Weighing, Carded}
 use Rattle.pool.proofs.HeldLaws.{weigh-light}
 use Rattle.tally.proofs.Tallying.{adds-light, adds-other}
 use Rattle.storing.specs.Storing.{Storing}
@@ -46,6 +46,9 @@ module _ {ws : List ℕ} {s n : ℕ} (h : Storing ws s n) where
 
   pub storing-weighs : Weighing ws s
   storing-weighs = record { long = h .long; slot = omega (arith, h .high); table = head-tabled (ledgerOf ws) head }
+
+  pub storing-carded : Carded ws s
+  storing-carded = record { weighing = storing-weighs; later = h .low; cards = formed (ledgerOf ws) (h .sound .formed) .cards }
 
   pub storing-slot : InSlot ws s
   storing-slot = record { long = h .long; slot = omega (arith, h .high) }

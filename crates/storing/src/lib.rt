@@ -6,7 +6,7 @@ ghost use Rattle.record.specs.Layout.{ledgerOf};
 ghost use Rattle.storing.specs.Storing.{Storing};
 use cells::with_vote;
 use kinds::vote_number;
-use pool::weigh;
+use pool::weight_of;
 use record::load_card;
 use record::load_cell;
 use record::stake;
@@ -24,7 +24,8 @@ use tally::updated;
 // The number of a notar vote.
 const NOTAR: u64 = 1;
 
-// What a node's vote adds to the card of its slot. Only a notar vote asks what its block weighs so far.
+// What a node's vote adds to the card of its slot. Only a notar vote asks what its block weighs so far: the card tells it of the leader,
+// another block is weighed.
 fn change_of(rec: &[u64], s: Slot, n: Node, k: VoteKind, b: u64) -> Tally
     requires { ⌜ Storing (now rec) (s .0) (n .0) ⌝ }
     ensures { λ r. ⌜ r ≡ changeOf (ledgerOf (now (rec .entry))) (s .0) (n .0) k b ⌝ }
@@ -32,7 +33,7 @@ fn change_of(rec: &[u64], s: Slot, n: Node, k: VoteKind, b: u64) -> Tally
     let c = load_cell(rec, s, n);
     let w = stake(rec, n);
     if vote_number(k) == NOTAR {
-        return adds(c, k, b, w, weigh(rec, s, Who::Notar(b)));
+        return adds(c, k, b, w, weight_of(rec, s, Who::Notar(b)));
     }
     adds(c, k, b, w, Weight(0))
 }

@@ -4,7 +4,7 @@ use native.Mathlib.Omega.{arith}
 use borrow.Author.Needs.{needs}
 use Rattle.rulebook.specs.declared.Who.the-variants as who
 use Rattle.record.specs.Layout.{ledgerOf}
-use Rattle.storing.proofs.Laws.{storing-weighs, storing-placed, storing-stake, stake-small, weight-small, change-notar, change-other}
+use Rattle.storing.proofs.Laws.{storing-carded, storing-placed, storing-stake, stake-small, weight-small, change-notar, change-other}
 use Rattle.storing.proofs.change_of.Statement.{statement}
 use Rattle.storing.proofs.change_of.Tie as tie
 
@@ -19,20 +19,20 @@ stake-requires c κs =
 vote-number-requires : tie.Need-vote-number-requires
 vote-number-requires c κs = search needs
 
-weigh-requires : tie.Need-weigh-requires
-weigh-requires c κs =
-    storing-weighs (c .before .before .before .before .before .pre)
+weight-of-requires : tie.Need-weight-of-requires
+weight-of-requires c κs =
+    storing-carded (c .before .before .before .before .before .pre)
 
 adds-requires : tie.Need-adds-requires
 adds-requires c κs =
     let a = c .before .before .before .before .before .before in
-    (omega (arith, c .before .before .before .stake .ensures, stake-small (a .pre)), omega (arith, c .weigh .ensures, weight-small (a .pre) (who.Notar (a .args .b))))
+    (omega (arith, c .before .before .before .stake .ensures, stake-small (a .pre)), omega (arith, c .weight-of .ensures, weight-small (a .pre) (who.Notar (a .args .b))))
 
 returns : tie.Need-returns
 returns c =
     let a = c .before .before .before .before .before .before .before in
     c .adds .ensures
-    ∙ change-notar (ledgerOf (a .args .rec .now)) (a .args .s .0) (a .args .n .0) (a .args .k) (a .args .b) _ _ _ (c .before .before .before .before .before .load-cell .ensures) (c .before .before .before .before .stake .ensures) (c .before .weigh .ensures)
+    ∙ change-notar (ledgerOf (a .args .rec .now)) (a .args .s .0) (a .args .n .0) (a .args .k) (a .args .b) _ _ _ (c .before .before .before .before .before .load-cell .ensures) (c .before .before .before .before .stake .ensures) (c .before .weight-of .ensures)
 
 adds-requires-2 : tie.Need-adds-requires-2
 adds-requires-2 c κs =
@@ -52,7 +52,7 @@ change-of-spec =
     load-cell-requires
     stake-requires
     vote-number-requires
-    weigh-requires
+    weight-of-requires
     adds-requires
     returns
     adds-requires-2
