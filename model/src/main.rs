@@ -11,6 +11,7 @@ mod packet;
 mod panel;
 mod random;
 mod refusal;
+mod rings;
 mod stakes;
 #[cfg(test)]
 mod tests;
@@ -28,7 +29,8 @@ const USAGE: &str = "usage:
   model cover SEED COUNT                    counts what those scripts reach
   model measure SIDE NODES RECORD OPERATION ROUNDS
                                             one operation, for its cost
-  model record NODES RECORD                 the words of that record";
+  model record NODES RECORD                 the words of that record
+  model votes NODES RECORD                  those of the votes that are given to it";
 
 fn main() -> ExitCode {
     let words: Vec<String> = std::env::args().skip(1).collect();
@@ -60,22 +62,31 @@ fn obey(words: &[&str]) -> Option<io::Result<bool>> {
         }
         ["measure", "model", rest @ ..] => measure::by_model(&measure_task(rest)?).map(|()| Ok(true)),
         ["measure", "tuned", rest @ ..] => measure::by_tuned(&measure_task(rest)?).map(|()| Ok(true)),
-        ["record", nodes, record] => {
-            let words = measure::record(&measure_task(&[nodes, record, "none", "0"])?)?;
-            let bytes: Vec<u8> = words.iter().flat_map(|word| word.to_le_bytes()).collect();
-            Some(io::stdout().lock().write_all(&bytes).map(|()| true))
-        }
+        ["record", nodes, record] => Some(write_words(&measure::record(&ring(nodes, record)?)?)),
+        ["votes", nodes, record] => Some(write_words(&ring(nodes, record)?.given.concat())),
         ["compare", rest @ ..] => Some(Ok(compare::compare(&compare_task(rest)?))),
         _ => None,
     }
 }
 
 /// A ring has another node than the own.
+fn nodes(word: &str) -> Option<usize> {
+    word.parse().ok().filter(|nodes| (2..=stakes::MOST_NODES).contains(nodes))
+}
+
+fn ring(count: &str, record: &str) -> Option<rings::Ring> {
+    rings::ring(record, nodes(count)?)
+}
+
+fn write_words(words: &[u64]) -> io::Result<bool> {
+    let bytes: Vec<u8> = words.iter().flat_map(|word| word.to_le_bytes()).collect();
+    io::stdout().lock().write_all(&bytes).map(|()| true)
+}
+
 fn measure_task(words: &[&str]) -> Option<measure::Task> {
-    let [nodes, record, operation, rounds] = <[&str; 4]>::try_from(words).ok()?;
-    let nodes = nodes.parse().ok().filter(|nodes| (2..=stakes::MOST_NODES).contains(nodes))?;
+    let [count, record, operation, rounds] = <[&str; 4]>::try_from(words).ok()?;
     let (record, operation) = (record.to_string(), operation.to_string());
-    Some(measure::Task { nodes, record, operation, rounds: measure::Rounds::parse(rounds)? })
+    Some(measure::Task { nodes: nodes(count)?, record, operation, rounds: measure::Rounds::parse(rounds)? })
 }
 
 fn compare_task(words: &[&str]) -> Option<compare::Task> {

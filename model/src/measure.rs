@@ -2,15 +2,12 @@
 //! product's C face, done by the model and by the tuned version. The model's
 //! node is no lent memory, so it has no test of a record.
 
-use crate::node::{Node, Vote, LAST_SLOT};
+use crate::node::{Node, LAST_SLOT};
 use crate::packet;
+use crate::rings::{certificates, chained, ring, Ring, FALLBACK};
 use crate::tuned;
 use std::hint::black_box;
-use std::time::Instant;
 
-const VOTES: usize = 500;
-const FALLBACK: u64 = 20;
-const BLOCK: u64 = 100;
 const HEAVY: u64 = 1_000_000;
 
 /// A time is the least of so many batches, each at least so long; fewer where
@@ -54,9 +51,9 @@ fn repeat(rounds: &Rounds, mut batch: impl FnMut(u64) -> Option<f64>) -> Option<
             while batch(count)? < BATCH_SECONDS {
                 count *= 2;
             }
-            let (begun, mut least) = (Instant::now(), f64::INFINITY);
+            let (begun, mut least) = (now(), f64::INFINITY);
             for done in 0..BATCHES {
-                if done >= LEAST_BATCHES && begun.elapsed().as_secs_f64() > SECONDS {
+                if done >= LEAST_BATCHES && now() - begun > SECONDS {
                     break;
                 }
                 least = least.min(batch(count)?);
@@ -69,63 +66,27 @@ fn repeat(rounds: &Rounds, mut batch: impl FnMut(u64) -> Option<f64>) -> Option<
 
 /// Seconds of so many rounds.
 fn seconds(count: u64, mut round: impl FnMut(usize) -> bool) -> Option<f64> {
-    let begun = Instant::now();
+    let begun = now();
     for at in 0..count as usize {
         black_box(round(at)).then_some(())?;
     }
-    Some(begun.elapsed().as_secs_f64())
+    Some(now() - begun)
+}
+
+/// Seconds of processor time that this program has taken, which others who run
+/// beside it do not lengthen.
+fn now() -> f64 {
+    extern "C" {
+        fn clock_gettime(clock: i32, time: *mut [i64; 2]) -> i32;
+    }
+    const PROCESS: i32 = 2;
+    let mut time = [0; 2];
+    // SAFETY: the C library's own function, and on every 64-bit Linux its time is two such words.
+    unsafe { clock_gettime(PROCESS, &mut time) };
+    time[0] as f64 + time[1] as f64 / 1e9
 }
 
 // ---- what is worked on ----
-
-/// The block of a slot in a ring that goes on, one block behind the other.
-fn chained(slot: u64) -> u64 {
-    BLOCK + slot
-}
-
-/// The votes of the record, in every slot of every node but the own: none; a
-/// notar for the slot's block and a final; or an initial vote for one of so many
-/// blocks in turn, two notar-fallbacks and a final. None when there is no record
-/// of that name.
-fn stored(task: &Task) -> Option<Vec<(u64, usize, Vote)>> {
-    let everywhere = || (1..=LAST_SLOT).flat_map(|slot| (1..task.nodes).map(move |node| (slot, node)));
-    let (blocks, lowest, fallback) = match task.record.as_str() {
-        "empty" => return Some(Vec::new()),
-        "voted" => {
-            let two = |(slot, node)| [(slot, node, Vote::Notar(chained(slot))), (slot, node, Vote::Final)];
-            return Some(everywhere().flat_map(two).collect());
-        }
-        "one" => (1, BLOCK, FALLBACK),
-        "five" | "kept" => (5, BLOCK, FALLBACK),
-        "each" => (task.nodes, BLOCK, FALLBACK),
-        "other" => (5, 5100, FALLBACK + 5000),
-        _ => return None,
-    };
-    let four = |(slot, node)| {
-        let initial = Vote::Notar(lowest + (node % blocks) as u64);
-        let votes = [initial, Vote::NotarFallback(fallback), Vote::NotarFallback(fallback + 1), Vote::Final];
-        votes.map(|vote| (slot, node, vote))
-    };
-    Some(everywhere().flat_map(four).collect())
-}
-
-/// As many certificates as a slot has places for, meaning and block.
-fn certificates() -> Vec<(u64, u64)> {
-    let one_each = [(1, BLOCK), (2, BLOCK), (4, 0), (5, 0)];
-    one_each.into_iter().chain((0..9).map(|place| (3, FALLBACK + place))).collect()
-}
-
-/// In every slot in turn: an initial vote on an empty record, else a fallback.
-fn vote(task: &Task, i: usize) -> [u64; 4] {
-    let slots = LAST_SLOT as usize;
-    let node = (1 + i / slots % (task.nodes - 1)) as u64;
-    let slot = (1 + i % slots) as u64;
-    if task.record == "empty" {
-        [1, node, slot, BLOCK + node % 5]
-    } else {
-        [2, node, slot, 22]
-    }
-}
 
 /// Stakes, a certificate and whether it is accepted. `check3` and `check64` are
 /// signed by so many nodes, or all where there are fewer, that have nearly all
@@ -152,14 +113,15 @@ fn certificate(task: &Task, written: Vec<u8>) -> (Vec<u64>, Vec<u8>, bool) {
 /// None when the operation is refused or there is none of that name. Records
 /// with certificates or blocks are not made here: the model takes them one by one.
 pub fn by_model(task: &Task) -> Option<()> {
-    (task.record != "kept" && task.record != "voted").then_some(())?;
-    let ones = vec![1; task.nodes];
-    let mut node = Node::start(0, 1, &ones).ok()?.with_votes(stored(task)?);
+    let Ring { stakes, stored, has_chain, has_certificates, is_late, given } =
+        ring(&task.record, task.nodes)?;
+    (!has_chain && !has_certificates && !is_late).then_some(())?;
+    let mut node = Node::start(0, 1, &stakes).ok()?.with_votes(stored);
     node.look();
     let kind = node.stakes().family().kinds_after() + 3;
     let written = packet::write_cert(&node, kind, LAST_SLOT, FALLBACK).unwrap_or_default();
     let (stakes, packet, accepted) = certificate(task, written);
-    let votes: Vec<u64> = (0..VOTES).flat_map(|i| vote(task, i)).collect();
+    let votes = given.concat();
     let operation = task.operation.as_str();
     let operate = |node: &mut Node| match operation {
         "look" => node.look().is_empty(),
@@ -210,46 +172,65 @@ impl Lent {
 }
 
 /// The words of the record, with what the rules make of it.
-pub fn record(task: &Task) -> Option<Vec<u64>> {
-    let mut words = vec![0; tuned::record_words(task.nodes)];
+pub fn record(ring: &Ring) -> Option<Vec<u64>> {
+    let mut words = vec![0; tuned::record_words(ring.stakes.len())];
     let mut outbox = [0; tuned::OUTBOX_WORDS];
-    let votes = stored(task)?;
-    (tuned::start(&mut words, &vec![1; task.nodes], 0, 1) == 0).then_some(())?;
-    if task.record == "voted" {
+    (tuned::start(&mut words, &ring.stakes, 0, 1) == 0).then_some(())?;
+    if ring.has_chain {
         for slot in 1..=LAST_SLOT {
             let parent = if slot == 1 { 1 } else { chained(slot - 1) };
             let block = [slot, chained(slot), slot - 1, parent];
             (tuned::block(&mut words, &mut outbox, block).0 == 0).then_some(())?;
         }
     }
-    for (slot, node, vote) in votes {
+    for &(slot, node, vote) in &ring.stored {
         tuned::store_vote(&mut words, vote.kind(), node, slot as usize, vote.block());
     }
-    if task.record == "kept" {
+    if ring.has_certificates {
         for slot in 1..=LAST_SLOT as usize {
             for (meaning, block) in certificates() {
                 tuned::store_certificate(&mut words, meaning, slot, block);
             }
         }
     }
-    (tuned::look(&mut words, &mut outbox).0 == 0).then_some(words)
+    (tuned::look(&mut words, &mut outbox).0 == 0).then_some(())?;
+    if ring.is_late {
+        for slot in 1..=LAST_SLOT {
+            (tuned::timeout(&mut words, &mut outbox, slot).0 == 0).then_some(())?;
+        }
+    }
+    Some(words)
+}
+
+/// Gives all votes in trays of so many, or one by one.
+fn live(words: &mut [u64], outbox: &mut [u64], votes: &[u64], most: usize, answers: &mut [u64]) -> bool {
+    votes.chunks(4 * most).all(|votes| match *votes {
+        [kind, node, slot, block] => tuned::vote(words, outbox, [kind, node, slot, block]).0 == 0,
+        _ => tuned::tray(words, outbox, votes, answers).0 == 0,
+    })
 }
 
 /// None when the operation is refused or there is none of that name.
 pub fn by_tuned(task: &Task) -> Option<()> {
-    let words = record(task)?;
+    let ring = ring(&task.record, task.nodes)?;
+    let words = record(&ring)?;
     let kind = if task.nodes > 64 { 13 } else { 3 };
     let mut buffer = vec![0; 768];
     let length = tuned::write_certificate(&words, &mut buffer, kind, LAST_SLOT, FALLBACK).1;
     let written = buffer[..length].to_vec();
     let (stakes, packet, accepted) = certificate(task, written);
-    let votes: Vec<u64> = (0..VOTES).flat_map(|i| vote(task, i)).collect();
-    let first = [votes[0], votes[1], votes[2], votes[3]];
-    let (outbox, answers) = (vec![0; tuned::OUTBOX_WORDS], vec![0; VOTES]);
+    let votes = ring.given.concat();
+    let first = ring.given[0];
+    let (outbox, answers) = (vec![0; tuned::OUTBOX_WORDS], vec![0; ring.given.len()]);
     let mut lent =
         Lent { kept: words.clone(), words, outbox, answers, buffer, is_dirty: false, changed: None };
-    let operation = task.operation.as_str();
-    let changes = matches!(operation, "vote" | "tray" | "take");
+    let (operation, asks_every_slot) = match task.operation.strip_suffix("-every") {
+        Some(operation) => (operation, true),
+        None => (task.operation.as_str(), false),
+    };
+    tuned::ASKS_EVERY_SLOT.store(asks_every_slot, std::sync::atomic::Ordering::Relaxed);
+    let most = operation.strip_prefix("life").and_then(|most| most.parse().ok()).filter(|&most| most > 0);
+    let changes = most.is_some() || matches!(operation, "vote" | "tray" | "take");
     let operate = |Lent { words, outbox, answers, buffer, .. }: &mut Lent| match operation {
         "test" => tuned::vote(words, outbox, [9, 1, 1, 7]).0 == 4,
         "look" => tuned::look(words, outbox).0 == 0,
@@ -260,7 +241,7 @@ pub fn by_tuned(task: &Task) -> Option<()> {
         "check" | "check3" | "check64" | "light" => {
             (black_box(tuned::check_certificate(&stakes, black_box(&packet))).0 == 0) == accepted
         }
-        _ => false,
+        _ => most.map_or(false, |most| live(words, outbox, &votes, most, answers)),
     };
     repeat(&task.rounds, |count| {
         seconds(count, |_| {

@@ -34,21 +34,11 @@ fn open(words: &[u64], outbox: &[u64]) -> Result<Found, u64> {
     Ok(found)
 }
 
-/// Works on a record, with a table of blocks that fits its ring; answers how
-/// many records were made.
-macro_rules! call {
-    ($words:expr, $outbox:expr, $found:expr, $work:expr) => {
-        match $found.nodes {
-            0..=8 => call!(16, $words, $outbox, $found, $work),
-            9..=64 => call!(128, $words, $outbox, $found, $work),
-            _ => call!(4096, $words, $outbox, $found, $work),
-        }
-    };
-    ($places:literal, $words:expr, $outbox:expr, $found:expr, $work:expr) => {{
-        let mut call = Call::<$places>::new($words, $outbox, $found);
-        $work(&mut call);
-        call.made
-    }};
+/// Works on a record; answers how many records were made.
+fn call(words: &mut [u64], outbox: &mut [u64], found: Found, work: impl FnOnce(&mut Call<'_>)) -> usize {
+    let mut call = Call::new(words, outbox, found);
+    work(&mut call);
+    call.made
 }
 
 /// The number, 0 or a refusal's, and how many records were made.
@@ -67,7 +57,7 @@ pub fn vote(words: &mut [u64], outbox: &mut [u64], vote: [u64; 4]) -> Answer {
     answer(open(words, outbox).and_then(|found| {
         let (head, rows) = words.split_at(STAKES + found.nodes);
         judge(head, rows, vote)?;
-        Ok(call!(words, outbox, found, |call: &mut Call<'_, _>| take(call, vote)))
+        Ok(call(words, outbox, found, |call| take(call, vote)))
     }))
 }
 
@@ -108,9 +98,8 @@ fn judge(head: &[u64], rows: &[u64], [kind, node, slot, block]: [u64; 4]) -> Res
     }
 }
 
-fn take<const PLACES: usize>(call: &mut Call<'_, PLACES>, [kind, node, slot, block]: [u64; 4]) {
-    call.store(kind, node as usize, slot as usize, block);
-    call.settle();
+fn take(call: &mut Call<'_>, [kind, node, slot, block]: [u64; 4]) {
+    call.take(kind, node as usize, slot as usize, block);
 }
 
 /// What was weighed for a vote stays for the votes after it.
@@ -122,7 +111,7 @@ pub fn tray(words: &mut [u64], outbox: &mut [u64], votes: &[u64], answers: &mut 
         if votes.len() % 4 != 0 {
             return Err(12);
         }
-        Ok(call!(words, outbox, found, |call: &mut Call<'_, _>| {
+        Ok(call(words, outbox, found, |call| {
             for (vote, answer) in votes.chunks_exact(4).zip(answers.iter_mut()) {
                 let vote = vote.try_into().expect("four words");
                 let (head, rows) = call.words();
@@ -137,8 +126,8 @@ pub fn tray(words: &mut [u64], outbox: &mut [u64], votes: &[u64], answers: &mut 
 
 /// A vote stored and no rule run, to fill a record; it has a place.
 pub fn store_vote(words: &mut [u64], kind: u64, node: usize, slot: usize, block: u64) {
-    let found = Found { nodes: words[COUNT] as usize, voted: 0, kept_4: 0, kept_5: 0 };
-    Call::<1>::new(words, &mut [], found).store(kind, node, slot, block);
+    let found = Found::nothing(words[COUNT] as usize);
+    Call::new(words, &mut [], found).store(kind, node, slot, block);
 }
 
 // ---- certificates from others ----
@@ -158,7 +147,7 @@ pub fn take_certificate(words: &mut [u64], outbox: &mut [u64], packet: &[u8]) ->
         taken[0] = block;
         let slot = slot as usize;
         let place = place_for(&rows[slot * row_words(found.nodes)..], &found, kind % 10, slot, block)?;
-        Ok(call!(words, outbox, found, |call: &mut Call<'_, _>| {
+        Ok(call(words, outbox, found, |call| {
             call.keep(slot, place, &taken[..length]);
             call.settle();
         }))
@@ -175,7 +164,7 @@ pub fn store_certificate(words: &mut [u64], meaning: u64, slot: usize, block: u6
     for node in 0..found.nodes {
         kept[1 + node / 64] |= 1 << (node % 64);
     }
-    Call::<1>::new(words, &mut [], found).keep(slot, place, &kept);
+    Call::new(words, &mut [], found).keep(slot, place, &kept);
 }
 
 /// 7, 8, or where the certificate goes.
@@ -199,9 +188,7 @@ fn place_for(row: &[u64], found: &Found, meaning: u64, slot: usize, block: u64) 
 // ---- the other inputs ----
 
 pub fn look(words: &mut [u64], outbox: &mut [u64]) -> Answer {
-    answer(
-        open(words, outbox).map(|found| call!(words, outbox, found, |call: &mut Call<'_, _>| call.settle())),
-    )
+    answer(open(words, outbox).map(|found| call(words, outbox, found, |call| call.settle())))
 }
 
 /// 17, 3; the card's words beside it.
@@ -240,12 +227,11 @@ pub fn block(words: &mut [u64], outbox: &mut [u64], block: [u64; 4]) -> Answer {
             return Err(8);
         }
         places[free..free + BLOCK].copy_from_slice(&block[1..]);
-        Ok(call!(words, outbox, found, |call: &mut Call<'_, _>| call.settle()))
+        Ok(call(words, outbox, found, |call| call.settle()))
     }))
 }
 
 /// 3, 10, 7; then the window's skips are cast and the rules are run.
-#[cfg(test)]
 pub fn timeout(words: &mut [u64], outbox: &mut [u64], slot: u64) -> Answer {
     answer(open(words, outbox).and_then(|found| {
         if slot < 1 || slot > LAST_SLOT as u64 {
@@ -260,7 +246,7 @@ pub fn timeout(words: &mut [u64], outbox: &mut [u64], slot: u64) -> Answer {
             return Err(7);
         }
         row[TIMED_OUT] = 1;
-        Ok(call!(words, outbox, found, |call: &mut Call<'_, _>| {
+        Ok(call(words, outbox, found, |call| {
             if call.has_no_initial(slot) {
                 call.cast_skips(slot);
             }

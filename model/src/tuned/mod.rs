@@ -5,13 +5,13 @@
 //!
 //! What makes it quick is plain. A row without votes is found by or-ing its
 //! words. A card is recounted in the pass that tests the cells, and rules read
-//! it. Where it does not tell, the votes of a slot are weighed in one pass, by a
-//! small table of blocks; what was weighed is kept for the rest of the call.
-//! Masks are stepped through from signer to signer. Whether a block is certified
-//! is read off the places' blocks, without their masks.
-//!
-//! Block numbers that were chosen to fall on one place of that table make it
-//! slow, up to blocks times blocks. The product has no such table.
+//! it and two more sums of that pass. Where no block has half of the notar
+//! stake, blocks are weighed by a small table; where numbers were chosen to fall
+//! on one place of it, they are sorted. The blocks that rules A and D can take
+//! are found by six counters. In a tray, a vote has the rules of other slots asked
+//! only where it may have made a certificate that one of them waits for. Masks are
+//! stepped through from signer to signer. Whether a block is certified is read off
+//! the places' blocks, without their masks.
 
 mod card;
 mod checker;
@@ -27,8 +27,10 @@ mod writer;
 pub use checker::check_certificate;
 #[cfg(test)]
 pub use checker::{check_proof, Check};
-pub use inputs::{block, look, start, store_certificate, store_vote, take_certificate, tray, vote};
 #[cfg(test)]
-pub use inputs::{card, timeout};
+pub use inputs::card;
+pub use inputs::{block, look, start, store_certificate, store_vote, take_certificate, timeout, tray, vote};
 pub use layout::{record_words, OUTBOX_WORDS};
+pub use rules::ASKS_EVERY_SLOT;
+pub use weights::on_one_place;
 pub use writer::write_certificate;

@@ -3,53 +3,58 @@
 use super::card::Card;
 use super::layout::*;
 use super::sound::Found;
-use super::weights::{behind, Blocks, Weights};
+use super::weights::{behind, some_behind, Heavy};
+use std::sync::atomic::{AtomicBool, Ordering::Relaxed};
 
 const ROWS: usize = LAST_SLOT + 1;
+
+/// The rules of every slot are asked after each vote, as the product asks them,
+/// and not those alone that the vote can matter to: for a column beside it.
+pub static ASKS_EVERY_SLOT: AtomicBool = AtomicBool::new(false);
 
 const TOLD_FINAL: u64 = 6;
 const TOLD_ARMED: u64 = 7;
 const TOLD_CONFLICT: u64 = 8;
 
-/// A call under way on a record that passed its test. The table of blocks has
-/// twice as many places as the ring has nodes, or more.
-pub struct Call<'a, const PLACES: usize> {
+/// A call under way on a record that passed its test.
+pub struct Call<'a> {
     head: &'a mut [u64],
     rows: &'a mut [u64],
     outbox: &'a mut [u64],
     pub made: usize,
-    nodes: usize,
     total: u64,
     own: usize,
-    /// Bit s: slot s has votes.
-    voted: u32,
-    /// Bit s: a certificate of kind 4, or one of kind 5, is kept for slot s.
-    kept_4: u32,
-    kept_5: u32,
-    /// Bit s: slot s was weighed, and no block was voted for in it since.
+    found: Found,
+    /// Bit s: whether votes certify some block of slot s was asked, and they do.
+    asked: u32,
+    named: u32,
+    /// Bit s: slot s was weighed, and no block was notarized in it since.
     weighed: u32,
-    weights: [Weights; ROWS],
-    blocks: Blocks<PLACES>,
+    heavy: Option<Box<[Heavy; ROWS]>>,
+    /// No rule applied when they were last tried.
+    is_settled: bool,
+    /// Bit s: a rule of slot s waits for a certificate of a lower slot.
+    waiting: u32,
 }
 
-impl<'a, const PLACES: usize> Call<'a, PLACES> {
-    #[inline(always)]
+impl<'a> Call<'a> {
     pub fn new(words: &'a mut [u64], outbox: &'a mut [u64], found: Found) -> Self {
         let (head, rows) = words.split_at_mut(STAKES + found.nodes);
+        let (total, own) = (head[TOTAL], head[OWN] as usize);
         Call {
-            nodes: found.nodes,
-            total: head[TOTAL],
-            own: head[OWN] as usize,
-            voted: found.voted,
-            kept_4: found.kept_4,
-            kept_5: found.kept_5,
             head,
             rows,
             outbox,
             made: 0,
+            total,
+            own,
+            found,
+            asked: 0,
+            named: 0,
             weighed: 0,
-            weights: [Weights::default(); ROWS],
-            blocks: Blocks::new(),
+            heavy: None,
+            is_settled: false,
+            waiting: 0,
         }
     }
 
@@ -60,11 +65,11 @@ impl<'a, const PLACES: usize> Call<'a, PLACES> {
     }
 
     fn row(&self, slot: usize) -> &[u64] {
-        &self.rows[slot * row_words(self.nodes)..][..row_words(self.nodes)]
+        &self.rows[slot * row_words(self.found.nodes)..][..row_words(self.found.nodes)]
     }
 
     fn cells(&self, slot: usize) -> &[u64] {
-        &self.row(slot)[cells_at(self.nodes)..]
+        &self.row(slot)[cells_at(self.found.nodes)..]
     }
 
     fn card(&self, slot: usize) -> Card {
@@ -93,36 +98,37 @@ impl<'a, const PLACES: usize> Call<'a, PLACES> {
         kept.find(|block| block[0] == number).map(|block| (block[1] as usize, block[2]))
     }
 
-    fn has_votes(&self, slot: usize) -> bool {
-        self.voted >> slot & 1 == 1
-    }
-
-    fn weights(&mut self, slot: usize) -> &Weights {
-        if self.weighed >> slot & 1 == 0 {
-            self.weighed |= 1 << slot;
-            self.weights[slot] = Weights::default();
-            if self.has_votes(slot) {
-                let cells =
-                    &self.rows[slot * row_words(self.nodes)..][cells_at(self.nodes)..row_words(self.nodes)];
-                self.weights[slot] = Weights::of(cells, &self.head[STAKES..], self.total, &mut self.blocks);
-            }
+    /// The blocks with a fifth of the notar stake, or at least those of them that
+    /// rule D takes: where all others together are too light there is the leading one.
+    fn heavy(&mut self, slot: usize) -> Heavy {
+        let card = self.card(slot);
+        if !card.backs(self.found.notar[slot] - card.weight, self.total) {
+            return Heavy::one(card.leader, card.weight);
         }
-        &self.weights[slot]
+        let is_weighed = self.weighed >> slot & 1 == 1;
+        let all = self.heavy.get_or_insert_with(|| Box::new([Heavy::default(); ROWS]));
+        if !is_weighed {
+            let nodes = self.found.nodes;
+            let cells = &self.rows[slot * row_words(nodes)..][cells_at(nodes)..row_words(nodes)];
+            all[slot] = Heavy::of(cells, &self.head[STAKES..], self.total);
+            self.weighed |= 1 << slot;
+        }
+        all[slot]
     }
 
     // ---- what is held, by votes or kept ----
 
     /// The block of a kept certificate, 0 where none is.
     fn certified(&self, slot: usize, place: usize) -> u64 {
-        certified(self.row(slot), self.nodes, place)
+        certified(self.row(slot), self.found.nodes, place)
     }
 
     fn holds_skip(&self, slot: usize) -> bool {
-        reaches(self.card(slot).skip_certificate, 3, self.total) || self.kept_4 >> slot & 1 == 1
+        reaches(self.card(slot).skip_certificate, 3, self.total) || self.found.kept_4 >> slot & 1 == 1
     }
 
     fn holds_final(&self, slot: usize) -> bool {
-        reaches(self.card(slot).final_votes, 3, self.total) || self.kept_5 >> slot & 1 == 1
+        reaches(self.card(slot).final_votes, 3, self.total) || self.found.kept_5 >> slot & 1 == 1
     }
 
     /// Kind 2 for one block.
@@ -147,9 +153,16 @@ impl<'a, const PLACES: usize> Call<'a, PLACES> {
         {
             return true;
         }
-        self.weights(slot);
-        let cells = &self.rows[slot * row_words(self.nodes)..][cells_at(self.nodes)..row_words(self.nodes)];
-        self.weights[slot].certify(cells, &self.head[STAKES..], self.total)
+        reaches(self.found.naming[slot], 3, self.total) && self.votes_certify_some(slot)
+    }
+
+    /// Whether votes hold kind 3 for some block, where none holds kind 2.
+    fn votes_certify_some(&mut self, slot: usize) -> bool {
+        if self.asked >> slot & 1 == 0 {
+            self.asked |= 1 << slot;
+            self.named |= u32::from(some_behind(self.cells(slot), self.stakes(), self.total)) << slot;
+        }
+        self.named >> slot & 1 == 1
     }
 
     /// Kind 1, or kinds 2 and 5, for one block.
@@ -171,9 +184,13 @@ impl<'a, const PLACES: usize> Call<'a, PLACES> {
     pub fn store(&mut self, kind: u64, node: usize, slot: usize, block: u64) {
         let mut card = self.card(slot);
         card.add(kind, node, block, self.cells(slot), self.stakes());
-        let row = slot * row_words(self.nodes);
+        let row = slot * row_words(self.found.nodes);
         self.rows[row + CARD..row + CARD + CARD_WORDS].copy_from_slice(&card.words());
-        let cell = &mut self.rows[row + cells_at(self.nodes) + node * CELL..][..CELL];
+        let stake = self.head[STAKES + node];
+        let cell = &mut self.rows[row + cells_at(self.found.nodes) + node * CELL..][..CELL];
+        if kind <= 2 && cell[NOTAR] | cell[FALLBACKS.start] == 0 {
+            self.found.naming[slot] += stake;
+        }
         match kind {
             1 => cell[NOTAR] = block,
             2 => *cell[FALLBACKS].iter_mut().find(|place| **place == 0).expect("a free place") = block,
@@ -181,19 +198,24 @@ impl<'a, const PLACES: usize> Call<'a, PLACES> {
             4 => cell[SKIP_FALLBACK] = 1,
             _ => cell[FINAL_VOTE] = 1,
         }
-        self.voted |= 1 << slot;
-        if kind <= 2 {
+        if kind == 1 {
+            self.found.notar[slot] += stake;
             self.weighed &= !(1 << slot);
+        }
+        if kind <= 2 && self.asked & !self.named & 1 << slot != 0 {
+            // No other block has more behind it than before.
+            let weight = behind(block, self.cells(slot), self.stakes());
+            self.named |= u32::from(reaches(weight, 3, self.total)) << slot;
         }
     }
 
     /// The certificate, its block and masks, has that place.
     pub fn keep(&mut self, slot: usize, place: usize, words: &[u64]) {
-        let at = slot * row_words(self.nodes) + CERTIFICATES + place * place_words(self.nodes);
+        let at = slot * row_words(self.found.nodes) + CERTIFICATES + place * place_words(self.found.nodes);
         self.rows[at..at + words.len()].copy_from_slice(words);
         match place {
-            PLACE_OF_4 => self.kept_4 |= 1 << slot,
-            PLACE_OF_5 => self.kept_5 |= 1 << slot,
+            PLACE_OF_4 => self.found.kept_4 |= 1 << slot,
+            PLACE_OF_5 => self.found.kept_5 |= 1 << slot,
             _ => {}
         }
     }
@@ -219,6 +241,49 @@ impl<'a, const PLACES: usize> Call<'a, PLACES> {
     /// From slot 1 again after each rule that applies.
     pub fn settle(&mut self) {
         while (1..=LAST_SLOT).any(|slot| self.apply(slot)) {}
+        self.is_settled = true;
+        self.waiting = (1..=LAST_SLOT).fold(0, |bits, slot| bits | u32::from(self.waits(slot)) << slot);
+    }
+
+    /// Another node's vote, which has a place, and the rules. Where none applied
+    /// before, those of other slots can now only where they wait for a certificate
+    /// that the vote may have made.
+    pub fn take(&mut self, kind: u64, node: usize, slot: usize, block: u64) {
+        let before = self.card(slot);
+        self.store(kind, node, slot, block);
+        let is_heard = self.waiting >> slot > 1 && self.may_certify(kind, slot, block, &before);
+        if !self.is_settled || is_heard || ASKS_EVERY_SLOT.load(Relaxed) || self.apply(slot) {
+            self.settle();
+        } else {
+            self.waiting = self.waiting & !(1 << slot) | u32::from(self.waits(slot)) << slot;
+        }
+    }
+
+    fn may_certify(&self, kind: u64, slot: usize, block: u64, before: &Card) -> bool {
+        let has_skip = |card: &Card| reaches(card.skip_certificate, 3, self.total);
+        match kind {
+            1 | 2 => {
+                let was_held = block == before.leader && before.is_notarized(self.total);
+                reaches(self.found.naming[slot], 3, self.total) && !was_held
+            }
+            3 | 4 => has_skip(&self.card(slot)) && !has_skip(before),
+            _ => false,
+        }
+    }
+
+    /// A and B in a window's first slot, D elsewhere.
+    fn waits(&self, slot: usize) -> bool {
+        let (row, own) = (self.row(slot), self.own_cell(slot));
+        let has_block = row[0] != 0;
+        if is_first(slot) {
+            return !self.is_armed(slot) || (has_block && no_initial(own));
+        }
+        let card = self.card(slot);
+        let backs = |weight| card.backs(weight, self.total);
+        has_block
+            && !no_initial(own)
+            && backs(card.weight)
+            && (card.leader != own[NOTAR] || backs(self.found.notar[slot] - card.weight))
     }
 
     fn apply(&mut self, slot: usize) -> bool {
@@ -302,8 +367,8 @@ impl<'a, const PLACES: usize> Call<'a, PLACES> {
         if !card.backs(card.weight, total) {
             return false;
         }
-        let weights = *self.weights(slot);
-        for &(block, weight) in weights.heavy() {
+        let heavy = self.heavy(slot);
+        for &(block, weight) in heavy.blocks() {
             if block == own[NOTAR]
                 || !card.backs(weight, total)
                 || !(is_first(slot) || self.is_kept_upon_certified(slot, block))
@@ -349,7 +414,7 @@ impl<'a, const PLACES: usize> Call<'a, PLACES> {
             return true;
         }
         reaches(total - card.weight, 2, total)
-            && reaches(card.skip + self.weights(slot).notar - card.weight, 2, total)
+            && reaches(card.skip + self.found.notar[slot] - card.weight, 2, total)
     }
 
     /// F: by votes no other block than the leading one has kind 1 or 2.
@@ -372,7 +437,7 @@ impl<'a, const PLACES: usize> Call<'a, PLACES> {
     }
 
     fn row_word(&mut self, slot: usize, place: usize) -> &mut u64 {
-        &mut self.rows[slot * row_words(self.nodes) + place]
+        &mut self.rows[slot * row_words(self.found.nodes) + place]
     }
 
     /// A block is final: told where the slot has none, and once where it has another.
@@ -390,11 +455,12 @@ impl<'a, const PLACES: usize> Call<'a, PLACES> {
         applies
     }
 
-    /// G.
+    /// G. Where the first step tells nothing, lower slots tell the rest, and they
+    /// were tried before.
     fn walk(&mut self, slot: usize) -> bool {
         let (before, mut slot) = (self.made, slot);
         while let Some((below, parent)) = self.kept(slot, self.row(slot)[FINAL]) {
-            if below == 0 {
+            if below == 0 || self.row(below)[FINAL] == parent && self.made == before {
                 break;
             }
             if self.row(below)[FINAL] != parent {

@@ -3,17 +3,26 @@
 use super::card::Card;
 use super::checker::{judge, Table};
 use super::layout::*;
-use super::weights::{Blocks, Weights};
+use super::weights::{notar_of, Blocks};
 
 /// What the test found on the way.
 #[derive(Clone, Copy)]
 pub struct Found {
     pub nodes: usize,
-    /// Bit s: slot s has votes.
-    pub voted: u32,
     /// Bit s: a certificate of kind 4, or one of kind 5, is kept for slot s.
     pub kept_4: u32,
     pub kept_5: u32,
+    /// Of each slot, the weight of all notar votes and that of the nodes that name
+    /// a block, by notar or notar-fallback.
+    pub notar: [u64; LAST_SLOT + 1],
+    pub naming: [u64; LAST_SLOT + 1],
+}
+
+impl Found {
+    pub fn nothing(nodes: usize) -> Found {
+        let none = [0; LAST_SLOT + 1];
+        Found { nodes, kept_4: 0, kept_5: 0, notar: none, naming: none }
+    }
 }
 
 /// None is 17.
@@ -31,7 +40,7 @@ fn rows_fit<const PLACES: usize>(words: &[u64], nodes: usize) -> Option<Found> {
     if !head_fits(head, nodes) {
         return None;
     }
-    let mut found = Found { nodes, voted: 0, kept_4: 0, kept_5: 0 };
+    let mut found = Found::nothing(nodes);
     let mut blocks = None::<Blocks<PLACES>>;
     for (slot, row) in rows.chunks_exact(row_words(nodes)).enumerate() {
         if is_blank(row) {
@@ -40,8 +49,9 @@ fn rows_fit<const PLACES: usize>(words: &[u64], nodes: usize) -> Option<Found> {
         if slot == 0 {
             return None;
         }
-        let used = row_fits(slot, row, head, &mut blocks)?;
-        found.voted |= 1 << slot;
+        let (used, sums) = row_fits(slot, row, head, &mut blocks)?;
+        found.notar[slot] = sums.notar;
+        found.naming[slot] = sums.naming();
         found.kept_4 |= (used >> PLACE_OF_4 & 1) << slot;
         found.kept_5 |= (used >> PLACE_OF_5 & 1) << slot;
     }
@@ -64,23 +74,19 @@ fn head_fits(head: &[u64], nodes: usize) -> bool {
         && total_of(&head[STAKES..]) == Some(head[TOTAL])
 }
 
-/// The places with certificates, a bit each; None is 17.
+/// The places with certificates, a bit each, and what was summed; None is 17.
 fn row_fits<const PLACES: usize>(
     slot: usize,
     row: &[u64],
     head: &[u64],
     blocks: &mut Option<Blocks<PLACES>>,
-) -> Option<u32> {
+) -> Option<(u32, Sums)> {
     let (row_head, cells) = row.split_at(cells_at(head.len() - STAKES));
     let fits = row_head[TIMED_OUT] <= 1
         && row_head[CLASH] <= 1
-        && blocks_fit(slot, &row_head[..BLOCKS], head[GENESIS])
-        && votes_fit(&Card::of(row_head), cells, head, blocks);
-    if fits {
-        certificates_fit(slot, row_head, head)
-    } else {
-        None
-    }
+        && blocks_fit(slot, &row_head[..BLOCKS], head[GENESIS]);
+    let sums = votes_fit(&Card::of(row_head), cells, head, blocks).filter(|_| fits)?;
+    Some((certificates_fit(slot, row_head, head)?, sums))
 }
 
 /// Each accepted by the checker; those of kind 3 from the front, no block twice.
@@ -142,25 +148,27 @@ fn cell_fits(cell: &Cell) -> bool {
         && (third == 0 || (second != 0 && third != second && third != first))
 }
 
-/// Every cell, the card by a recount, and own fallbacks.
+/// Every cell, the card by a recount, and own fallbacks; None is 17.
 fn votes_fit<const PLACES: usize>(
     card: &Card,
     cells: &[u64],
     head: &[u64],
     blocks: &mut Option<Blocks<PLACES>>,
-) -> bool {
+) -> Option<Sums> {
     let (stakes, total) = (&head[STAKES..], head[TOTAL]);
-    let sums = match sum(cells, stakes, card.leader) {
-        Some(sums) if sums.agree(card) => sums,
-        _ => return false,
+    let sums = sum(cells, stakes, card.leader).filter(|sums| sums.agree(card))?;
+    if !sums.has_majority() {
+        let blocks = blocks.get_or_insert_with(Blocks::new);
+        if blocks.has_rival(cells, stakes, card.leader, card.weight) {
+            return None;
+        }
+    }
+    let backs = |&block: &u64| {
+        let weight = || if block == card.leader { card.weight } else { notar_of(block, cells, stakes) };
+        block == 0 || card.backs(weight(), total)
     };
     let own = cell(&cells[CELL * head[OWN] as usize..][..CELL]);
-    if sums.has_majority() && own[FALLBACKS.start] == 0 {
-        return true;
-    }
-    let weights = Weights::of(cells, stakes, total, blocks.get_or_insert_with(Blocks::new));
-    let backs = |&block: &u64| block == 0 || card.backs(weights.heavy_of(block), total);
-    weights.leader == card.leader && own[FALLBACKS].iter().all(backs)
+    own[FALLBACKS].iter().all(backs).then_some(sums)
 }
 
 /// What the votes of a slot weigh, in one pass; the card's own block is weighed
@@ -172,24 +180,35 @@ struct Sums {
     skip_certificate: u64,
     notar: u64,
     leader: u64,
+    /// Of the nodes that name a block by notar-fallback alone.
+    falling_back: u64,
 }
 
-/// None where a cell is out of range.
+/// None where a cell is out of range. Most have a notar vote, a final, both or
+/// nothing.
 fn sum(cells: &[u64], stakes: &[u64], leader: u64) -> Option<Sums> {
     let mut sums = Sums::default();
     for (words, &stake) in cells.chunks_exact(CELL).zip(stakes) {
         let cell = cell(words);
-        if !cell_fits(cell) {
+        let &[notar, skip, first, second, third, skip_fallback, final_vote] = cell;
+        if skip | first | second | third | skip_fallback != 0 {
+            if !cell_fits(cell) {
+                return None;
+            }
+            // Flags are 0 or 1.
+            sums.skip += stake * skip;
+            sums.skip_certificate += stake * (skip | skip_fallback);
+            sums.falling_back += if notar == 0 && first != 0 { stake } else { 0 };
+        }
+        if final_vote > 1 {
             return None;
         }
-        // Flags are 0 or 1.
-        sums.skip += stake * cell[SKIP];
-        sums.final_votes += stake * cell[FINAL_VOTE];
-        sums.skip_certificate += stake * (cell[SKIP] | cell[SKIP_FALLBACK]);
-        if cell[NOTAR] != 0 {
-            sums.notar += stake;
-            sums.leader += if cell[NOTAR] == leader { stake } else { 0 };
-        }
+        sums.final_votes += stake * final_vote;
+        sums.notar += if notar != 0 { stake } else { 0 };
+        sums.leader += if notar == leader { stake } else { 0 };
+    }
+    if leader == 0 {
+        sums.leader = 0;
     }
     Some(sums)
 }
@@ -205,5 +224,9 @@ impl Sums {
     /// No other block can lead, or there is none.
     fn has_majority(&self) -> bool {
         2 * self.leader > self.notar || self.notar == 0
+    }
+
+    fn naming(&self) -> u64 {
+        self.notar + self.falling_back
     }
 }

@@ -186,6 +186,75 @@ fn answers_as_the_model_does() {
     }
 }
 
+/// The rings of `rings` in small, liars' among them: their votes in trays of any
+/// size and in any order, certificates and timeouts between them.
+#[test]
+fn answers_as_the_model_does_among_liars() {
+    let mut random = Random::new(41);
+    let rings = [
+        "empty",
+        "one",
+        "five",
+        "each",
+        "voted",
+        "random",
+        "bits",
+        "places",
+        "firms",
+        "all",
+        "allbits",
+        "names",
+        "namefirms",
+        "skipped",
+        "thirds",
+        "mixed",
+        "mixedall",
+        "life",
+        "liars",
+    ];
+    let mut told = 0;
+    for _ in 0..3 {
+        for name in rings {
+            let nodes = random.range(4, 14) as usize;
+            let ring = crate::rings::ring(name, nodes).expect("a ring");
+            let stored =
+                ring.stored.iter().map(|&(slot, node, vote)| [vote.kind(), node as u64, slot, vote.block()]);
+            let mut votes: Vec<[u64; 4]> = stored.chain(ring.given.iter().copied()).collect();
+            if random.percent(50) {
+                random.shuffle(&mut votes);
+            }
+            votes.truncate(400);
+            let (mut panel, mut tuned) = (Panel::default(), Tuned::default());
+            let mut both = |line: String| {
+                let wanted = panel.line(line.as_bytes()).map(Answer::lines).expect("an answer");
+                let answer = tuned.line(line.as_bytes()).expect("an answer");
+                assert_eq!([answer], &wanted[..], "{name}, {nodes} nodes: {line}");
+                assert!(sound(&tuned.words).is_some(), "{name}, {nodes} nodes: 17 after {line}");
+                told += usize::from(!wanted[0].starts_with("0 0"));
+            };
+            let stakes: Vec<String> = ring.stakes.iter().map(|stake| stake.to_string()).collect();
+            both(format!("start 0 1 {}", stakes.join(" ")));
+            for slot in 1..=LAST_SLOT as u64 {
+                if ring.has_chain || random.percent(20) {
+                    let parent = if slot == 1 { 1 } else { crate::rings::chained(slot - 1) };
+                    both(format!("block {slot} {} {} {parent}", crate::rings::chained(slot), slot - 1));
+                }
+            }
+            let mut rest = &votes[..];
+            while !rest.is_empty() {
+                let most = random.pick(&[1, 20, 200]).min(rest.len());
+                let numbers: Vec<String> = rest[..most].iter().flatten().map(|n| n.to_string()).collect();
+                both(format!("tray {}", numbers.join(" ")));
+                rest = &rest[most..];
+                if ring.is_late || random.percent(5) {
+                    both(format!("timeout {}", random.range(1, LAST_SLOT as u64)));
+                }
+            }
+        }
+    }
+    assert!(told > 300, "{told} answers with records or refusals");
+}
+
 // ---- 17, once more and plainly ----
 
 /// A record in range, read off the list of what 17 is given for.
@@ -458,6 +527,46 @@ fn no_other_leader_passes() {
         }
     }
     assert!(ties > 50, "{ties} ties");
+}
+
+/// Many blocks, whose numbers are random, equal in their last bits or on one
+/// place of the table: the leader is the plain one, and no other passes.
+#[test]
+fn no_other_leader_passes_among_many() {
+    let mut random = Random::new(411);
+    for round in 0..60 {
+        let nodes = random.pick(&[40, 64, 65, 200]);
+        let mut words = vec![0; record_words(nodes)];
+        let stakes: Vec<u64> = (0..nodes).map(|_| random.range(1, 2)).collect();
+        assert_eq!(start(&mut words, &stakes, 0, 1), 0);
+        let any = |random: &mut Random| match round % 3 {
+            0 => random.next() | 1,
+            1 => random.next() << 24 | 1,
+            _ => on_one_place(random.next()),
+        };
+        let blocks: Vec<u64> = (0..nodes).map(|_| any(&mut random)).collect();
+        let few = random.pick(&[nodes, nodes, nodes / 4]);
+        for node in 1..nodes {
+            store_vote(&mut words, 1, node, 3, random.pick(&blocks[..few]));
+        }
+        assert!(sound(&words).is_some() && plainly_sound(&words));
+        let card = STAKES + nodes + 3 * row_words(nodes) + CARD;
+        let kept = [words[card + 3], words[card + 4]];
+        for _ in 0..20 {
+            let other = random.pick(&blocks);
+            words[card + 3..card + 5].copy_from_slice(&[other, random.range(1, kept[1])]);
+            assert_eq!(sound(&words).is_some(), plainly_sound(&words));
+        }
+        let notar = |block: u64| {
+            let cells = words[card - CARD + cells_at(nodes)..].chunks(CELL).zip(&stakes);
+            cells.filter(|(cell, _)| cell[NOTAR] == block).map(|(_, stake)| stake).sum::<u64>()
+        };
+        let claims: Vec<[u64; 2]> = blocks.iter().map(|&block| [block, notar(block)]).collect();
+        for claim in claims.into_iter().filter(|&claim| claim != kept) {
+            words[card + 3..card + 5].copy_from_slice(&claim);
+            assert!(sound(&words).is_none());
+        }
+    }
 }
 
 #[test]
