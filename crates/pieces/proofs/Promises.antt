@@ -112,7 +112,7 @@ pub end-says : (t : Taken) (ws bs : List ℕ) (r : CheckAnswer) (ws' bs' : List 
     → (r ≡ endAnswer t) × (ws' ≡ wordsOf nothing) × (bs' ≡ bytesOf nothing)
 end-says t ws bs r ws' bs' f e g h = end-one ws bs r (endAnswer t) ws' (wordsOf nothing) bs' (bytesOf nothing) h (rw (e, g) (end-is t f))
 
--- ---- a history
+-- ---- a run of calls
 
 -- What a call that meets its contract says and leaves.
 record Says (t : Taken) (a : Asked) (r : Said) (ws' bs' : List ℕ) : Type 0 where

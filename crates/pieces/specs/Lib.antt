@@ -1,4 +1,4 @@
--- Proofs that arrive in pieces: what the calls answer, the lent state, and what is promised of any history of calls.
+-- Proofs that arrive in pieces: what the calls answer, the lent state, and what is promised of any run of calls.
 pub mod Pieces
 pub mod State
 pub mod Promises

@@ -1,4 +1,4 @@
--- What is promised of proofs in pieces, over the contracts of the code: a history of calls, each known by its contract alone.
+-- What is promised of proofs in pieces, over the contracts of the code: a run of calls, each known by its contract alone.
 use mathlib.Core.Path.{_≡_}
 use mathlib.Core.Bool.{true, false}
 use mathlib.Core.List.{List, [], _∷_, _++_, map}
@@ -21,7 +21,7 @@ use Rattle.pieces.specs.State.{stateWords, frontBytes, PieceOf, EndOf, i
 abbrev pub FrontDecides : Type 0
 FrontDecides = (stakes packet : List ℕ) → checkProof stakes (take frontBytes packet) ≡ checkProof stakes packet
 
--- ---- a history of calls
+-- ---- a run of calls
 
 -- One call of the code: what was asked, what was answered, and the words and bytes of the state afterwards.
 pub record Call : Type 0 where

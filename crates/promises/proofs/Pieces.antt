@@ -232,7 +232,7 @@ face-end-refused ws bs number values missing ws' bs' h =
       zeros = λ n. face-check-refused (nodes ws) (endLeaves ws bs .answer) number values missing (h .checked) n;
     }
 
--- ---- a history of calls of the face
+-- ---- a run of calls of the face
 
 -- What a call gives and leaves on a state that stands for what has been taken.
 record Gives (t : Taken) (a : Asked) (r : Reply) (ws' bs' : List ℕ) : Type 0 where

@@ -1,4 +1,4 @@
--- Proofs in pieces, in the paper's numbers and at the face: what each call shows and leaves, and what a history of calls of the face answers.
+-- Proofs in pieces, in the paper's numbers and at the face: what each call shows and leaves, and what a run of calls of the face answers.
 use mathlib.Core.Path.{_≡_}
 use mathlib.Core.Bool.{true, not, _&&_}
 use mathlib.Core.List.{List, [], _∷_, _++_, map}
@@ -66,7 +66,7 @@ FaceEndRefused =
     (ws bs : List ℕ) (number : ℕ) (values : List ℕ) (missing : ℕ) (ws' bs' : List ℕ) → Ended ws bs number values missing ws' bs'
     → EndLeaves ws bs number values ws' bs'
 
--- ---- a history of calls of the face
+-- ---- a run of calls of the face
 
 -- What a call of the face gives: its number, the values beside it, none beside a piece's, and what is missing beside 15.
 pub record Reply : Type 0 where
