@@ -50,6 +50,8 @@ pub struct Findings {
     pub clash: Option<Clash>,
     /// Firms with two initial votes in a slot among all votes that were ever cast, and the first such slot.
     pub not_clear: Vec<(usize, usize)>,
+    /// An answer to an honest firm that the policy does not allow for.
+    pub odd_answer: Option<String>,
 }
 
 impl Findings {
@@ -73,15 +75,16 @@ pub fn look_through(ring: &Ring) -> Findings {
     let (packets, tried) = acceptable(&ring.agreed, &cast);
     let clash = clash(&ring.agreed, &packets);
     let not_clear = not_clear(ring, &cast);
+    let odd_answer = odd_answer(ring);
     let checks = vec![
         proofs(ring, spoil == Some(1)),
         packets_agree(ring, tried, &clash),
         one_chain(ring, spoil == Some(3)),
-        progress(ring, &decided),
+        progress(ring, &decided, &odd_answer),
         watchers(ring, spoil == Some(5)),
         named(ring, &clash, &not_clear),
     ];
-    Findings { checks, outcomes, packets, clash, not_clear }
+    Findings { checks, outcomes, packets, clash, not_clear, odd_answer }
 }
 
 fn check(promise: &'static str, (tried, unit): (u64, &'static str), is_promised: bool, broken: Option<String>) -> Check {
@@ -238,13 +241,13 @@ fn outcomes(ring: &Ring, decided: &[Decision]) -> [Outcome; SLOTS + 1] {
 
 /// 4. Every slot is decided at every honest firm, alike; blocks of correct leaders that nobody timed out are final; and no honest
 /// firm was answered a number that the policy does not allow for. Firms that stopped for good count with the liars.
-fn progress(ring: &Ring, decided: &[Decision]) -> Check {
+fn progress(ring: &Ring, decided: &[Decision], odd_answer: &Option<String>) -> Check {
     let lame = ring.lying_weight() + ring.weight(ring.honest().filter(|&firm| ring.stopped[firm]));
     let is_promised = !ring.agreed.reaches(1, lame) && ring.is_promised();
     let standing = ring.standing().count() as u64;
     let undecided = decided.iter().position(|slot| slot.block.is_none() && !slot.skip);
     let broken = undecided.map(|slot| format!("slot {} is not decided alike at every honest firm", slot + 1));
-    let broken = broken.or_else(|| left_open(ring)).or_else(|| odd_answer(ring));
+    let broken = broken.or_else(|| left_open(ring)).or_else(|| odd_answer.clone());
     let tried = if is_promised || broken.is_some() { standing * SLOTS as u64 } else { 0 };
     let promise = "Every slot decided at every honest firm";
     check(promise, (tried, "slots"), is_promised, broken)

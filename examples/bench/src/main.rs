@@ -32,7 +32,7 @@ const REFUSED: u8 = 2;
 
 fn main() -> ExitCode {
     let words: Vec<String> = std::env::args().skip(1).collect();
-    let done = options::parse(&words).and_then(|command| match command {
+    let done = same_version().and_then(|()| options::parse(&words)).and_then(|command| match command {
         Command::Help => say(USAGE).map(|()| true),
         Command::Run { options, page } => run(&options, page.as_deref()),
         Command::Soak { options, runs } => soak::soak(&options, runs),
@@ -46,6 +46,15 @@ fn main() -> ExitCode {
             ExitCode::from(REFUSED)
         }
     }
+}
+
+/// A host compares the library's version with its header's before all else.
+fn same_version() -> Result<(), String> {
+    let (linked, wanted) = (quointrowel::version(), quointrowel::VERSION);
+    if linked == wanted {
+        return Ok(());
+    }
+    Err(format!("the library is of version {linked}, and this program is for version {wanted}"))
 }
 
 /// Writes to standard output, whole or with an error.

@@ -257,7 +257,7 @@ fn number_cell(number: u64) -> String {
 fn mail_and_calls(ring: &Ring, findings: &Findings) -> String {
     let mut all = Count::default();
     ring.mail.iter().for_each(|&count| all.add(count));
-    let odd = matches!(&findings.checks[3].verdict, Verdict::Broken(why) if why.contains("answered"));
+    let odd = findings.odd_answer.is_some();
     let end = if odd {
         "an honest firm was answered a number that the policy does not allow for"
     } else {

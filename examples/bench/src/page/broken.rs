@@ -50,6 +50,9 @@ fn sentence(clash: &Clash) -> String {
 
 fn text(ring: &Ring, clash: &Clash, both: &[usize]) -> String {
     let mut text = "<p>The firms side by side, ordered by what they signed; hatched: lying. Two certificates of 60 percent overlap in a fifth of the stake or more.</p>".to_string();
+    if clash.proof.len() == 2 {
+        text.push_str("<p>The second row of a proof is its final certificate. Final votes name no block, so that an honest firm may stand in both of those.</p>");
+    }
     if both.len() <= 64 {
         let _ = write!(text, "<p>Signed both: {} {}.</p>", plural(both.len(), "firm"), listed(both));
     }
