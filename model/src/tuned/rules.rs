@@ -33,8 +33,9 @@ pub struct Call<'a> {
     heavy: Option<Box<[Heavy; ROWS]>>,
     /// No rule applied when they were last tried.
     is_settled: bool,
-    /// Bit s: a rule of slot s waits for a certificate of a lower slot.
-    waiting: u32,
+    /// Bit s: a rule of slot s waits for a certificate of a lower slot; None where
+    /// that was not asked since they were last tried.
+    waiting: Option<u32>,
 }
 
 impl<'a> Call<'a> {
@@ -54,7 +55,7 @@ impl<'a> Call<'a> {
             weighed: 0,
             heavy: None,
             is_settled: false,
-            waiting: 0,
+            waiting: None,
         }
     }
 
@@ -242,20 +243,28 @@ impl<'a> Call<'a> {
     pub fn settle(&mut self) {
         while (1..=LAST_SLOT).any(|slot| self.apply(slot)) {}
         self.is_settled = true;
-        self.waiting = (1..=LAST_SLOT).fold(0, |bits, slot| bits | u32::from(self.waits(slot)) << slot);
+        self.waiting = None;
+    }
+
+    fn all_waiting(&self) -> u32 {
+        (1..=LAST_SLOT).fold(0, |bits, slot| bits | u32::from(self.waits(slot)) << slot)
     }
 
     /// Another node's vote, which has a place, and the rules. Where none applied
     /// before, those of other slots can now only where they wait for a certificate
     /// that the vote may have made.
     pub fn take(&mut self, kind: u64, node: usize, slot: usize, block: u64) {
+        if !self.is_settled || ASKS_EVERY_SLOT.load(Relaxed) {
+            self.store(kind, node, slot, block);
+            return self.settle();
+        }
         let before = self.card(slot);
+        let waiting = self.waiting.unwrap_or_else(|| self.all_waiting());
         self.store(kind, node, slot, block);
-        let is_heard = self.waiting >> slot > 1 && self.may_certify(kind, slot, block, &before);
-        if !self.is_settled || is_heard || ASKS_EVERY_SLOT.load(Relaxed) || self.apply(slot) {
+        if waiting >> slot > 1 && self.may_certify(kind, slot, block, &before) || self.apply(slot) {
             self.settle();
         } else {
-            self.waiting = self.waiting & !(1 << slot) | u32::from(self.waits(slot)) << slot;
+            self.waiting = Some(waiting & !(1 << slot) | u32::from(self.waits(slot)) << slot);
         }
     }
 

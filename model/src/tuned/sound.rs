@@ -184,31 +184,33 @@ struct Sums {
     falling_back: u64,
 }
 
-/// None where a cell is out of range. Most have a notar vote, a final, both or
-/// nothing.
+/// None where a cell is out of range. Most have no skip, no skip-fallback and no
+/// third fallback.
 fn sum(cells: &[u64], stakes: &[u64], leader: u64) -> Option<Sums> {
     let mut sums = Sums::default();
     for (words, &stake) in cells.chunks_exact(CELL).zip(stakes) {
         let cell = cell(words);
         let &[notar, skip, first, second, third, skip_fallback, final_vote] = cell;
-        if skip | first | second | third | skip_fallback != 0 {
+        if skip | third | skip_fallback != 0 {
             if !cell_fits(cell) {
                 return None;
             }
             // Flags are 0 or 1.
             sums.skip += stake * skip;
             sums.skip_certificate += stake * (skip | skip_fallback);
-            sums.falling_back += if notar == 0 && first != 0 { stake } else { 0 };
+        } else if second != 0 && (first == 0 || second == first) {
+            return None;
         }
         if final_vote > 1 {
             return None;
         }
         sums.final_votes += stake * final_vote;
-        sums.notar += if notar != 0 { stake } else { 0 };
-        sums.leader += if notar == leader { stake } else { 0 };
-    }
-    if leader == 0 {
-        sums.leader = 0;
+        if notar != 0 {
+            sums.notar += stake;
+            sums.leader += if notar == leader { stake } else { 0 };
+        } else if first != 0 {
+            sums.falling_back += stake;
+        }
     }
     Some(sums)
 }

@@ -252,7 +252,7 @@ fn answers_as_the_model_does_among_liars() {
             }
         }
     }
-    assert!(told > 300, "{told} answers with records or refusals");
+    assert!(told > 200, "{told} answers with records or refusals");
 }
 
 // ---- 17, once more and plainly ----
