@@ -177,11 +177,12 @@ writers =
     ((0 ∷ 3 ∷ 2 ∷ 7 ∷ 0 ∷ 2 ∷ []) ∷ (0 ∷ 3 ∷ 2 ∷ 7 ∷ 3 ∷ 0 ∷ []) ∷ (0 ∷ 3 ∷ 2 ∷ 7 ∷ 6 ∷ 0 ∷ []) ∷ (0 ∷ 2 ∷ 2 ∷ 7 ∷ 3 ∷ 0 ∷ []) ∷ (0 ∷ 2 ∷ 2 ∷ 7 ∷ 6 ∷ 0 ∷ [])
     ∷ (0 ∷ 1 ∷ 2 ∷ 7 ∷ 6 ∷ 0 ∷ []) ∷ (0 ∷ 3 ∷ 2 ∷ 7 ∷ 2 ∷ 0 ∷ []) ∷ (0 ∷ 2 ∷ 2 ∷ 7 ∷ 2 ∷ 0 ∷ []) ∷ (0 ∷ 4 ∷ 2 ∷ 0 ∷ 0 ∷ 2 ∷ []) ∷ (0 ∷ 5 ∷ 2 ∷ 0 ∷ 2 ∷ 0 ∷ []) ∷ [])
 
--- Two blocks with a certificate of kind 3: each is written with its own masks.
+-- Two blocks with a certificate of kind 3: each is written with its own masks, whichever came first.
 abbrev twoKept : Bool
 twoKept =
     let both : List Arrival = packet 3 2 8 0 2 ∷ packet 3 2 7 6 1 ∷ [] in
-    equals (writes both 3 7 ∷ writes both 3 8 ∷ writes both 3 9 ∷ []) ((0 ∷ 3 ∷ 2 ∷ 7 ∷ 6 ∷ 1 ∷ []) ∷ (0 ∷ 3 ∷ 2 ∷ 8 ∷ 0 ∷ 2 ∷ []) ∷ (18 ∷ []) ∷ [])
+    equals (writes both 3 7 ∷ writes both 3 8 ∷ writes both 3 9 ∷ writes (packet 3 2 7 6 1 ∷ packet 3 2 8 0 2 ∷ []) 3 8 ∷ [])
+    ((0 ∷ 3 ∷ 2 ∷ 7 ∷ 6 ∷ 1 ∷ []) ∷ (0 ∷ 3 ∷ 2 ∷ 8 ∷ 0 ∷ 2 ∷ []) ∷ (18 ∷ []) ∷ (0 ∷ 3 ∷ 2 ∷ 8 ∷ 0 ∷ 2 ∷ []) ∷ [])
 
 -- 18 where none serves: a higher kind, another block, another slot. A proof by votes for kind 2 and a kept 5, by a kept 2 and stored finals,
 -- and by a kept 1 before both.

@@ -155,10 +155,10 @@ parents =
     && all (not (ready l 1 1 7) ∷ not (ready l 1 2 7) ∷ [])
 
 -- A parent is ready where it was certified, by notar votes or fallbacks: not by final votes, nor in the slot above, nor where its number
--- names a slot or its slot a number. Block 7 in slot 1, 2 in slot 4 and 4 in slot 5; finals in slot 2.
+-- names a slot or its slot a number. Block 7 in slot 1, 2 in slot 4 and 4 in slot 5; both nodes' finals in slot 2.
 abbrev parentsApart : Bool
 parentsApart =
-    let l = stored (ring (4 ∷ 6 ∷ []) []) (vote 1 1 1 7 ∷ vote 5 1 2 0 ∷ vote 1 1 4 2 ∷ vote 1 1 5 4 ∷ []) in
+    let l = stored (ring (4 ∷ 6 ∷ []) []) (vote 1 1 1 7 ∷ vote 5 0 2 0 ∷ vote 5 1 2 0 ∷ vote 1 1 4 2 ∷ vote 1 1 5 4 ∷ []) in
     all (ready l 2 1 7 ∷ not (ready l 3 2 7) ∷ not (ready l 3 2 4) ∷ ready l 5 4 2 ∷ ready l 6 5 4 ∷ [])
 
 -- Off a window's first slot the parent stands in the slot before, and the own vote there is for it; equal numbers in several slots are

@@ -113,18 +113,20 @@ pub fn definition(
     Ok(Compiled { clauses: arms.collect::<Result<_, _>>()? })
 }
 
-/// A closed expression, and how many places it needs.
-pub fn closed(
+/// An expression over some values, which stand first in its frame, and how many places it needs.
+pub fn over(
     program: &Program,
     names: &mut Names,
     file: usize,
+    values: &[String],
     expr: &Expr,
 ) -> Result<(Code, usize), String> {
+    let bound = values.iter().enumerate().map(|(i, name)| (name.clone(), i)).collect();
     let mut maker = Maker {
         program,
         names,
         file,
-        frames: vec![Frame { bound: Vec::new(), slots: 0, captures: Vec::new() }],
+        frames: vec![Frame { bound, slots: values.len(), captures: Vec::new() }],
     };
     let code = maker.code(expr)?;
     Ok((code, maker.frames[0].slots))

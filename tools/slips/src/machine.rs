@@ -23,6 +23,14 @@ const DEEPEST: usize = 60_000;
 /// No list that a definition makes is longer.
 const LONGEST: u64 = 1 << 20;
 
+/// A definition's value at some arguments, by what a case says in front of its test.
+#[derive(Clone)]
+pub struct Given {
+    pub of: usize,
+    pub args: Vec<Value>,
+    pub value: Value,
+}
+
 pub struct Machine<'a> {
     program: &'a Program,
     names: Names,
@@ -32,6 +40,7 @@ pub struct Machine<'a> {
     depth: usize,
     pub steps: u64,
     pub limit: u64,
+    given: Vec<Given>,
     /// The places that a run came to, where they are wanted.
     pub reached: Option<Vec<bool>>,
 }
@@ -47,12 +56,13 @@ impl<'a> Machine<'a> {
             depth: 0,
             steps: 0,
             limit: u64::MAX,
+            given: Vec::new(),
             reached: None,
         }
     }
 
-    pub fn prepare(&mut self, file: usize, expr: &Expr) -> Result<(Code, usize), String> {
-        code::closed(self.program, &mut self.names, file, expr)
+    pub fn prepare(&mut self, file: usize, values: &[String], expr: &Expr) -> Result<(Code, usize), String> {
+        code::over(self.program, &mut self.names, file, values, expr)
     }
 
     /// Other clauses for a definition, until it is put back.
@@ -67,17 +77,34 @@ impl<'a> Machine<'a> {
         self.compiled[definition] = None;
     }
 
-    /// The truth of a test, computed from nothing.
-    pub fn test(&mut self, code: &Code, slots: usize) -> Run<bool> {
-        self.constants.iter_mut().for_each(|constant| *constant = None);
-        self.stack.clear();
-        self.stack.resize(slots, Value::Unit);
-        self.depth = 0;
-        self.steps = 0;
-        match self.eval(code, 0)? {
+    /// The truth of a test over some values, computed from nothing, where definitions have the values that are given.
+    pub fn test(&mut self, code: &Code, slots: usize, values: &[Value], given: &[Given]) -> Run<bool> {
+        self.given = given.to_vec();
+        match self.value(code, slots, values)? {
             Value::Bool(holds) => Ok(holds),
             _ => fault("a test is no Bool"),
         }
+    }
+
+    pub fn value(&mut self, code: &Code, slots: usize, values: &[Value]) -> Run<Value> {
+        self.constants.iter_mut().for_each(|constant| *constant = None);
+        self.stack.clear();
+        self.stack.extend_from_slice(values);
+        self.stack.resize(slots, Value::Unit);
+        self.depth = 0;
+        self.steps = 0;
+        self.eval(code, 0)
+    }
+
+    /// What is given of a definition at the arguments that stand on the stack from a place on.
+    fn given(&self, definition: usize, base: usize) -> Option<Value> {
+        let at = |given: &&Given| {
+            let args = &self.stack[base..];
+            given.of == definition
+                && args.len() == given.args.len()
+                && args.iter().zip(&given.args).all(|(one, two)| one.same(two) == Some(true))
+        };
+        self.given.iter().find(at).map(|given| given.value.clone())
     }
 
     fn definition(&mut self, definition: usize) -> Run<Rc<Compiled>> {
@@ -106,6 +133,10 @@ impl<'a> Machine<'a> {
                 for arg in args {
                     let value = self.eval(arg, base)?;
                     self.stack.push(value);
+                }
+                if let Some(value) = self.given(*definition, callee) {
+                    self.stack.truncate(callee);
+                    return Ok(value);
                 }
                 self.enter(&compiled, callee)
             }
@@ -242,7 +273,13 @@ impl<'a> Machine<'a> {
             Callee::Entity(Entity::Definition(definition)) => {
                 let compiled = self.definition(*definition)?;
                 self.stack.extend(function.given.iter().cloned().chain(args));
-                self.enter(&compiled, base)?
+                match self.given(*definition, base) {
+                    Some(value) => {
+                        self.stack.truncate(base);
+                        value
+                    }
+                    None => self.enter(&compiled, base)?,
+                }
             }
             Callee::Entity(Entity::Constructor(constructor)) => {
                 Value::constructed(*constructor, function.given.iter().cloned().chain(args).collect())

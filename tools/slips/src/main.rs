@@ -185,6 +185,10 @@ fn compare(program: &Program, task: &Task) -> Result<bool, String> {
                 count.explained += 1;
                 None
             }
+            Outcome::Unnoticed(0) if explained.entries.contains_key(&whole(key)) => {
+                count.explained += 1;
+                None
+            }
             Outcome::Unnoticed(touched) => Some(format!("unnoticed, {touched} tests come to it")),
             Outcome::Fault(why) => Some(format!("cannot be computed: {why}")),
         };
@@ -207,9 +211,15 @@ fn compare(program: &Program, task: &Task) -> Result<bool, String> {
     Ok(sound && wrong == 0)
 }
 
+/// `*` in place of a slip's text: those of the definition that no test comes to.
+fn whole(key: &Key) -> Key {
+    (key.0.clone(), key.1.clone(), "*".to_string())
+}
+
 /// Entries that explain no slip, or explain nothing.
 fn stale(explained: &Explained, known: &[Known]) -> usize {
-    let keys: HashSet<&Key> = known.iter().map(|known| &known.key).collect();
+    let mut keys: HashSet<Key> = known.iter().map(|known| known.key.clone()).collect();
+    keys.extend(known.iter().map(|known| whole(&known.key)));
     let mut wrong = explained.twice.len();
     explained.twice.iter().for_each(|line| println!("line {line} of explained: it stands there twice"));
     for (key, (line, reason)) in &explained.entries {

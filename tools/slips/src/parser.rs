@@ -2,7 +2,7 @@
 
 use crate::lexer::{tokens, Kind, Token};
 use crate::number::Number;
-use crate::syntax::{Clause, Expr, Form, Import, Item, Pattern, Signature, Type};
+use crate::syntax::{Case, Clause, Expr, Form, Import, Item, Pattern, Signature, Type};
 
 /// An operator's strength, and whether it groups to the right.
 pub fn fixity(operator: &str) -> Option<(u32, bool)> {
@@ -196,17 +196,8 @@ impl<'a> Parser<'a> {
     fn signature(&mut self) -> Parsed<Item> {
         let name = self.name()?;
         self.expect(":")?;
-        if self.sees("T") {
-            let from = self.at + 1;
-            let mut part = Parser { tokens: self.tokens, at: from };
-            if let Ok(test) = part.atom() {
-                if part.ended().is_ok() {
-                    return Ok(Item::Case { name, test });
-                }
-            }
-        }
-        if let Some(test) = self.equation() {
-            return Ok(Item::Case { name, test });
+        if let Some(case) = self.case() {
+            return Ok(Item::Case { name, case });
         }
         let mut variables = Vec::new();
         let ty = self.signature_type(&mut variables).unwrap_or(Type::Other);
@@ -214,12 +205,25 @@ impl<'a> Parser<'a> {
         Ok(Item::Signature { name, signature: Signature { variables, ty } })
     }
 
-    /// `one ≡ other` of closed terms, which a case may ask for too.
-    fn equation(&self) -> Option<Expr> {
+    fn case(&self) -> Option<Case> {
         let mut part = Parser { tokens: self.tokens, at: self.at };
-        let test = part.expr(0).ok().filter(|_| part.ended().is_ok())?;
-        let equation = matches!(&test.form, Form::Apply { head, infix: true, .. } if matches!(&head.form, Form::Name(name) if name == "≡"));
-        equation.then_some(test)
+        let (mut values, mut given) = (Vec::new(), Vec::new());
+        while let Some((names, ty)) = part.binder().ok()? {
+            values.extend(names.into_iter().map(|name| (name, ty.clone())));
+            part.takes("→");
+        }
+        loop {
+            let is_test = part.takes("T");
+            let test = if is_test { part.atom() } else { part.expr(0) }.ok()?;
+            if !is_test && !is_equation(&test) {
+                return None;
+            }
+            if part.ended().is_ok() {
+                return Some(Case { values, given, test });
+            }
+            given.push(test);
+            part.expect("→").ok()?;
+        }
     }
 
     fn clause(&mut self) -> Parsed<Item> {
@@ -449,6 +453,11 @@ impl<'a> Parser<'a> {
         }
         Ok(Form::Record(fields))
     }
+}
+
+/// `one ≡ other`.
+pub fn is_equation(expr: &Expr) -> bool {
+    matches!(&expr.form, Form::Apply { head, infix: true, .. } if matches!(&head.form, Form::Name(name) if name == "≡"))
 }
 
 fn applied(head: Expr, args: &mut Vec<Expr>, start: usize, end: usize) -> Expr {

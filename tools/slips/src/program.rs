@@ -2,7 +2,7 @@
 
 use crate::lexer;
 use crate::parser;
-use crate::syntax::{Clause, Expr, Form, Import, Item, Signature, Type};
+use crate::syntax::{Case, Clause, Expr, Form, Import, Item, Signature, Type};
 use std::collections::{BTreeMap, HashMap};
 use std::fs;
 use std::path::Path;
@@ -62,10 +62,10 @@ pub struct Declared {
     pub file: Option<usize>,
 }
 
-pub struct Case {
+pub struct Named {
     pub file: usize,
     pub name: String,
-    pub test: Expr,
+    pub case: Case,
 }
 
 pub struct Program {
@@ -73,7 +73,7 @@ pub struct Program {
     pub definitions: Vec<Definition>,
     pub constructors: Vec<Constructor>,
     pub types: Vec<Declared>,
-    pub cases: Vec<Case>,
+    pub cases: Vec<Named>,
     /// How many places there are, counted from 1.
     pub places: usize,
     modules: HashMap<String, usize>,
@@ -288,9 +288,10 @@ impl Program {
                 self.files[file].own.insert(name, Entity::Definition(self.definitions.len()));
                 self.definitions.push(definition);
             }
-            Item::Case { name, mut test } => {
-                self.number(&mut test);
-                self.cases.push(Case { file, name, test });
+            Item::Case { name, mut case } => {
+                case.given.iter_mut().for_each(|given| self.number(given));
+                self.number(&mut case.test);
+                self.cases.push(Named { file, name, case });
             }
             Item::Clause { name, mut clause } => {
                 self.number(&mut clause.body);

@@ -82,30 +82,23 @@ pub struct Import {
     pub again: bool,
 }
 
+/// `name : T (..)` or `name : one ≡ other`, a test that is to hold; of any values that are named in front of it and of which a definition
+/// has the value that is said.
+#[derive(Clone, Debug)]
+pub struct Case {
+    pub values: Vec<(String, Type)>,
+    pub given: Vec<Expr>,
+    pub test: Expr,
+}
+
 #[derive(Clone, Debug)]
 pub enum Item {
     Import(Import),
-    Record {
-        name: String,
-        fields: Vec<(String, Type)>,
-    },
-    Data {
-        name: String,
-        constructors: Vec<(String, Type)>,
-    },
-    Signature {
-        name: String,
-        signature: Signature,
-    },
-    /// `name : T (..)` or `name : one ≡ other`, a test that is to hold.
-    Case {
-        name: String,
-        test: Expr,
-    },
-    Clause {
-        name: String,
-        clause: Clause,
-    },
+    Record { name: String, fields: Vec<(String, Type)> },
+    Data { name: String, constructors: Vec<(String, Type)> },
+    Signature { name: String, signature: Signature },
+    Case { name: String, case: Case },
+    Clause { name: String, clause: Clause },
     Unfolding,
     Nothing,
 }

@@ -21,7 +21,7 @@ pub struct Pair {
 ";
 
 const RULES: &str = "-- Rules.
-use mathlib.Core.Bool.{Bool, true, false, _&&_}
+use mathlib.Core.Bool.{Bool, true, false, not, _&&_}
 use mathlib.Core.List.{List, [], _∷_, _++_}
 use Prim.Native.Nat.{ℕ, zero, suc, _+_, _-_, _*_, _^_}
 use lib.Dec.{leb}
@@ -44,6 +44,9 @@ number kind.High = 9
 abbrev pub shut : Pair
 shut = record { left = 2; right = 4; fits = true }
 
+unfoldable pub outside : Pair → ℕ → Bool
+outside p n = not (within p n)
+
 -- Nobody asks for it.
 abbrev pub lonely : ℕ
 lonely = 7
@@ -56,7 +59,7 @@ use mathlib.Core.Path.{_≡_}
 use Prim.Native.Nat.{ℕ, _+_, _-_, _*_, _^_, _/_, _%_}
 use lib.Dec.{T, eqb}
 use Rattle.small.specs.declared.Kind.the-variants as kind
-use Rattle.small.specs.Rules.{sumTo, within, number, shut}
+use Rattle.small.specs.Rules.{sumTo, within, outside, number, shut}
 
 abbrev all : List Bool → Bool
 all [] = true
@@ -76,6 +79,10 @@ cases = tt
 
 joined : 1 ∷ 2 ∷ [] ++ (3 ∷ []) ≡ 1 ∷ 2 ∷ 3 ∷ []
 joined = refl
+
+said : (p : Pair) → within p 5 ≡ true → T (not (outside p 5))
+unfolding outside
+said p holds = rw holds tt
 ";
 
 /// The repository in a folder of its own, with a part of its cases exchanged.
@@ -106,7 +113,7 @@ fn unnoticed(program: &Program, name: &str) -> (Vec<String>, usize) {
 fn cases_are_computed() {
     let program = small("whole", "", "");
     let trial = Trial::new(&program);
-    assert_eq!((program.cases.len(), trial.parts.len(), trial.troubles.len()), (2, 5, 0));
+    assert_eq!((program.cases.len(), trial.parts.len(), trial.troubles.len()), (3, 6, 0));
 }
 
 #[test]
@@ -118,7 +125,7 @@ fn a_wrong_case_is_told() {
     ] {
         let program = small(name, old, new);
         let trial = Trial::new(&program);
-        assert_eq!((trial.parts.len(), trial.troubles.len()), (4, 1), "{name}");
+        assert_eq!((trial.parts.len(), trial.troubles.len()), (5, 1), "{name}");
     }
 }
 
@@ -133,6 +140,9 @@ fn slips_are_noticed() {
         (vec!["number kind.High = [9 => 10]".to_string(), "number kind.High = [9 => 8]".to_string()], 2)
     );
     assert_eq!(unnoticed(&program, "lonely").0.len(), 2);
+    // By a case that is said of any pair.
+    let (texts, of) = unnoticed(&program, "outside");
+    assert_eq!((texts, of), (Vec::<String>::new(), 1));
 }
 
 #[test]

@@ -1,16 +1,20 @@
 //! Computed cases, and slips tried against them.
 
 use crate::code::Code;
-use crate::machine::{Machine, Stop};
-use crate::program::{Entity, Program};
+use crate::machine::{Given, Machine, Stop};
+use crate::number::Number;
+use crate::program::{Entity, Named, Program};
 use crate::slips::Slip;
-use crate::syntax::{Clause, Expr, Form};
+use crate::syntax::{Clause, Expr, Form, Type};
+use crate::value::Value;
 
 /// One test of a case: a case that asks for all of a list has as many.
 pub struct Part {
     pub name: String,
     code: Code,
     slots: usize,
+    values: Vec<Value>,
+    given: Vec<Given>,
     steps: u64,
     /// The places that its run comes to.
     reached: Vec<bool>,
@@ -48,43 +52,75 @@ impl<'a> Trial<'a> {
         let machine = Machine::new(program);
         let noticed_by = program.definitions.iter().map(|_| Vec::new()).collect();
         let mut trial = Trial { program, machine, parts: Vec::new(), troubles: Vec::new(), noticed_by };
-        for case in &program.cases {
-            let tests = parts(program, case.file, &case.test);
+        for named in &program.cases {
+            let tests = parts(program, named.file, &named.case.test);
             let many = tests.len() > 1;
             for test in tests {
-                let path = &program.files[case.file].path;
-                let text = &program.files[case.file].text[test.span.clone()];
+                let path = &program.files[named.file].path;
+                let text = &program.files[named.file].text[test.span.clone()];
                 let short: String =
                     text.split_whitespace().collect::<Vec<_>>().join(" ").chars().take(40).collect();
                 let name = if many {
-                    format!("{path} {}: {short}", case.name)
+                    format!("{path} {}: {short}", named.name)
                 } else {
-                    format!("{path} {}", case.name)
+                    format!("{path} {}", named.name)
                 };
-                trial.add(case.file, name, test);
+                if let Err(why) = trial.add(named, name.clone(), test) {
+                    trial.troubles.push(Trouble { part: name, why });
+                }
             }
         }
         trial.parts.sort_by_key(|part| part.steps);
         trial
     }
 
-    fn add(&mut self, file: usize, name: String, test: &Expr) {
-        let (code, slots) = match self.machine.prepare(file, test) {
-            Ok(prepared) => prepared,
-            Err(why) => return self.troubles.push(Trouble { part: name, why }),
-        };
+    fn add(&mut self, named: &Named, name: String, test: &Expr) -> Result<(), String> {
+        let names: Vec<String> = named.case.values.iter().map(|(name, _)| name.clone()).collect();
+        let values: Vec<Value> =
+            named.case.values.iter().enumerate().map(|(i, (_, ty))| any(i, ty)).collect();
+        let given = named.case.given.iter().map(|given| self.given(named.file, &names, &values, given));
+        let given = given.collect::<Result<Vec<Given>, String>>()?;
+        let (code, slots) = self.machine.prepare(named.file, &names, test)?;
         self.machine.limit = u64::MAX;
         self.machine.reached = Some(vec![false; self.program.places]);
-        let outcome = self.machine.test(&code, slots);
+        let outcome = self.machine.test(&code, slots, &values, &given);
         let reached = self.machine.reached.take().unwrap_or_default();
         match outcome {
-            Ok(true) => self.parts.push(Part { name, code, slots, steps: self.machine.steps, reached }),
-            Ok(false) => self.troubles.push(Trouble { part: name, why: "it does not hold".to_string() }),
-            Err(Stop::TooLong) => {
-                self.troubles.push(Trouble { part: name, why: "it takes too long".to_string() })
+            Ok(true) => {
+                self.parts.push(Part { name, code, slots, values, given, steps: self.machine.steps, reached })
             }
-            Err(Stop::Fault(why)) => self.troubles.push(Trouble { part: name, why }),
+            Ok(false) => return Err("it does not hold".to_string()),
+            Err(Stop::TooLong) => return Err("it takes too long".to_string()),
+            Err(Stop::Fault(why)) => return Err(why),
         }
+        Ok(())
+    }
+
+    /// `f x y ≡ value` in front of a test, where x and y are among its values.
+    fn given(
+        &mut self,
+        file: usize,
+        names: &[String],
+        values: &[Value],
+        expr: &Expr,
+    ) -> Result<Given, String> {
+        let Form::Apply { args: sides, .. } = &expr.form else {
+            return Err("no equation is given".to_string());
+        };
+        let Form::Apply { head, args, .. } = &sides[0].form else {
+            return Err("no call is given".to_string());
+        };
+        let of = match &head.form {
+            Form::Name(name) => self.program.named(file, name),
+            _ => None,
+        };
+        let Some(Entity::Definition(of)) = of else { return Err("no definition is given".to_string()) };
+        let mut computed = |expr: &Expr| {
+            let (code, slots) = self.machine.prepare(file, names, expr)?;
+            self.machine.value(&code, slots, values).map_err(|why| format!("{why:?}"))
+        };
+        let args = args.iter().map(&mut computed).collect::<Result<_, _>>()?;
+        Ok(Given { of, args, value: computed(&sides[1])? })
     }
 
     /// The slip against the parts that come to its place.
@@ -111,18 +147,28 @@ impl<'a> Trial<'a> {
             }
             touched += 1;
             self.machine.limit = 50 * part.steps + 100_000;
-            match self.machine.test(&part.code, part.slots) {
-                Ok(true) => {}
-                Ok(false) | Err(Stop::TooLong) => {
-                    let known = &mut self.noticed_by[slip.definition];
-                    known.retain(|part| *part != at);
-                    known.insert(0, at);
-                    return Outcome::Noticed(at);
-                }
-                Err(Stop::Fault(why)) => return Outcome::Fault(why),
+            let outcome = self.machine.test(&part.code, part.slots, &part.values, &part.given);
+            // What a case does not give cannot be looked at: then it does not compute.
+            let beyond = !part.values.is_empty() && matches!(outcome, Err(Stop::Fault(_)));
+            match outcome {
+                Ok(true) => continue,
+                Err(Stop::Fault(why)) if !beyond => return Outcome::Fault(why),
+                _ => {}
             }
+            let known = &mut self.noticed_by[slip.definition];
+            known.retain(|part| *part != at);
+            known.insert(0, at);
+            return Outcome::Noticed(at);
         }
         Outcome::Unnoticed(touched)
+    }
+}
+
+/// A value for a case that is said of any: a number of its own, and of other types one of which nothing is known.
+fn any(i: usize, ty: &Type) -> Value {
+    match ty {
+        Type::Name(name, _) if name == "ℕ" => Value::Number(Number::Small(1_000_003 + i as u64)),
+        _ => Value::Any(i),
     }
 }
 

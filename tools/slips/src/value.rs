@@ -16,6 +16,8 @@ pub enum Value {
     /// Its values in the order of its shape's fields.
     Record(usize, Rc<Vec<Value>>),
     Function(Rc<Function>),
+    /// Any value: nothing is known of it but that it is this one.
+    Any(usize),
 }
 
 pub struct Function {
@@ -59,7 +61,7 @@ impl Value {
 
     /// None where a function is among what is compared.
     pub fn same(&self, other: &Value) -> Option<bool> {
-        use Value::{Bool, Cons, Constructed, Function, Nil, Number, Record, Unit};
+        use Value::{Any, Bool, Cons, Constructed, Function, Nil, Number, Record, Unit};
         let all = |one: &[Value], two: &[Value]| {
             one.iter().zip(two).try_fold(true, |same, (one, two)| Some(same && one.same(two)?))
         };
@@ -68,6 +70,7 @@ impl Value {
             (Number(one), Number(two)) => Some(one == two),
             (Bool(one), Bool(two)) => Some(one == two),
             (Unit, Unit) | (Nil, Nil) => Some(true),
+            (Any(one), Any(two)) => Some(one == two),
             (Cons(one), Cons(two)) => Some(one.0.same(&two.0)? && one.1.same(&two.1)?),
             (Constructed(c, one), Constructed(d, two)) | (Record(c, one), Record(d, two)) => {
                 Some(c == d && all(one, two)?)
