@@ -1,8 +1,9 @@
 /*
  * Quointrowel: a ledger node's pool and voter, its certificate writer and its checker.
  *
- * Memory. The library keeps nothing between calls and takes no memory of its own: everything is lent by the host for
- * the time of one call. A slice is two arguments, a pointer to its first element and its length in elements; an empty
+ * Memory. The library keeps nothing between calls and takes no memory of its own but the stack of the call, at most 18,176
+ * bytes as measured on x86-64 (docs/PERFORMANCE.md, Stack): everything else is lent by the host for the time of one call. A
+ * slice is two arguments, a pointer to its first element and its length in elements; an empty
  * slice may have any pointer that is not used. Pointers are not null otherwise and are aligned for their type. What a
  * call may change (every pointer without const) must not overlap anything else that is lent to the same call. Calls on
  * different records may run at the same time.
@@ -223,7 +224,8 @@ uint64_t qr_write_proof(const uint64_t *record, size_t record_words, uint8_t *bu
  * A slot's tally card into values: the weight of its skip votes, of its final votes and of those who count in its skip
  * certificate, the block with the most notar weight, the lowest where several have as much, and that weight; these two are 0
  * where there is no notar vote. Kept certificates add nothing to it. After every call the card is what a recount of the stored
- * votes gives; words in which one is not are refused with 17 by every call. Zeros beside a refusal. Refusals: 17, 3.
+ * votes gives; words in which one is not are refused with 17 by every call but qr_start and qr_watch, which look at the record's
+ * length alone. Zeros beside a refusal. Refusals: 17, 3.
  */
 uint64_t qr_card(const uint64_t *record, size_t record_words, size_t slot, uint64_t values[5]);
 
