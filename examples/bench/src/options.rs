@@ -126,11 +126,19 @@ impl Options {
 
     /// The words that run this ring again.
     pub fn replay(&self) -> Vec<String> {
-        let mut words = vec!["./bench".to_string(), "run".to_string()];
+        let mut words = vec![called().to_string(), "run".to_string()];
         let values = self.values().into_iter().filter(|(.., is_usual)| !is_usual);
         words.extend(values.map(|(name, value, _)| format!("--{name} {}", quoted(&value))));
         words
     }
+}
+
+/// How this program is called: by the name under which it is installed, else as in the repository.
+pub fn called() -> &'static str {
+    const INSTALLED: &str = "quointrowel-bench";
+    let first = std::env::args_os().next().unwrap_or_default();
+    let is_installed = std::path::Path::new(&first).file_name().is_some_and(|name| name == INSTALLED);
+    if is_installed { INSTALLED } else { "./bench" }
 }
 
 /// A word as a shell takes it.

@@ -4,6 +4,7 @@ use super::grid::{pictures, Mark, Seats};
 use super::marks::{escaped, listed, plural, Letters, NARROW, WIDE};
 use super::{number_cell, whole};
 use crate::agreed::{slots, SLOTS};
+use crate::options::called;
 use crate::table::grouped;
 use quointrowel::{differences, Comparison, Difference, Node, Record, Side, Slot, Vote, VoteKind};
 use std::collections::BTreeMap;
@@ -82,7 +83,7 @@ fn facts(facts: &[(&str, String)]) -> String {
 
 fn draw_again(records: &[&Named]) -> String {
     let names: Vec<String> = records.iter().map(|named| format!("<span class=\"nb\">{}</span>", escaped(&named.name))).collect();
-    format!("<div class=\"run\"><div><p class=\"replay\">To draw it again:</p><pre style=\"margin-top:-10px\"><code>./bench page {} <span class=\"nb\">--page FILE</span></code></pre></div></div>\n", names.join(" "))
+    format!("<div class=\"run\"><div><p class=\"replay\">To draw it again:</p><pre style=\"margin-top:-10px\"><code>{} page {} <span class=\"nb\">--page FILE</span></code></pre></div></div>\n", called(), names.join(" "))
 }
 
 fn page_of_one(named: &Named) -> String {
