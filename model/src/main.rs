@@ -15,6 +15,7 @@ mod rings;
 mod stakes;
 #[cfg(test)]
 mod tests;
+#[path = "../../tuned/mod.rs"]
 mod tuned;
 
 use panel::Answer;

@@ -1,7 +1,9 @@
 //! The node's operations once more, tuned as a good programmer would tune them
 //! by hand, for `measure`: a column that says what the work itself costs. It
 //! takes a record in lent words, as the product does, tests it at every call
-//! and trusts nothing in it.
+//! and trusts nothing in it. It stands apart from the model, whose rules know nothing
+//! of it and which its tests hold it against; it is compiled with the model,
+//! whose command `measure` runs both.
 //!
 //! What makes it quick is plain. A row without votes is found by or-ing its
 //! words. A card is recounted in the pass that tests the cells, and rules read
