@@ -1,0 +1,16 @@
+pub mod Same
+pub mod FaceLives
+pub mod FaceRing
+pub mod FaceSafety
+pub mod FaceWatchers
+pub mod FaceChain
+pub mod FaceProgress
+pub mod CodeLives
+pub mod CodeRing
+pub mod CodeNumbers
+pub mod CodeSafety
+pub mod CodeWatchers
+pub mod CodeChain
+pub mod CodeProgress
+pub mod CodeReached
+pub mod FaceReached

@@ -1,0 +1,3 @@
+-- One chain over histories of calls.
+pub mod OneChain
+pub mod Watching

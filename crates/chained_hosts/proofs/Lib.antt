@@ -1,0 +1,3 @@
+pub mod OneChain
+pub mod Watching
+pub mod Read

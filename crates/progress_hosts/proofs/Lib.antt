@@ -1,0 +1,3 @@
+pub mod NeverHangs
+pub mod Fed
+pub mod Further
