@@ -1,3 +1,0 @@
--- One chain over histories of calls.
-pub mod OneChain
-pub mod Watching

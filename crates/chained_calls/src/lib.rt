@@ -1,1 +1,0 @@
-// One chain on the promises of the code: no code of its own.

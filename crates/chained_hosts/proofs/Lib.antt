@@ -1,3 +1,0 @@
-pub mod OneChain
-pub mod Watching
-pub mod Read

@@ -1,3 +1,0 @@
-pub mod NeverHangs
-pub mod Fed
-pub mod Further
