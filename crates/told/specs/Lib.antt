@@ -1,0 +1,3 @@
+-- What a life tells, once and all of it; and what it holds.
+pub mod Told
+pub mod CornersOfTold
