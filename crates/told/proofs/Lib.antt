@@ -2,3 +2,4 @@
 pub mod Counting
 pub mod Once
 pub mod Told
+pub mod Held
