@@ -3,3 +3,4 @@ pub mod Counting
 pub mod Once
 pub mod Told
 pub mod Held
+pub mod Counted

@@ -305,7 +305,7 @@ initial-counts s = cell-counts s (opens s) isInitial openIn (λ k t b. refl) (λ
 -- ---- each vote
 
 -- A vote that finds a free place, as a ballot.
-as-ballot : {X : Type 0} (c : Cell) (k : VoteKind) (b : ℕ) → placeOf c k b ≡ Free → misfits k b ≡ false
+pub as-ballot : {X : Type 0} (c : Cell) (k : VoteKind) (b : ℕ) → placeOf c k b ≡ Free → misfits k b ≡ false
     → ((u : Ballot) → k ≡ kindOf u → b ≡ blockOf u → T (roomFor c u) → has c u ≡ false → X) → X
 unfolding placeOf misfits
 as-ballot c vote.Notar b e m f =
