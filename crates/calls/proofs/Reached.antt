@@ -33,7 +33,7 @@ use Rattle.seen.proofs.Ring.{seen-ring}
 use Rattle.seen.proofs.Fed.{no-ring-stuck}
 use Rattle.calls.specs.Operation.{Operation, oneInput, aPacket, oneWith, fedBy}
 use Rattle.calls.specs.Life.{Met, begun, next, Calls, none, then, Life}
-use Rattle.calls.specs.Reached.{CanGoOn, CanWatchOn, RingMet, LivesGoOn}
+use Rattle.calls.specs.Reached.{CallsBring, CanGoOn, CanWatchOn, RingMet, LivesGoOn}
 use Rattle.calls.proofs.Life.{life-is-seen}
 
 -- ---- calls with which a list of things arrives
@@ -98,6 +98,9 @@ unfolding runFor
 run-came v [] = sym (append-nil (v .came))
 run-came v (i ∷ is) =
     run-came (oneMore v i) is ∙ ap (λ (js : List Arrival). (v .came ++ js) ++ is) (brings i) ∙ append-assoc (v .came) (i ∷ []) is
+
+pub calls-bring : CallsBring
+calls-bring v is = (runFor v is, run-calls v v is none, run-came v is)
 
 pub can-go-on : CanGoOn
 can-go-on stakes own genesis v h is =
@@ -167,7 +170,7 @@ lives-go-on stakes genesis honest lives all fed once policy =
     record {
       after = after;
       lived = lived;
-      goOn = λ n. record { since = g .further n; goesOn = came n };
+      goOn = λ n. run-calls (lives n) (lives n) (g .further n) none;
       ring = g .ring after nodes came;
       going = g .going after nodes came;
     }
