@@ -6,7 +6,7 @@ use mathlib.Core.Logic.{inl}
 use Prim.Native.Nat.{ℕ, zero, suc, _*_, _≤_, _<_}
 use native.Mathlib.Omega.{arith}
 use native.Mathlib.Decide.{ℕ-discrete}
-use lib.Dec.{T, T-not}
+use lib.Dec.{T}
 use lib.ListN.{length, getD}
 use Rattle.rulebook.specs.Weights.{lastSlot, weight, totalTo, isFirst}
 use Rattle.rulebook.specs.Ledger.{Ledger, none, fresh, cellAt, isArmed}

@@ -15,7 +15,7 @@ use Rattle.safety.specs.Ring.{life, castBy, Ring}
 use Rattle.safety.specs.Watchers.{watched}
 use Rattle.safety.proofs.Tests.{and-T, T-and, or-T, T-left, T-right}
 use Rattle.safety.proofs.Weighing.{weight-mono}
-use Rattle.safety.proofs.Safety.{weight-padded, in-table, end-ready, end-table, own-stored, counted, lawful}
+use Rattle.safety.proofs.Safety.{weight-padded, in-table, end-ready, own-stored, counted, lawful}
 use Rattle.chain.specs.OneChain.{keptBy}
 use Rattle.progress.specs.Rest.{Initial, Decided, backed, passed}
 use Rattle.progress.specs.Progress as end

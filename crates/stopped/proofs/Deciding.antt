@@ -1,7 +1,7 @@
 -- Why no slot is left undecided at the live nodes: the whole argument, over what they cast, keep and have in their pools. A block that the live
 -- votes do not outvote has rule D's weights by these votes alone, and so has its parent in the slot before; where there is none, rule E's weights
 -- are there by these votes alone. A final vote is in nobody's way: 60 for its block leave no room for 60, or for over 40, that speak for another.
-use mathlib.Core.Path.{_≡_, refl, sym, subst}
+use mathlib.Core.Path.{_≡_, subst}
 use mathlib.Core.Bool.{Bool, true, false, not, _&&_, _||_}
 use mathlib.Core.List.{List}
 use Prim.Native.Nat.{ℕ, zero, suc, _+_, _*_, _≤_, _<_}
