@@ -23,10 +23,10 @@
  * are no record; a record that this library left is never refused so. qr_start and qr_watch alone do not look at the words: they ask
  * their length and lay a fresh node over whatever stood there, a living one too.
  *
- * Restart. A host stores its record after a call that made something, and sends only what a stored record has; after its death it
- * goes on from the last record that it stored, and sends the own votes that qr_kept_votes reads off it again. In the other order, or
- * from an older record, as out of a backup, it may vote twice, and count as one that lies. A fresh start in the same sixteen slots
- * is such an older record.
+ * Restart. A host stores its record after a call that made something, and sends only what a stored record has, certificates and
+ * proofs too; after its death it goes on from the last record that it stored, and sends the own votes that qr_kept_votes reads off it
+ * again: they are exactly those that its outboxes told. In the other order, or from an older record, as out of a backup, it may vote
+ * twice, and counts as one that lies. A fresh start in the same sixteen slots is such an older record.
  *
  * Signatures. They are the host's, and a vote's signature must bind the ring, its stake table and the sixteen slots (which of them in
  * the ledger's life: their epoch) beside kind, node, slot and block. Votes and certificates for skip, skip-fallback and final name no
