@@ -163,8 +163,8 @@ fn a_whole_file_without_a_record_is_told() {
 const FILE: &str = "QUOINTROWEL_STORE_FILE";
 const KILLS: &str = "QUOINTROWEL_STORE_KILLS";
 const USUAL_KILLS: usize = 100;
-/// So many of them at least have to fall into the writing itself.
-const TORN_KILLS: usize = 5;
+/// So many of them at least have to fall between the first byte beside and the rename.
+const MIDWAY_KILLS: usize = 5;
 /// Every note of a stored file is the count of stores so far, and its record has the block of that count: a mix of two files shows.
 const NOTES: usize = 20_000;
 
@@ -222,15 +222,18 @@ fn a_process_that_is_killed_leaves_a_record() {
     let room = Room::new("kills");
     let (store, beside) = (Store::new(room.file()), room.0.join("record.new"));
     let wanted = env::var(KILLS).map_or(USUAL_KILLS, |number| number.parse().unwrap());
-    let (mut kills, mut torn, mut chance) = (0, 0, 1u64);
-    while kills < wanted || torn < TORN_KILLS {
-        assert!(kills < 20 * wanted.max(USUAL_KILLS), "{torn} of {kills} kills fell into the writing");
+    let (mut kills, mut midway, mut cut, mut chance) = (0, 0, 0, 1u64);
+    while kills < wanted || midway < MIDWAY_KILLS {
+        assert!(kills < 20 * wanted.max(USUAL_KILLS), "{midway} of {kills} kills fell into a store");
         chance = chance.wrapping_mul(6_364_136_223_846_793_005).wrapping_add(1_442_695_040_888_963_407);
         let said = last_said(&room.file(), Duration::from_micros((chance >> 33) % 20_000));
         let count = count_in(&store.load().expect("a record after the kill"));
         assert!(count == said || count == said + 1, "{count} is stored, and {said} was said");
         kills += 1;
-        torn += usize::from(fs::read(&beside).is_ok_and(|bytes| Kept::of_bytes(&bytes).is_err()));
+        if let Ok(bytes) = fs::read(&beside) {
+            midway += 1;
+            cut += usize::from(Kept::of_bytes(&bytes).is_err());
+        }
     }
-    println!("{kills} kills, {torn} of them in the middle of writing");
+    println!("{kills} kills, {midway} before the rename, {cut} of these while words were being written");
 }
