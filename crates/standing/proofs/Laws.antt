@@ -156,6 +156,10 @@ slot-put l s c o p q r t u w = laid-as (ap (cellFallen l s) o) (laid-then p (lai
 
 -- ---- the call
 
+-- Two allowed results are equal.
+pub stands-one : (ws list : List ℕ) {left left' : List ℕ} {r r' : ListAnswer} → StandsOf ws list r left → StandsOf ws list r' left' → (r ≡ r') × (left ≡ left')
+stands-one ws list a b = (a .answered ∙ sym (b .answered), a .listed ∙ sym (b .listed))
+
 pub bad-told : (ws list : List ℕ) → soundWords ws ≡ false → StandsOf ws list (answer.Refused refusal.BadRecord) list
 unfolding standsOn
 bad-told ws list e =
