@@ -49,7 +49,7 @@ pub fn side_number(side: Side) -> u64
 }
 
 // Puts a word where the list has a place for it.
-fn put_word(list: &mut [u64], i: usize, w: u64)
+pub fn put_word(list: &mut [u64], i: usize, w: u64)
     ensures { λ _. ⌜ now (list .exit) ≡ set (now (list .entry)) i w ⌝ }
 {
     if i < list.len() {
