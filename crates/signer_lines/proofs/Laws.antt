@@ -4,7 +4,7 @@ use mathlib.Core.Bool.{Bool, true, false, not, _&&_, _||_}
 use mathlib.Core.List.{List, _++_}
 use Prim.Native.Nat.{ℕ, _+_, _/_, _%_, _^_, _≤_}
 use native.Mathlib.Omega.{arith}
-use lib.ListN.{length, getD}
+use lib.ListN.{length, getD, List·getD-eq-default}
 use lib.Bits.{bitAnd, and-mask}
 use lib.Dec.{eqb}
 use borrow.Author.Tests.{ne-eqb}
@@ -34,9 +34,14 @@ use Rattle.signer_lines.specs.declared.Signer.{Signer}
 use Rattle.signer_lines.specs.Signers.{notarLacks, fallbackLacks, plainLine, plainLacks, lacksA, lacksB, lacks}
 
 -- A node's bit, by its word.
-pub word-named : (ws : List ℕ) → Words ws → (n : ℕ) → eqb (bitAnd (getD ws (n / 64) 0 / 2 ^ (n % 64)) 1) 1 ≡ bit (joined ws) n
+pub word-named : (ws : List ℕ) → Words ws → (n w : ℕ) → w ≡ getD ws (n / 64) 0 → eqb (bitAnd (w / 2 ^ (n % 64)) 1) 1 ≡ bit (joined ws) n
 unfolding bit
-word-named ws h n = ap (λ (x : ℕ). eqb x 1) (and-mask (getD ws (n / 64) 0 / 2 ^ (n % 64)) 1) ∙ sym (node-bit ws h n)
+word-named ws h n w e =
+    ap (λ (x : ℕ). eqb (bitAnd (x / 2 ^ (n % 64)) 1) 1) e ∙ ap (λ (x : ℕ). eqb x 1) (and-mask (getD ws (n / 64) 0 / 2 ^ (n % 64)) 1) ∙ sym (node-bit ws h n)
+
+-- Past the last word there is none.
+pub word-none : (ws : List ℕ) (i : ℕ) → length ws ≤ i → 0 ≡ getD ws i 0
+word-none ws i h = sym (List·getD-eq-default ws 0 h)
 
 -- ---- one line at most
 

@@ -1,8 +1,8 @@
 // Lines of votes that a firm's own cell lacks: those that another record stores in its name, and those that a certificate counts it for.
 ghost use mathlib.Core.Path.{_≡_};
-ghost use mathlib.Core.Bool.{not, _||_};
-ghost use Prim.Native.Nat.{_*_, _+_, _<_, _≤_};
-ghost use lib.ListN.{length};
+ghost use mathlib.Core.Bool.{not};
+ghost use Prim.Native.Nat.{_+_, _≤_};
+ghost use lib.ListN.{getD};
 ghost use Rattle.rulebook.specs.Packets.{bit, joined};
 ghost use Rattle.rulebook.specs.Checker.{withoutB};
 ghost use Rattle.safety.specs.Slot.{notar, notarFallback};
@@ -30,13 +30,21 @@ pub struct Signer {
     pub b: bool,
 }
 
+// One of a mask's words, 0 past the last.
+fn word_of(mask: &[u64], i: usize) -> u64
+    ensures { λ r. ⌜ r ≡ getD (now (mask .entry)) i 0 ⌝ }
+{
+    if i < mask.len() {
+        return mask[i];
+    }
+    0
+}
+
 // Whether a mask names a node.
 pub fn names(mask: &[u64], n: Node) -> bool
-    requires { ⌜ n .0 < 64 * length (now mask) ⌝ }
     ensures { λ r. ⌜ r ≡ bit (joined (now (mask .entry))) (n .0) ⌝ }
 {
-    let i = n.0 / 64;
-    let w = mask[i];
+    let w = word_of(mask, n.0 / 64);
     (w >> (n.0 % 64)) & 1 == 1
 }
 

@@ -5,25 +5,22 @@ use mathlib.Core.List.{List, [], _++_}
 use Prim.Native.Nat.{ℕ, zero, suc, _+_, _*_, _≤_, _<_}
 use native.Mathlib.Omega.{arith}
 use lib.ListN.{length, getD, length-append}
-use lib.Dec.{leb, leb→le, nleb→lt}
 use borrow.Author.Tests.{eqb-false}
 use Rattle.rulebook.specs.declared.Cell.{Cell}
 use Rattle.rulebook.specs.declared.CertificateKind.the-variants as certificate
 use Rattle.rulebook.specs.declared.Refusal.the-variants as refusal
 use Rattle.rulebook.specs.Certificates.{Kept}
 use Rattle.rulebook.specs.Tools.{given}
-use Rattle.rulebook.specs.Weights.{mostNodes, lastSlot, placesFor}
+use Rattle.rulebook.specs.Weights.{lastSlot}
 use Rattle.rulebook.specs.Ledger.{Ledger, noKept, mostCertificates, cellAt, ownCell, certificatesAt, isKept, isWatcher, places}
 use Rattle.rulebook.specs.Pool.{placeKind}
 use Rattle.rulebook.specs.Packets.{bit}
 use Rattle.rulebook.specs.WellFormed.{keptIn}
 use Rattle.rule_laws.proofs.ToolLaws.{given-on, given-off, by-test}
-use Rattle.record.specs.Layout.{maskWords, ledgerOf}
-use Rattle.record.proofs.Places.{mask-small, mask-large}
+use Rattle.record.specs.Layout.{ledgerOf}
 use Rattle.record.proofs.Reading.{ledger-shaped}
 use Rattle.soundness.specs.Sound.{soundWords}
 use Rattle.soundness.proofs.Laws.{sound-long, sound-head, sound-placed}
-use Rattle.safety.proofs.Tests as tests
 use Rattle.difference_lines.specs.declared.Side.the-variants as side
 use Rattle.difference_lines.specs.Lines.{sameTables}
 use Rattle.differences.proofs.TableLaws.{alike-count}
@@ -37,13 +34,6 @@ use Rattle.signer_lines.specs.declared.Signer.{Signer}
 use Rattle.signer_lines.specs.Signers.{lacks}
 use Rattle.signer_lines.proofs.Laws.{signer-lacks, signer-most, cell-most}
 use Rattle.vouching.specs.Asked.{lackingOf, vouchedOn, VouchedOf, Firms, Comparing}
-
--- Every node has its bit.
-pub mask-room : (p m k : ℕ) → p ≤ mostNodes → m < p → k ≡ maskWords p → m < 64 * k
-mask-room p m k few h e =
-    tests.by-test (leb p 64)
-    (λ t. let w = mask-small p (leb→le p 64 t) in omega (arith, e, w, leb→le p 64 t))
-    (λ t. let w = mask-large p (nleb→lt p 64 t) in omega (arith, e, w))
 
 pub later-kind : (n : ℕ) → (n ≡ 0 → ⊥) → (n ≡ 1 → ⊥) → (n ≡ 2 → ⊥) → (n ≡ 3 → ⊥) → certificate.NotarFallback ≡ placeKind n
 unfolding placeKind
@@ -143,7 +133,6 @@ module _ {one two : List ℕ} (f : Firms one two) where
       by-lt a b h n = omega (arith, h, n)
 
   pub compared : (s at : ℕ) → s < suc lastSlot → at + 33 ≤ mostLines → Comparing one two s at
-  unfolding placesFor
   compared s at h room =
       let e = alike-count (f .alike) in
       let first = f .alike .sounds .first in
@@ -151,7 +140,6 @@ module _ {one two : List ℕ} (f : Firms one two) where
         slot = record { long = sound-long one first; slot = h };
         there = record { long = sound-long two (f .alike .sounds .second); slot = h };
         node = omega (arith, e, own-below, sound-placed one first);
-        few = omega (arith, sound-head one first .room, sound-head one first .few);
         room = room;
       }
 

@@ -6,7 +6,6 @@ use Prim.Native.Nat.{ℕ, _+_, _≤_, _<_}
 use lib.ListN.{length}
 use Rattle.rulebook.specs.declared.Refusal.the-variants as refusal
 use Rattle.rulebook.specs.Tools.{given}
-use Rattle.rulebook.specs.Weights.{mostNodes}
 use Rattle.rulebook.specs.Ledger.{Ledger, places, isWatcher}
 use Rattle.record.specs.Layout.{ledgerOf, InSlot, InKept}
 use Rattle.soundness.specs.Sound.{soundWords}
@@ -38,26 +37,21 @@ VouchedOf one two list r left = ToldIn list (vouchedOn one two (length list)) r 
 
 -- ---- the parts
 
--- A place of slot s for certificates, a node of the table, and room to count its lines behind the first `at`.
-pub record AtPlace (ws : List ℕ) (s n m at : ℕ) : Type 0 where
+-- A place of slot s for certificates, and room to count its lines behind the first `at`.
+pub record AtPlace (ws : List ℕ) (s n at : ℕ) : Type 0 where
   pub place : InKept ws s n
-  pub node : m < places (ledgerOf ws)
-  pub few : places (ledgerOf ws) ≤ mostNodes
   pub room : at + 2 ≤ mostLines
 
 -- Likewise all places of a slot.
-pub record InPlaces (ws : List ℕ) (s m at : ℕ) : Type 0 where
+pub record InPlaces (ws : List ℕ) (s at : ℕ) : Type 0 where
   pub slot : InSlot ws s
-  pub node : m < places (ledgerOf ws)
-  pub few : places (ledgerOf ws) ≤ mostNodes
   pub room : at + 26 ≤ mostLines
 
--- Two records, in a slot of both, where the second's own number is a node of the first's table; and room to count the slot's lines.
+-- Two records, in a slot of both, where the second's own number has a cell in the first; and room to count the slot's lines.
 pub record Comparing (one two : List ℕ) (s at : ℕ) : Type 0 where
   pub slot : InSlot one s
   pub there : InSlot two s
   pub node : ledgerOf two .own < places (ledgerOf one)
-  pub few : places (ledgerOf one) ≤ mostNodes
   pub room : at + 33 ≤ mostLines
 
 -- Two sound records of one stake table, the second a firm's.

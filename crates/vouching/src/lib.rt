@@ -56,7 +56,7 @@ fn place_kind(n: usize) -> CertificateKind
 
 // Puts the lines of what one of a slot's places counts firm m for and the cell lacks.
 fn put_place(list: &mut [u64], at: usize, rec: &[u64], s: Slot, n: usize, m: Node, d: Cell) -> usize
-    requires { ⌜ AtPlace (now rec) (s .0) n (m .0) at ⌝ }
+    requires { ⌜ AtPlace (now rec) (s .0) n at ⌝ }
     ensures { λ r. ⌜ Laid (now (list .entry)) at (placeLacks (s .0) (m .0) d n (placeAt (ledgerOf (now (rec .entry))) (s .0) n)) (now (list .exit)) r ⌝ }
 {
     if !is_kept(rec, s, n) {
@@ -75,7 +75,7 @@ fn put_place(list: &mut [u64], at: usize, rec: &[u64], s: Slot, n: usize, m: Nod
 
 // The same of all places of a slot, in their order.
 fn put_places(list: &mut [u64], at: usize, rec: &[u64], s: Slot, m: Node, d: Cell) -> usize
-    requires { ⌜ InPlaces (now rec) (s .0) (m .0) at ⌝ }
+    requires { ⌜ InPlaces (now rec) (s .0) at ⌝ }
     ensures { λ r. ⌜ Laid (now (list .entry)) at (keptLacks (s .0) (m .0) d (certificatesAt (ledgerOf (now (rec .entry))) (s .0))) (now (list .exit)) r ⌝ }
 {
     let mut next = at;

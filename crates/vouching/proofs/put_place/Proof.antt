@@ -3,11 +3,10 @@ use mathlib.Core.Path.{_∙_, refl, ap, sym}
 use Prim.Native.Nat.{ℕ}
 use borrow.Author.Needs.{needs}
 use borrow.Author.Tests.{not-true, not-false}
-use Rattle.rulebook.specs.Ledger.{places}
 use Rattle.rulebook.specs.Packets.{bit}
 use Rattle.record.specs.Layout.{ledgerOf}
 use Rattle.kept_certificates.specs.Kept.{placeAt}
-use Rattle.vouching.proofs.Laws.{mask-room, place-none, place-put}
+use Rattle.vouching.proofs.Laws.{place-none, place-put}
 use Rattle.vouching.proofs.put_place.Statement.{statement}
 use Rattle.vouching.proofs.put_place.Tie as tie
 
@@ -29,17 +28,13 @@ mask-a-requires : tie.Need-mask-a-requires
 mask-a-requires c κs = search needs
 
 names-requires : tie.Need-names-requires
-names-requires c κs =
-    let p = c .before .before .before .before .before .before .before in
-    mask-room (places (ledgerOf (p .args .rec .now))) (p .args .m .0) _ (p .pre .few) (p .pre .node) (c .mask-a .ensures .many)
+names-requires c κs = search needs
 
 mask-b-requires : tie.Need-mask-b-requires
 mask-b-requires c κs = search needs
 
 names-requires-2 : tie.Need-names-requires-2
-names-requires-2 c κs =
-    let p = c .before .before .before .before .before .before .before .before .before in
-    mask-room (places (ledgerOf (p .args .rec .now))) (p .args .m .0) _ (p .pre .few) (p .pre .node) (c .mask-b .ensures .many)
+names-requires-2 c κs = search needs
 
 put-signer-requires : tie.Need-put-signer-requires
 put-signer-requires c κs = search needs

@@ -35,8 +35,6 @@ put-place-requires c κs =
     let most = places-most (a .s .0) (a .m .0) (a .d) (certificatesAt (ledgerOf (a .rec .now)) (a .s .0)) (k .n) in
     record {
       place = record { long = start .pre .slot .long; slot = start .pre .slot .slot; place = omega (arith, here) };
-      node = start .pre .node;
-      few = start .pre .few;
       room = omega (arith, here, k .inv .1 .many, most, start .pre .room);
     }
 

@@ -24,8 +24,6 @@ put-places-requires c κs =
     let cells = cell-upto _ _ _ _ (c .before .before .before .put-cell .ensures) in
     record {
       slot = start .pre .slot;
-      node = rw (c .before .before .before .before .before .before .before .own .ensures) (start .pre .node);
-      few = start .pre .few;
       room = omega (arith, cells, start .pre .room);
     }
 
