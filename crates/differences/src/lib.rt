@@ -286,7 +286,7 @@ fn list_tables(list: &mut [u64]) -> DifferAnswer
 }
 
 // Whether two records have the same stake table, whatever their own numbers.
-fn same_tables(one: &[u64], two: &[u64]) -> bool
+pub fn same_tables(one: &[u64], two: &[u64]) -> bool
     requires { ⌜ Sounds (now one) (now two) ⌝ }
     ensures { λ r. ⌜ r ≡ sameTablesOf (ledgerOf (now (one .entry))) (ledgerOf (now (two .entry))) ⌝ }
 {
