@@ -1,17 +1,45 @@
 /*
  * Quointrowel: a ledger node's pool and voter, its certificate writer and its checker.
  *
- * Memory. The library keeps nothing between calls and takes no memory of its own but the stack of the call, at most 18,176
- * bytes as measured on x86-64 (docs/PERFORMANCE.md, Stack): everything else is lent by the host for the time of one call. A
- * slice is two arguments, a pointer to its first element and its length in elements; an empty
- * slice may have any pointer that is not used. Pointers are not null otherwise and are aligned for their type. What a
- * call may change (every pointer without const) must not overlap anything else that is lent to the same call. Calls on
- * different records may run at the same time.
+ * Memory. The library keeps nothing between calls, and all memory but the stack of the call is lent by the host for the time of one
+ * call. A slice is two arguments, a pointer to its first element and its length in elements; an empty slice may have any pointer that
+ * is not used. Pointers are not null otherwise and are aligned for their type. What a call may change (every pointer without const)
+ * must not overlap anything else that is lent to the same call. Calls on different records may run at the same time.
+ *
+ * Stack. Bytes that a call needs, arguments and return address among them, measured on x86-64 with the worst records that are known
+ * (docs/PERFORMANCE.md, Stack); a host gives some more, 32 KB say. 16 KB of it are one list, by which the card of a slot is recounted.
+ *     qr_take                                               18,176
+ *     qr_block, qr_vote, qr_timeout, qr_look, qr_tray       17,776
+ *     qr_write_certificate, qr_write_proof, qr_differ       17,616
+ *     qr_card, qr_final_block, qr_kept_votes, qr_is_armed   17,520
+ *     qr_refusal_text                                        1,984
+ *     qr_check_certificate, qr_check_proof, qr_end           1,216
+ *     qr_read_vote                                             288
+ *     qr_start, qr_watch, qr_write_vote, qr_piece, sizes        64
  *
  * Node. A node is its record: qr_record_words(stake_count) words, owned by the host, which may copy it, keep it and lend
  * it again, always with that length. qr_start makes lent words a fresh node, qr_watch a fresh watcher, a node that never
  * votes. Words that no call of this library left are looked through at every call and refused with QR_BAD_RECORD where they
- * are no record; a record that this library left is never refused so.
+ * are no record; a record that this library left is never refused so. qr_start and qr_watch alone do not look at the words: they ask
+ * their length and lay a fresh node over whatever stood there, a living one too.
+ *
+ * Restart. A host stores its record after a call that made something, and sends only what a stored record has, certificates and
+ * proofs too; after its death it goes on from the last record that it stored, and sends the own votes that qr_kept_votes reads off it
+ * again: they are exactly those that its outboxes told. In the other order, or from an older record, as out of a backup, it may vote
+ * twice, and counts as one that lies. A fresh start in the same sixteen slots is such an older record.
+ *
+ * Signatures. They are the host's, and a vote's signature must bind the ring, its stake table and the sixteen slots (which of them in
+ * the ledger's life: their epoch) beside kind, node, slot and block. Votes and certificates for skip, skip-fallback and final name no
+ * block: without these they would be good in every ring and in every sixteen slots. The library sees none of it; so it is with
+ * certificates and proofs, whose signers' signatures the host verifies.
+ *
+ * The next sixteen slots. A fresh record, its genesis the number of a final block of these, with the table that holds from there on.
+ * Which final block it is the members agree on, by its finality proof; all must take the same one, or they refuse each other's first
+ * blocks with QR_BAD_PARENT. Within each sixteen slots all is promised that docs/PROMISES.md says, by their own votes alone; the
+ * earlier record still writes its certificates and proofs. Across the line nothing is: no vote, certificate or armed window carries
+ * over, and a block above the one that was taken, which becomes final later, is no ancestor of the new ones. So take a block only
+ * once no slot above it can have a final one: the last slot's, or one above which every slot holds a skip certificate. Where a slot
+ * above it stays without both, no promise says which block to take.
  *
  * Versions. A stored record is for the version that wrote it (QR_VERSION). Another version's words are not to be lent: they may be
  * refused with QR_BAD_RECORD or misread. Packets carry over: certificates, proofs and vote messages. A member finishes its 16 slots

@@ -25,6 +25,7 @@ use Rattle.record.specs.Spelling.{wordsOf}
 use Rattle.starts.specs.Starting.{startJudged, startAnswer, startLeft}
 use Rattle.node.specs.Stepping.{Leaves, stepLeaves}
 use Rattle.taking.specs.Taking.{takeLeaves}
+use Rattle.safety.specs.Slot.{Test}
 use Rattle.safety.specs.Ring as book
 use Rattle.answers.specs.Face.{Beside}
 use Rattle.seen.specs.Seen.{Seen}
@@ -33,7 +34,7 @@ use Rattle.seen.proofs.Ring.{seen-ring}
 use Rattle.seen.proofs.Fed.{no-ring-stuck}
 use Rattle.calls.specs.Operation.{Operation, oneInput, aPacket, oneWith, fedBy}
 use Rattle.calls.specs.Life.{Met, begun, next, Calls, none, then, Life}
-use Rattle.calls.specs.Reached.{CanGoOn, CanWatchOn, RingMet, LivesGoOn}
+use Rattle.calls.specs.Reached.{CallsBring, CanGoOn, CanWatchOn, RingMet, LivesGoOn}
 use Rattle.calls.proofs.Life.{life-is-seen}
 
 -- ---- calls with which a list of things arrives
@@ -99,6 +100,9 @@ run-came v [] = sym (append-nil (v .came))
 run-came v (i ∷ is) =
     run-came (oneMore v i) is ∙ ap (λ (js : List Arrival). (v .came ++ js) ++ is) (brings i) ∙ append-assoc (v .came) (i ∷ []) is
 
+pub calls-bring : CallsBring
+calls-bring v is = (runFor v is, run-calls v v is none, run-came v is)
+
 pub can-go-on : CanGoOn
 can-go-on stakes own genesis v h is =
     (runFor v is, record { found = h .found; words = h .words; start = h .start; calls = run-calls _ v is (h .calls) }, run-came v is)
@@ -156,18 +160,36 @@ ring-met stakes genesis honest fed ring =
 
 -- ---- no ring is stuck
 
-pub lives-go-on : LivesGoOn
-lives-go-on stakes genesis honest lives all fed once policy =
-    let g = no-ring-stuck stakes genesis honest lives fed once policy in
-    let after : Lives = λ n. runFor (lives n) (g .further n) in
-    let came : (n : ℕ) → after n .came ≡ lives n .came ++ g .further n = λ n. run-came (lives n) (g .further n) in
+-- Lives that went on with calls with which these things arrived.
+pub record Onward (stakes : List ℕ) (genesis : ℕ → ℕ) (honest : Test) (lives : Lives) (further : ℕ → List Arrival) : Type 0 where
+  pub after : Lives
+  pub lived : (n : ℕ) → T (honest n) → Life stakes n (genesis n) (after n)
+  pub goOn : (n : ℕ) → Calls (lives n) (after n)
+  pub came : (n : ℕ) → after n .came ≡ lives n .came ++ further n
+  pub nodes : Nodes stakes genesis honest after
+
+pub all-go-on : (stakes : List ℕ) (genesis : ℕ → ℕ) (honest : Test) (lives : Lives) → ((n : ℕ) → T (honest n) → Life stakes n (genesis n) (lives n)) → Nodes stakes genesis honest lives
+    → (further : ℕ → List Arrival) → Onward stakes genesis honest lives further
+all-go-on stakes genesis honest lives all nodes further =
+    let after : Lives = λ n. runFor (lives n) (further n) in
     let lived : (n : ℕ) → T (honest n) → Life stakes n (genesis n) (after n) =
-    (λ n h. let l = all n h in record { found = l .found; words = l .words; start = l .start; calls = run-calls _ (lives n) (g .further n) (l .calls) }) in
-    let nodes : Nodes stakes genesis honest after = record { few = fed .nodes .few; lived = λ n h. life-is-seen stakes n (genesis n) (after n) (lived n h) } in
+    (λ n h. let l = all n h in record { found = l .found; words = l .words; start = l .start; calls = run-calls _ (lives n) (further n) (l .calls) }) in
     record {
       after = after;
       lived = lived;
-      goOn = λ n. record { since = g .further n; goesOn = came n };
-      ring = g .ring after nodes came;
-      going = g .going after nodes came;
+      goOn = λ n. run-calls (lives n) (lives n) (further n) none;
+      came = λ n. run-came (lives n) (further n);
+      nodes = record { few = nodes .few; lived = λ n h. life-is-seen stakes n (genesis n) (after n) (lived n h) };
+    }
+
+pub lives-go-on : LivesGoOn
+lives-go-on stakes genesis honest lives all fed once policy =
+    let g = no-ring-stuck stakes genesis honest lives fed once policy in
+    let o = all-go-on stakes genesis honest lives all (fed .nodes) (g .further) in
+    record {
+      after = o .after;
+      lived = o .lived;
+      goOn = o .goOn;
+      ring = g .ring (o .after) (o .nodes) (o .came);
+      going = g .going (o .after) (o .nodes) (o .came);
     }

@@ -9,13 +9,17 @@ use Rattle.rulebook.specs.Taking.{Arrival}
 use Rattle.mail.specs.Policy.{byPolicy}
 use Rattle.safety.specs.Slot.{Test}
 use Rattle.safety.specs.Ring as book
-use Rattle.seen.specs.Seen.{Seen, Earlier}
+use Rattle.seen.specs.Seen.{Seen}
 use Rattle.seen.specs.Ring.{Lives, Ring, FedRing}
 use Rattle.seen.specs.Chain.{AnnouncedOnce}
 use Rattle.seen.specs.Progress.{Going}
-use Rattle.calls.specs.Life.{Life, Watch}
+use Rattle.calls.specs.Life.{Calls, Life, Watch}
 
--- Every life can go on with calls with which these things arrive,
+-- From whatever is seen, calls can be made with which these things arrive.
+abbrev pub CallsBring : Type 0
+CallsBring = (v : Seen) (is : List Arrival) → (w : Seen) × Calls v w × (w .came ≡ v .came ++ is)
+
+-- So every life can go on with them,
 abbrev pub CanGoOn : Type 0
 CanGoOn =
     (stakes : List ℕ) (own genesis : ℕ) (v : Seen) → Life stakes own genesis v → (is : List Arrival)
@@ -33,11 +37,11 @@ RingMet =
     (stakes : List ℕ) (genesis : ℕ → ℕ) (honest : Test) (fed : ℕ → List Arrival) → book.Ring stakes genesis honest fed
     → (lives : Lives) × Ring stakes genesis honest lives × ((n : ℕ) → T (honest n) → Life stakes n (genesis n) (lives n)) × ((n : ℕ) → lives n .came ≡ fed n)
 
--- Further calls at each node, with which the lives are a ring still and every slot is decided.
+-- Further calls at each node, after those of its life so far, with which the lives are a ring still and every slot is decided.
 pub record WentOn (stakes : List ℕ) (genesis : ℕ → ℕ) (honest : Test) (lives : Lives) : Type 0 where
   pub after : Lives
   pub lived : (n : ℕ) → T (honest n) → Life stakes n (genesis n) (after n)
-  pub goOn : (n : ℕ) → Earlier (lives n) (after n)
+  pub goOn : (n : ℕ) → Calls (lives n) (after n)
   pub ring : Ring stakes genesis honest after
   pub going : (s : ℕ) → 1 ≤ s → s ≤ lastSlot → Going stakes honest after lastSlot s
 

@@ -92,7 +92,7 @@ fn is_backed(rec: &[u64], s: Slot, b: u64, k: Block) -> bool
 }
 
 // Whether D need not wait for b: in a first slot; elsewhere where b is kept and its parent backed.
-fn is_grounded(rec: &[u64], s: Slot, b: u64) -> bool
+pub fn is_grounded(rec: &[u64], s: Slot, b: u64) -> bool
     requires { ⌜ Carded (now rec) (s .0) ⌝ }
     ensures { λ r. ⌜ r ≡ isGrounded (ledgerOf (now (rec .entry))) (s .0) b ⌝ }
 {

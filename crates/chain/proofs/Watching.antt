@@ -3,21 +3,22 @@ use mathlib.Core.Path.{_≡_, refl, _∙_, subst}
 use mathlib.Core.List.{List}
 use Prim.Native.Nat.{ℕ}
 use lib.ListN.{length}
-use lib.Dec.{T}
 use Rattle.rulebook.specs.declared.Verdict.the-variants.{Fine}
-use Rattle.rulebook.specs.Weights.{placesFor}
 use Rattle.rulebook.specs.Ledger.{Ledger, tableOf, fresh, keptAt, keepsBlock}
 use Rattle.rulebook.specs.Pool.{placeKind}
 use Rattle.rulebook.specs.Checker.{judgeKind}
 use Rattle.rulebook.specs.WellFormed.{keptIn}
+use Rattle.rulebook.specs.Taking.{Arrival}
+use Rattle.safety.specs.Slot.{Test}
 use Rattle.safety.specs.Moves.{SameTable}
-use Rattle.safety.specs.Watchers.{watched}
+use Rattle.safety.specs.Ring.{afterAll, announcedBy, castBy}
+use Rattle.safety.specs.Watchers.{HoldsGenuine, watched}
 use Rattle.safety.proofs.Along.{same-table}
-use Rattle.safety.specs.Ring.{announcedBy}
-use Rattle.safety.proofs.Lives.{life-ready, life-table, life-announced, fresh-table, fresh-ready, fresh-keeps, watch-sized}
+use Rattle.safety.proofs.Lives.{Sized, life-ready, life-table, life-announced, fresh-table, fresh-ready, fresh-keeps, watch-sized}
 use Rattle.safety.proofs.Promises.{kept-blocks-announced}
 use Rattle.safety.proofs.Tests.{or-T}
 use Rattle.safety.proofs.Watchers.{watched-clashes-grounded}
+use Rattle.chain.specs.OneChain.{SameParents, Observer}
 use Rattle.chain.specs.Watching.{WatcherObserves, WatchedNoClash, WatchedAnnouncedIsEnough}
 use Rattle.chain.proofs.Chains.{no-clash-seen}
 
@@ -25,11 +26,13 @@ same-start : (stakes : List ℕ) (n g : ℕ) (l : Ledger) → SameTable (fresh s
 unfolding fresh
 same-start stakes n g l t = record { stakes = t .stakes; count = t .count; total = t .total; own = refl; genesis = refl }
 
-pub watcher-observes : WatcherObserves
-watcher-observes stakes genesis honest fed g start lived holds parents =
-    let me = length stakes in
-    let l = watched stakes g lived in
-    let begun = fresh-ready stakes me g (watch-sized stakes g start) in
+-- A node or a watcher that holds what is genuine, and keeps blocks with no other parent than honest nodes do, looks on in good faith.
+pub holder-observes : (stakes : List ℕ) (genesis : ℕ → ℕ) (honest : Test) (fed : ℕ → List Arrival) (me g : ℕ) → Sized stakes me → (lived : List Arrival)
+    → HoldsGenuine honest (castBy stakes genesis honest fed) (afterAll (fresh stakes me g) lived) → SameParents stakes genesis honest fed (afterAll (fresh stakes me g) lived)
+    → Observer stakes genesis honest fed (afterAll (fresh stakes me g) lived)
+holder-observes stakes genesis honest fed me g size lived holds parents =
+    let l = afterAll (fresh stakes me g) lived in
+    let begun = fresh-ready stakes me g size in
     let ready = life-ready me (fresh stakes me g) lived begun in
     let table = life-table me (fresh stakes me g) lived begun in
     let is : tableOf l ≡ stakes = same-table (fresh stakes me g) l table ∙ fresh-table stakes me g in
@@ -41,6 +44,10 @@ watcher-observes stakes genesis honest fed g start lived holds parents =
       lower = λ s b p x t. ready .inv .blocks s b p x t .0;
       parents = parents;
     }
+
+pub watcher-observes : WatcherObserves
+watcher-observes stakes genesis honest fed g start lived holds parents =
+    holder-observes stakes genesis honest fed (length stakes) g (watch-sized stakes g start) lived holds parents
 
 pub watched-no-clash : WatchedNoClash
 watched-no-clash stakes genesis honest fed ring one g start lived holds parents s b t =

@@ -49,7 +49,7 @@ pub fn side_number(side: Side) -> u64
 }
 
 // Puts a word where the list has a place for it.
-fn put_word(list: &mut [u64], i: usize, w: u64)
+pub fn put_word(list: &mut [u64], i: usize, w: u64)
     ensures { λ _. ⌜ now (list .exit) ≡ set (now (list .entry)) i w ⌝ }
 {
     if i < list.len() {
@@ -286,7 +286,7 @@ fn list_tables(list: &mut [u64]) -> DifferAnswer
 }
 
 // Whether two records have the same stake table, whatever their own numbers.
-fn same_tables(one: &[u64], two: &[u64]) -> bool
+pub fn same_tables(one: &[u64], two: &[u64]) -> bool
     requires { ⌜ Sounds (now one) (now two) ⌝ }
     ensures { λ r. ⌜ r ≡ sameTablesOf (ledgerOf (now (one .entry))) (ledgerOf (now (two .entry))) ⌝ }
 {

@@ -101,6 +101,16 @@ unfolding given
 given-in q true is t u = u
 given-in q false is t u = absurd t
 
+pub given-on : (b : Bool) (is : List Arrival) → T b → given b [] (λ _. is) ≡ is
+unfolding given
+given-on true is t = refl
+given-on false is t = absurd t
+
+pub given-off : (b : Bool) (is : List Arrival) → T (not b) → given b [] (λ _. is) ≡ []
+unfolding given
+given-off true is t = absurd t
+given-off false is t = refl
+
 -- ---- packets and blocks among them
 
 unfoldable pub isPacket : Arrival → Bool

@@ -5,12 +5,13 @@ use mathlib.Core.List.{List, [], _∷_, _++_, append-nil}
 use Prim.Native.Nat.{ℕ, zero, suc, _+_, _*_, _≤_, _<_}
 use native.Mathlib.Omega.{arith}
 use native.Mathlib.Decide.{ℕ-discrete}
-use lib.Dec.{T}
+use lib.Dec.{T, eqb-refl}
 use lib.ListN.{length, getD, length-append}
+use Rattle.rulebook.specs.declared.Cell.{Cell}
 use Rattle.rulebook.specs.declared.Verdict.the-variants.{Fine}
 use Rattle.rulebook.specs.Tools.{part, sumTo}
 use Rattle.rulebook.specs.Weights.{placesFor, totalTo, windowOf, isFirst}
-use Rattle.rulebook.specs.Ledger.{Ledger, none, fresh, isArmed}
+use Rattle.rulebook.specs.Ledger.{Ledger, none, fresh, cellAt, ownCell, noInitial, isArmed}
 use Rattle.rulebook.specs.Rules.{Record}
 use Rattle.rulebook.specs.Run.{mostRecords}
 use Rattle.rulebook.specs.Inputs.{startVerdict}
@@ -20,14 +21,15 @@ use Rattle.settling.specs.Facts.{Sound}
 use Rattle.settling.specs.Steps as calls
 use Rattle.settling.proofs.Start.{fresh-sound, start-within}
 use Rattle.settling.proofs.Life.{served-paid}
-use Rattle.safety.specs.Slot.{Test, Ballot, notar}
-use Rattle.safety.specs.Ballots.{recordFor, among}
+use Rattle.safety.specs.Slot.{Test, Ballot, notar, skip}
+use Rattle.safety.specs.Ballots.{has, recordFor, among}
 use Rattle.safety.specs.Ring.{afterAll, life, castBy}
-use Rattle.safety.proofs.Tests.{T-true, and-T, T-and}
+use Rattle.safety.proofs.Tests.{T-true, and-T, T-and, or-T}
 use Rattle.safety.proofs.Weighing.{reaches-more, weight-mono}
+use Rattle.safety.proofs.Cells.{initial-cases, notar-present, skip-present, is-notar, notar-some}
 use Rattle.safety.proofs.Growing.{Grow}
 use Rattle.safety.proofs.Steps.{Ready}
-use Rattle.safety.proofs.Lives.{life-ready, life-stored, life-grow, life-on, start-in, start-sized, fresh-ready}
+use Rattle.safety.proofs.Lives.{life-ready, life-stored, life-told, life-grow, life-on, fresh-has, start-in, start-sized, fresh-ready}
 use Rattle.chain.specs.OneChain.{keptBy}
 use Rattle.progress.specs.Progress.{honestStake}
 use Rattle.progress.proofs.Ends.{parents-alone}
@@ -152,6 +154,20 @@ module _ (stakes : List ℕ) (genesis : ℕ → ℕ) (nodes : Test) (fed more : 
 
     pub cast-before : (n s : ℕ) (v : Ballot) → T (nodes n) → T (castBy stakes genesis nodes (fed (suc k)) n s v) → T (castBy stakes genesis nodes (fed k) n s v)
     cast-before n s v h t = subst (λ (b : Bool). T b) (cast-same n s v h) t
+
+    -- so no initial vote is new;
+    pub initial-before : (n s : ℕ) → T (nodes n) → T (not (noInitial (ownCell (end (suc k) n) s))) → T (not (noInitial (ownCell (end k n) s)))
+    initial-before n s h t =
+        let mine : (j : ℕ) → ownCell (end j n) s ≡ cellAt (end j n) s n = λ j. ap (λ (i : ℕ). cellAt (end j n) s i) (end-ready j n h .own) in
+        let c = cellAt (end (suc k) n) s n in
+        let stood : (v : Ballot) → T (has c v) → T (has (cellAt (end k n) s n) v) = λ v z.
+        life-stored n (start n) (fed k n) (ready n h) s v (cast-before n s v h
+        (or-T (castBy stakes genesis nodes (fed (suc k)) n s v) (has (cellAt (start n) s n) v) (life-told n (start n) (fed (suc k) n) (ready n h) s v z)
+        (λ u. u) (λ u. absurd (fresh-has stakes n (genesis n) s n v u)))) in
+        subst (λ (d : Cell). T (not (noInitial d))) (sym (mine k))
+        (initial-cases c (subst (λ (d : Cell). T (not (noInitial d))) (mine (suc k)) t)
+        (λ z. notar-present (cellAt (end k n) s n) (notar-some (cellAt (end k n) s n) (c .notar) (stood (notar (c .notar)) (is-notar c (c .notar) z (eqb-refl (c .notar))))))
+        (λ z. skip-present (cellAt (end k n) s n) (stood skip z)))
 
     end-on : (n : ℕ) → end (suc k) n ≡ afterAll (end k n) (more k n)
     end-on n = ap (afterAll (start n)) (goOn k n) ∙ life-on (start n) (fed k n) (more k n)

@@ -1,5 +1,5 @@
 -- Why no slot is left undecided: the whole argument, over what honest nodes cast, keep and have in their pools.
-use mathlib.Core.Path.{_≡_, refl, sym, subst}
+use mathlib.Core.Path.{_≡_, refl, subst}
 use mathlib.Core.Bool.{Bool, true, false, not, _&&_, _||_}
 use mathlib.Core.List.{List}
 use Prim.Native.Nat.{ℕ, zero, suc, _*_, _≤_, _<_}
@@ -7,11 +7,12 @@ use native.Mathlib.Omega.{arith}
 use native.Mathlib.Decide.{ℕ-discrete}
 use lib.Dec.{T, leb, leb→le, nleb→lt, T-not}
 use Rattle.rulebook.specs.Tools.{part}
-use Rattle.rulebook.specs.Weights.{lastSlot, weight, totalTo, isFirst}
+use Rattle.rulebook.specs.Weights.{weight, totalTo, isFirst}
 use Rattle.safety.specs.Slot.{Ballot, notar, notarFallback, skip, skipFallback, final, Test, Heavy, Quorum, Lawful}
 use Rattle.safety.proofs.Tests.{and-T, T-and, or-T, T-left, T-right, by-test}
 use Rattle.safety.proofs.Weighing.{reaches-le, le-reaches, weight-mono, weight-cover, weight-apart, weight-find, weight-zero}
-use Rattle.progress.specs.Rest.{HeldThree, HeldFour, Initial, voted, skips, Elsewhere, skipped, other, Opposed, Grounded, Resting, honestFor, Decided, backed, passed, Going, Still, SlotsDecided, NextArmed}
+use Rattle.progress.specs.Rest.{HeldThree, HeldFour, Initial, voted, skips, Elsewhere, skipped, other, Opposed, Grounded, Resting, honestFor, Decided, backed, passed, Still, SlotsDecided, NextArmed}
+use Rattle.progress.proofs.Ascending.{not-first-some, all-going, armed-behind}
 
 -- The whole table weighs the total.
 weight-all : (ws : List ℕ) (k : ℕ) → weight ws k (λ n. true) ≡ totalTo ws k
@@ -26,10 +27,6 @@ split : (h c : Bool) → T h → T (h && not c || h && c)
 split true true t = tt
 split true false t = tt
 split false c t = absurd t
-
-pub first-one : T (isFirst 1)
-unfolding isFirst
-first-one = tt
 
 -- One of two.
 data Either (A B : Type 0) : Type 0 where
@@ -173,7 +170,7 @@ module _ (ws : List ℕ) (k : ℕ) (honest : Test) (genesis : ℕ → ℕ) (cast
   strong (suc s) b lo hi init y n h =
       behind (suc s) b lo hi (init (suc s) lo (omega arith)) y
       (λ nf m g. let p = parent-of s b hi nf y in
-      let one : 1 ≤ s = some s nf in
+      let one = not-first-some s nf in
       record {
         slot = s;
         parent = p .parent;
@@ -184,10 +181,6 @@ module _ (ws : List ℕ) (k : ℕ) (honest : Test) (genesis : ℕ → ℕ) (cast
         held = three-held s (p .parent) one (omega arith) (strong s (p .parent) one (omega arith) (λ t x z. init t x (omega arith)) (omega (arith, p .more))) m g;
       })
       n h
-    where
-      some : (s : ℕ) → T (not (isFirst (suc s))) → 1 ≤ s
-      some zero nf = absurd (T-not (isFirst 1) nf first-one)
-      some (suc s) nf = omega arith
 
   -- ---- no block with more than 40 of honest initial votes
 
@@ -283,59 +276,15 @@ module _ (ws : List ℕ) (k : ℕ) (honest : Test) (genesis : ℕ → ℕ) (cast
           let sp = spread-all s lo hi here f in
           passed (λ n h. skips-all s lo hi here sp n h (here n h)) (four-held s lo hi here sp)
 
-  -- ---- arming
-
-  -- A first slot above decided slots: looking down from it, a parent is ready.
-  arms-down : (s n : ℕ) → T (honest n) → 1 ≤ s → s ≤ lastSlot → T (isFirst s) → ((t : ℕ) → 1 ≤ t → t < s → Decided ws k honest genesis cast kept pool armed t)
-      → (j : ℕ) → j < s → ((t : ℕ) → j < t → t < s → Four n t) → T (armed n s)
-  arms-down s n h lo hi f dec zero l skipsTo = rest n h .arms s 0 (genesis n) lo hi f l refl skipsTo
-  arms-down s n h lo hi f dec (suc j) l skipsTo = go (dec (suc j) (omega arith) l) (arms-down s n h lo hi f dec j (omega arith))
-    where
-      go : Decided ws k honest genesis cast kept pool armed (suc j) → (((t : ℕ) → j < t → t < s → Four n t) → T (armed n s)) → T (armed n s)
-      go (backed b all held) below = rest n h .arms s (suc j) b lo hi f l (held n h) skipsTo
-      go (passed all held) below =
-          below (λ t x y. elim (ℕ-discrete t (suc j)) [
-            | yes e ↦ subst (λ (i : ℕ). Four n i) (sym e) (held n h)
-            | no ne ↦ skipsTo t (omega arith) y
-          ])
-
-  -- The next slot's window is armed where all slots up to it are going.
-  armed-next : (s : ℕ) → suc s ≤ lastSlot → ((t : ℕ) → 1 ≤ t → t ≤ s → Going ws k honest genesis cast kept pool armed t) → (n : ℕ) → T (honest n) → T (armed n (suc s))
-  armed-next s hi prior n h =
-      by-test (isFirst (suc s))
-      (λ f. arms-down (suc s) n h (omega arith) hi f (λ t x y. prior t x (omega arith) .decided) s (omega arith) (λ t x y. absurd (omega arith)))
-      (λ nf. let one : 1 ≤ s = some s nf in rest n h .window s one hi nf (prior s one (omega arith) .arming n h))
-    where
-      some : (s : ℕ) → T (not (isFirst (suc s))) → 1 ≤ s
-      some zero nf = absurd (T-not (isFirst 1) nf first-one)
-      some (suc s) nf = omega arith
-
-  -- Slots ascending.
-  up-to : (s : ℕ) → s ≤ u → (t : ℕ) → 1 ≤ t → t ≤ s → Going ws k honest genesis cast kept pool armed t
-  up-to zero hi t lo l = absurd (omega arith)
-  up-to (suc s) hi t lo l =
-      let prior = up-to s (omega arith) in
-      elim (ℕ-discrete t (suc s)) [
-        | yes e ↦ subst (λ (j : ℕ). Going ws k honest genesis cast kept pool armed j) (sym e) (here prior)
-        | no ne ↦ prior t lo (omega arith)
-      ]
-    where
-      here : ((t : ℕ) → 1 ≤ t → t ≤ s → Going ws k honest genesis cast kept pool armed t) → Going ws k honest genesis cast kept pool armed (suc s)
-      here prior =
-          let arm : (n : ℕ) → T (honest n) → T (armed n (suc s)) = armed-next s (omega (arith, still .last)) prior in
-          let all : (t : ℕ) → 1 ≤ t → t ≤ suc s → (n : ℕ) → T (honest n) → T (armed n t) =
-          λ t x y n h. elim (ℕ-discrete t (suc s)) [
-            | yes e ↦ subst (λ (j : ℕ). T (armed n j)) (sym e) (arm n h)
-            | no ne ↦ prior t x (omega arith) .arming n h
-          ] in
-          record { arming = arm; decided = decide (suc s) (omega arith) hi (λ t x y n h. still .arrived .initial n t h x (omega arith) (all t x y n h)) }
-
 -- NO SLOT IS LEFT UNDECIDED.
 pub slots-decided : (ws : List ℕ) (k : ℕ) (honest : Test) (genesis : ℕ → ℕ) (cast : ℕ → ℕ → Ballot → Bool) (kept : ℕ → ℕ → ℕ → ℕ → ℕ → Bool)
     (pool : ℕ → ℕ → ℕ → Ballot → Bool) (armed : ℕ → ℕ → Bool) → SlotsDecided ws k honest genesis cast kept pool armed
-slots-decided ws k honest genesis cast kept pool armed u still s lo hi = up-to ws k honest genesis cast kept pool armed u still u (omega arith) s lo hi
+slots-decided ws k honest genesis cast kept pool armed u still =
+    all-going ws k honest genesis cast kept pool armed (λ n h. still .resting n h .arms) (λ n h. still .resting n h .window) u (still .last) (still .arrived .initial)
+    (decide ws k honest genesis cast kept pool armed u still)
 
 pub next-armed : (ws : List ℕ) (k : ℕ) (honest : Test) (genesis : ℕ → ℕ) (cast : ℕ → ℕ → Ballot → Bool) (kept : ℕ → ℕ → ℕ → ℕ → ℕ → Bool)
     (pool : ℕ → ℕ → ℕ → Ballot → Bool) (armed : ℕ → ℕ → Bool) → NextArmed ws k honest genesis cast kept pool armed
-next-armed ws k honest genesis cast kept pool armed u still last f n h =
-    armed-next ws k honest genesis cast kept pool armed u still u last (λ t lo hi. up-to ws k honest genesis cast kept pool armed u still u (omega arith) t lo hi) n h
+next-armed ws k honest genesis cast kept pool armed u still last f =
+    armed-behind ws k honest genesis cast kept pool armed (λ n h. still .resting n h .arms) (λ n h. still .resting n h .window) u (still .last) (still .arrived .initial)
+    (decide ws k honest genesis cast kept pool armed u still) last

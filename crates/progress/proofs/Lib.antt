@@ -1,3 +1,4 @@
+pub mod Ascending
 pub mod Going
 pub mod Grows
 pub mod Named

@@ -61,35 +61,36 @@ module _ (stakes : List ℕ) (genesis : ℕ → ℕ) (honest : Test) (fed : ℕ 
   abbrev pub arm : ℕ → ℕ → Bool
   arm n s = isArmed (ends n) s
 
-  module _ (n : ℕ) (h : T (honest n)) where
-    same : SameTable (fresh stakes n (genesis n)) (ends n)
+  -- Of an honest node, and of any nodes that the interface speaks of.
+  module _ (nodes : Test) (n : ℕ) (h : T (honest n)) where
+    pub same : SameTable (fresh stakes n (genesis n)) (ends n)
     same = end-table stakes genesis honest fed ring n h
 
-    mine : (s : ℕ) → ownCell (ends n) s ≡ cellAt (ends n) s n
+    pub mine : (s : ℕ) → ownCell (ends n) s ≡ cellAt (ends n) s n
     mine s = ap (λ (j : ℕ). cellAt (ends n) s j) (end-ready stakes genesis honest fed ring n h .own)
 
-    votes : isWatcher (ends n) ≡ false
+    pub votes : isWatcher (ends n) ≡ false
     unfolding isWatcher fresh
     votes =
         not-false (eqb (ends n .own) (ends n .count)) (not-T (eqb (ends n .own) (ends n .count))
         (λ t. omega (arith, eqb→eq (ends n .own) (ends n .count) t, same .own, same .count, in-table stakes genesis honest fed ring n h)))
 
-    positive : 1 ≤ ends n .total
+    pub positive : 1 ≤ ends n .total
     positive = end-ready stakes genesis honest fed ring n h .inv .some
 
     pub reach : (k : ℕ) (p : Test) → Heavy k stakes (length stakes) p → T (reaches k (ends n .total) (weight (ends n .stakes) (ends n .count) p))
     reach k p t = as-ledger k stakes n (genesis n) (ends n) p same t
 
-    backs : (p x : ℕ) → Backs stakes (length stakes) honest genesis casts keptAt pools arm n p x → ledger.BackedBy (ends n) positive p x
+    backs : (p x : ℕ) → Backs stakes (length stakes) nodes genesis casts keptAt pools arm n p x → ledger.BackedBy (ends n) positive p x
     unfolding fresh
     backs zero x e = e ∙ sym (same .genesis)
     backs (suc p) x t = reach 3 (λ m. pools n (suc p) m (notar x) || pools n (suc p) m (notarFallback x)) t
 
-    present : (s : ℕ) → Initial stakes (length stakes) honest genesis casts keptAt pools arm n s → T (not (noInitial (cellAt (ends n) s n)))
+    pub present : (s : ℕ) → Initial stakes (length stakes) nodes genesis casts keptAt pools arm n s → T (not (noInitial (cellAt (ends n) s n)))
     present s (voted c t) = notar-present (cellAt (ends n) s n) (notar-some (cellAt (ends n) s n) c t)
     present s (skips t) = skip-present (cellAt (ends n) s n) t
 
-    elsewhere : (s m b : ℕ) → Elsewhere stakes (length stakes) honest genesis casts keptAt pools arm n s m b → T (notFor b (cellAt (ends n) s m))
+    elsewhere : (s m b : ℕ) → Elsewhere stakes (length stakes) nodes genesis casts keptAt pools arm n s m b → T (notFor b (cellAt (ends n) s m))
     elsewhere s m b (skipped t) =
         let c = cellAt (ends n) s m in
         T-and (not (noInitial c)) (not (has c (notar b))) (skip-present c t)
@@ -100,7 +101,7 @@ module _ (stakes : List ℕ) (genesis : ℕ → ℕ) (honest : Test) (fed : ℕ 
         (not-T (has c (notar b)) (λ u. ne (one-block c d b t u)))
 
     -- THE RULES MEET THE INTERFACE of progress.
-    resting : end.AtRest (ends n) → Resting stakes (length stakes) honest genesis casts keptAt pools arm n
+    pub resting : end.AtRest (ends n) → Resting stakes (length stakes) nodes genesis casts keptAt pools arm n
     resting rest =
         record {
           arms = λ s p x lo hi f lt b between. ledger.arms (ends n) positive rest s p x lo hi f lt (backs p x b)
@@ -123,7 +124,7 @@ module _ (stakes : List ℕ) (genesis : ℕ → ℕ) (honest : Test) (fed : ℕ 
           window = λ s lo hi nf t. subst (λ (w : ℕ). T (not (none (getD (ends n .armed) w 0)))) (sym (same-window s lo hi nf)) t;
         }
 
-    initial-of : (s : ℕ) → T (not (noInitial (ownCell (ends n) s))) → Initial stakes (length stakes) honest genesis casts keptAt pools arm n s
+    pub initial-of : (s : ℕ) → T (not (noInitial (ownCell (ends n) s))) → Initial stakes (length stakes) nodes genesis casts keptAt pools arm n s
     initial-of s t =
         let c = cellAt (ends n) s n in
         initial-cases c (rw (mine s) at t) (λ z. voted (c .notar) (is-notar c (c .notar) z (eqb-refl (c .notar)))) (λ z. skips z)
@@ -134,7 +135,7 @@ module _ (stakes : List ℕ) (genesis : ℕ → ℕ) (honest : Test) (fed : ℕ 
     arrived =
         record {
           votes = λ n m s v h k lo hi f t. mail .votes n m s v h k lo hi f (counted stakes genesis honest fed ring m m s v k k t);
-          initial = λ n s h lo hi t. initial-of n h s (mail .initial n s h lo hi t);
+          initial = λ n s h lo hi t. initial-of honest n h s (mail .initial n s h lo hi t);
           blocks = λ n m s b p x h k hi f v t w.
               mail .blocks n m s b p x h k hi f (counted stakes genesis honest fed ring n n s (notar b) h h v) t
               (reaches-more 2 (totalTo stakes (length stakes)) (weight stakes (length stakes) (λ j. honest j && casts s j (notar b))) (end.honestStake stakes genesis honest fed s b)
@@ -152,7 +153,7 @@ module _ (stakes : List ℕ) (genesis : ℕ → ℕ) (honest : Test) (fed : ℕ 
               record { slot = g .slot; parent = g .parent; keeps = g .kept; before = g .before; voted = g .voted };
           alone = λ n s b p x q y h t v. parents-alone stakes n (genesis n) (ring .started n h) (fed n) s b p x q y t v;
           inTable = in-table stakes genesis honest fed ring;
-          resting = λ n h. resting n h (lives-settle stakes n (genesis n) (ring .started n h) (fed n) (mail .woken n h));
+          resting = λ n h. resting honest n h (lives-settle stakes n (genesis n) (ring .started n h) (fed n) (mail .woken n h));
           last = last;
           arrived = arrived;
         }
@@ -166,9 +167,9 @@ module _ (stakes : List ℕ) (genesis : ℕ → ℕ) (honest : Test) (fed : ℕ 
 
     decided : (s : ℕ) → Decided stakes (length stakes) honest genesis casts keptAt pools arm s → end.Decided stakes genesis honest fed s
     decided s (backed b all f) =
-        end.notarized b (is-block s b all) (λ n h. ledger.three-held (ends n) s b (reach n h 3 (λ m. pools n s m (notar b) || pools n s m (notarFallback b)) (f n h)))
+        end.notarized b (is-block s b all) (λ n h. ledger.three-held (ends n) s b (reach honest n h 3 (λ m. pools n s m (notar b) || pools n s m (notarFallback b)) (f n h)))
     decided s (passed all f) =
-        end.skippedOver (λ n h. ledger.four-held (ends n) s (reach n h 3 (λ m. pools n s m skip || pools n s m skipFallback) (f n h)))
+        end.skippedOver (λ n h. ledger.four-held (ends n) s (reach honest n h 3 (λ m. pools n s m skip || pools n s m skipFallback) (f n h)))
 
 pub never-hangs : end.NeverHangs
 never-hangs stakes genesis honest fed ring u last mail s lo hi =

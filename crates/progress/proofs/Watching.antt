@@ -6,7 +6,7 @@ use mathlib.Core.Logic.{inl}
 use Prim.Native.Nat.{ℕ, zero, suc, _*_, _≤_, _<_}
 use native.Mathlib.Omega.{arith}
 use native.Mathlib.Decide.{ℕ-discrete}
-use lib.Dec.{T, T-not}
+use lib.Dec.{T}
 use lib.ListN.{length, getD}
 use Rattle.rulebook.specs.Weights.{lastSlot, weight, totalTo, isFirst}
 use Rattle.rulebook.specs.Ledger.{Ledger, none, fresh, cellAt, isArmed}
@@ -24,7 +24,8 @@ use Rattle.chain.specs.OneChain.{keptBy}
 use Rattle.progress.specs.Rest.{Decided, backed, passed}
 use Rattle.progress.specs.Progress.{AtRest, MailIn}
 use Rattle.progress.specs.Watching.{WatcherMail, DecidedEverywhere, notarized, skippedOver, WatcherWokenArmed, WatchersDecide, WatchersArm}
-use Rattle.progress.proofs.Going.{first-one, honest-heavy, slots-decided}
+use Rattle.progress.proofs.Ascending.{not-first-some}
+use Rattle.progress.proofs.Going.{honest-heavy, slots-decided}
 use Rattle.progress.proofs.Resting as ledger
 use Rattle.progress.proofs.Ends.{life-rests, begun-armed}
 use Rattle.progress.proofs.NeverHangs.{as-ledger, same-window, casts, pools, arm, reach, still, is-block}
@@ -96,12 +97,8 @@ module _ (stakes : List ℕ) (genesis : ℕ → ℕ) (voters : Test) (fed : ℕ 
       armed-up (suc s) lo hi top =
           by-test (isFirst (suc s))
           (λ f. arms-down (suc s) lo hi top f s (omega arith) (λ t x y. absurd (omega arith)))
-          (λ nf. let one : 1 ≤ s = some s nf in
+          (λ nf. let one = not-first-some s nf in
           subst (λ (v : ℕ). T (not (none (getD (seen .armed) v 0)))) (sym (same-window s one top nf)) (armed-up s one (omega arith) (omega arith)))
-        where
-          some : (s : ℕ) → T (not (isFirst (suc s))) → 1 ≤ s
-          some zero nf = absurd (T-not (isFirst 1) nf first-one)
-          some (suc s) nf = omega arith
 
 -- ---- beside the honest nodes
 
@@ -149,12 +146,12 @@ watchers-decide stakes genesis honest fed ring u last mail s lo hi = go (settles
     go : Settles stakes genesis honest fed ring u last mail s → DecidedEverywhere stakes genesis honest fed u s
     go (backed b all f) =
         notarized b (is-block stakes genesis honest fed ring u last mail s b all)
-        (λ n h. ledger.three-held (life stakes genesis honest fed n) s b (reach stakes genesis honest fed ring n h 3 (ledger.three (life stakes genesis honest fed n) s b) (f n h)))
+        (λ n h. ledger.three-held (life stakes genesis honest fed n) s b (reach stakes genesis honest fed ring honest n h 3 (ledger.three (life stakes genesis honest fed n) s b) (f n h)))
         (λ g lived w. ledger.three-held (watched stakes g lived) s b (three-there stakes genesis honest fed heavy u g lived w s b lo hi
         (λ m h. either-cast stakes genesis honest fed ring u last mail m s (notar b) (notarFallback b) h (all m h))))
     go (passed all f) =
         skippedOver
-        (λ n h. ledger.four-held (life stakes genesis honest fed n) s (reach stakes genesis honest fed ring n h 3 (ledger.four (life stakes genesis honest fed n) s) (f n h)))
+        (λ n h. ledger.four-held (life stakes genesis honest fed n) s (reach stakes genesis honest fed ring honest n h 3 (ledger.four (life stakes genesis honest fed n) s) (f n h)))
         (λ g lived w. ledger.four-held (watched stakes g lived) s (four-there stakes genesis honest fed heavy u g lived w s lo hi
         (λ m h. either-cast stakes genesis honest fed ring u last mail m s skip skipFallback h (all m h))))
 

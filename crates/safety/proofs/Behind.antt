@@ -136,12 +136,10 @@ module _ (l : Ledger) where
             (all-at (s - suc p) (u - suc p) (λ i. held l certificate.Skip (suc p + i) 0) (T-true (allTo (s - suc p) (λ i. held l certificate.Skip (suc p + i) 0)) (c .1)) (omega arith))));
       }
 
-  pub notar-grounds : (me : ℕ) → ((s : ℕ) → ownCell l s ≡ cellAt l s me) → ((s b p x : ℕ) → T (keepsBlock l s b p x) → (p < s) × T (not (none x)))
-      → (s : ℕ) → T (not (none (firstBlock l s .number))) → T (parentFits l s (isFirst s) (firstBlock l s)) → NotarGrounds me l s (firstBlock l s .number)
+  pub kept-grounds : (me : ℕ) → ((s : ℕ) → ownCell l s ≡ cellAt l s me) → ((s b p x : ℕ) → T (keepsBlock l s b p x) → (p < s) × T (not (none x)))
+      → (s : ℕ) (k : Block) → T (keepsBlock l s (k .number) (k .parentslot .0) (k .parent)) → T (parentFits l s (isFirst s) k) → NotarGrounds me l s (k .number)
   unfolding parentFits
-  notar-grounds me mine ok s h t =
-      let k = firstBlock l s in
-      let kp = first-kept s h in
+  kept-grounds me mine ok s k kp t =
       let g = ok s (k .number) (k .parentslot .0) (k .parent) kp in
       record {
         first = λ f. ready-parent s (k .number) (k .parentslot .0) (k .parent) kp (g .1) (as-first (isFirst s) f t);
@@ -157,14 +155,17 @@ module _ (l : Ledger) where
             };
       }
     where
-      as-first : (f : Bool) → T f → T (parentFits l s f (firstBlock l s)) → T (ready l s (firstBlock l s .parentslot .0) (firstBlock l s .parent))
+      as-first : (f : Bool) → T f → T (parentFits l s f k) → T (ready l s (k .parentslot .0) (k .parent))
       as-first true x y = y
       as-first false x y = absurd x
 
-      as-next : (f : Bool) → T (not f) → T (parentFits l s f (firstBlock l s))
-          → T (eqb (firstBlock l s .parentslot .0) (s - 1) && eqb (ownCell l (s - 1) .notar) (firstBlock l s .parent))
+      as-next : (f : Bool) → T (not f) → T (parentFits l s f k) → T (eqb (k .parentslot .0) (s - 1) && eqb (ownCell l (s - 1) .notar) (k .parent))
       as-next true x y = absurd x
       as-next false x y = y
+
+  pub notar-grounds : (me : ℕ) → ((s : ℕ) → ownCell l s ≡ cellAt l s me) → ((s b p x : ℕ) → T (keepsBlock l s b p x) → (p < s) × T (not (none x)))
+      → (s : ℕ) → T (not (none (firstBlock l s .number))) → T (parentFits l s (isFirst s) (firstBlock l s)) → NotarGrounds me l s (firstBlock l s .number)
+  notar-grounds me mine ok s h t = kept-grounds me mine ok s (firstBlock l s) (first-kept s h) t
 
   -- ---- rule D
 

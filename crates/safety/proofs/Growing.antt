@@ -19,7 +19,7 @@ use Rattle.safety.specs.Grounds.{weightOf, Held, byVotes, byKept, Backed
 use Rattle.safety.specs.Moves.{SameTable, SameRest}
 use Rattle.safety.proofs.Tests.{or-T, T-left, T-right}
 use Rattle.safety.proofs.Weighing.{reaches-more, weights-more, weight-mono}
-use Rattle.safety.proofs.Cells.{Kept, kept-same, kept-trans, kept-has}
+use Rattle.safety.proofs.Cells.{Kept, kept-same, kept-trans, kept-has, kept-notFor, notar-present}
 
 -- All that was there stays: cells, kept blocks and kept certificates only grow.
 pub record Grow (l m : Ledger) : Type 0 where
@@ -126,6 +126,7 @@ module _ (l m : Ledger) (table : SameTable l m) (grow : Grow l m) where
       }
   grounds-grow me s (notarFallback b) g =
       record {
+        before = kept-notFor b (cellAt l s me) (cellAt m s me) (grow .cells s me) (g .before);
         seen = seen-grow 1 s (notar b) (g .seen);
         weights = weights-grow s b (g .weights);
         next = λ t. let f = g .next t in
@@ -137,7 +138,7 @@ module _ (l m : Ledger) (table : SameTable l m) (grow : Grow l m) where
             };
       }
   grounds-grow me s skip g = tt
-  grounds-grow me s skipFallback g = tt
+  grounds-grow me s skipFallback g = rw (grow .cells s me .initial (notar-present (cellAt l s me) g) .0) g
   grounds-grow me s final g = tt
 
   pub final-grow : (s b : ℕ) → FinalIn l s b → FinalIn m s b

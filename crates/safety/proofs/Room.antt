@@ -2,7 +2,7 @@
 -- honest stake than there is, since each honest node stands behind at most four blocks.
 use mathlib.Core.Path.{_≡_, refl, sym, ap, _∙_, subst}
 use mathlib.Core.Bool.{Bool, true, false, not, _&&_, _||_}
-use mathlib.Core.List.{List, _++_}
+use mathlib.Core.List.{List}
 use mathlib.Core.Logic.{_⊎_, inl, inr, ⊎-elim}
 use Prim.Native.Nat.{ℕ, zero, suc, _+_, _*_, _≤_, _<_}
 use native.Mathlib.Decide.{ℕ-discrete}
@@ -16,32 +16,33 @@ use Rattle.rulebook.specs.declared.CertificateKind.the-variants as certificate
 use Rattle.rulebook.specs.declared.Refusal.the-variants as refusal
 use Rattle.rulebook.specs.declared.StepAnswer.the-variants as step
 use Rattle.rulebook.specs.declared.Verdict.the-variants.{Fine, Refused}
-use Rattle.rulebook.specs.Certificates.{Certificate, Kept}
+use Rattle.rulebook.specs.Certificates.{Certificate}
 use Rattle.rulebook.specs.Tools.{given, sumTo, someTo}
-use Rattle.rulebook.specs.Weights.{weight, totalTo, slotOk}
+use Rattle.rulebook.specs.Weights.{placesFor, weight, totalTo, slotOk}
 use Rattle.rulebook.specs.PaperNumbers.{kindIn}
 use Rattle.rulebook.specs.Ledger.{Ledger, none, tableOf, fresh, cellAt, mostCertificates, certificatesAt, keptAt, isKept}
 use Rattle.rulebook.specs.Pool.{hasFallback, fifthsOf, placeKind, sameKind, someKept}
 use Rattle.rulebook.specs.Inputs.{refuseIf, refusedWith}
 use Rattle.rulebook.specs.Checker.{isOtherKind, blockMisfits, withoutB, judgeKind, judge}
 use Rattle.rulebook.specs.Taking.{hasRoom, isRepeat, keptVerdict, takePacket, Arrival}
-use Rattle.rulebook.specs.WellFormed.{eachKept, inTurn, certificateFits, certificatesApart, certificatesFit, wellFormed, outboxWords, takeCertificate}
+use Rattle.rulebook.specs.WellFormed.{eachKept, inTurn, certificateFits, certificatesApart, certificatesFit, wellFormed, keptIn, outboxWords, takeCertificate}
 use Rattle.rule_laws.proofs.ToolLaws.{and-both, both-and, true-not-false, sum-add, sum-le, sum-const, some-find}
 use Rattle.rule_laws.proofs.CertificateLaws.{kind-same, place-some, no-room, apart-at, record-certificates}
 use Rattle.rule_laws.proofs.AcceptedLaws.{packet-eight}
 use Rattle.safety.specs.Slot.{Test, notar, notarFallback, Quorum}
 use Rattle.safety.specs.Ballots.{has}
-use Rattle.safety.specs.Ring.{afterAll, castBy, Ring, Genuine}
+use Rattle.safety.specs.Ring.{afterAll, castBy, Ring, Genuine, GenuinePacket}
+use Rattle.safety.specs.Watchers.{HoldsGenuine}
 use Rattle.safety.specs.Room.{Stands, OneOfKindOne, OneOfKindTwo, SevenOfKindThree, NeverEight}
 use Rattle.safety.proofs.Tests.{T-true, true-T, and-T, T-and, or-T, T-left, T-right, by-test, not-not}
 use Rattle.safety.proofs.Weighing.{reaches-le, reaches-less, weight-mono, weight-apart, weight-cover, weight-join}
 use Rattle.safety.proofs.OneSlot.{inside, quorums-agree}
 use Rattle.safety.proofs.Cells.{notar-is}
-use Rattle.safety.proofs.Safety.{Checked, checked, kept-checked, checked-signed, quorum, own, lawful, end, sized, start-ready}
+use Rattle.safety.proofs.Safety.{judge-says, Checked, checked, checked-signed, quorum, own, lawful, end, sized}
 use Rattle.safety.proofs.Written.{stakes-are, count-is}
-use Rattle.safety.proofs.Honest.{kept-on}
-use Rattle.safety.proofs.Lives.{life-ready}
-use Rattle.safety.proofs.Steps.{passed}
+use Rattle.safety.proofs.Honest.{node-holds}
+use Rattle.safety.proofs.Lives.{Sized, life-ready, fresh-ready}
+use Rattle.safety.proofs.Steps.{passed, Ready}
 
 -- ---- sets that no node is in two of
 
@@ -227,13 +228,16 @@ module _ (stakes : List ℕ) (genesis : ℕ → ℕ) (honest : Test) (fed : ℕ 
   check-of : (k : CertificateKind) (s : ℕ) (c : Certificate) → Stands stakes genesis honest fed k s c → Check k s (c .block)
   check-of k s c t = checked stakes genesis honest fed ring c (t .accepted) (t .genuine) k s (c .block) (t .kind) (t .slot) refl
 
-  -- ---- an honest node at a moment of its life, and a genuine certificate that is answered 8
+  -- ---- a life, a node's or a watcher's, that holds what is genuine, and a genuine certificate that is answered 8
 
-  module _ (n : ℕ) (h : T (honest n)) (before later : List Arrival) (moment : fed n ≡ before ++ later) (c : Certificate)
-      (genuine : Genuine count honest (castBy stakes genesis honest fed) c) (fine : judge stakes c ≡ Fine)
-      (sound : wellFormed (afterAll (fresh stakes n (genesis n)) before) ≡ true) where
+  module _ (me g : ℕ) (size : Sized stakes me) (before : List Arrival) (holds : HoldsGenuine honest (castBy stakes genesis honest fed) (afterAll (fresh stakes me g) before))
+      (c : Certificate) (genuine : Genuine count honest (castBy stakes genesis honest fed) c) (fine : judge stakes c ≡ Fine)
+      (sound : wellFormed (afterAll (fresh stakes me g) before) ≡ true) where
     abbrev now : Ledger
-    now = afterAll (fresh stakes n (genesis n)) before
+    now = afterAll (fresh stakes me g) before
+
+    abbrev ready : Ready (placesFor count) me now
+    ready = life-ready me (fresh stakes me g) before (fresh-ready stakes me g size)
 
     abbrev s : ℕ
     s = c .slot
@@ -251,7 +255,7 @@ module _ (stakes : List ℕ) (genesis : ℕ → ℕ) (honest : Test) (fed : ℕ 
     long : length (certificatesAt now s) ≡ mostCertificates
     unfolding slotOk
     long =
-        life-ready n (fresh stakes n (genesis n)) before (start-ready stakes genesis honest fed ring n h) .shaped .certificates s
+        ready .shaped .certificates s
         (omega (arith, leb→le s 16 (and-T (leb 1 s) (leb s 16) (true-T (slotOk s) slot-ok) .1)))
 
     module _ (no-repeat : someKept (isRepeat kind (c .block)) 0 (certificatesAt now s) ≡ false) (full : hasRoom kind 0 (certificatesAt now s) ≡ false) where
@@ -265,10 +269,16 @@ module _ (stakes : List ℕ) (genesis : ℕ → ℕ) (honest : Test) (fed : ℕ 
       check-there : (j : ℕ) → j < mostCertificates → placeKind j ≡ kind → Check kind s (keptAt now s j .block)
       check-there j low e =
           let t = kept-there j low e in
-          let on = kept-on stakes genesis honest fed ring n h before later moment s j t in
+          let kept : Certificate = keptIn s (keptAt now s j) in
           subst (λ (x : CertificateKind). Check x s (keptAt now s j .block)) e
-          (subst (λ (q : Kept). Check (placeKind j) s (q .block)) on
-          (kept-checked stakes genesis honest fed ring n h s j (subst (λ (q : Kept). T (isKept q)) (sym on) t)))
+          (record {
+            cert = kept;
+            judged = judge-says stakes (placeKind j) kept
+                (subst (λ (ws : List ℕ). judgeKind ws (placeKind j) kept ≡ Fine) (stakes-are stakes me g size before) (ready .inv .certificates s j t));
+            slot = refl;
+            block = refl;
+            genuine = holds .kept s j t;
+          })
 
       other-there : (j : ℕ) → j < mostCertificates → placeKind j ≡ kind → keptAt now s j .block ≡ c .block → ⊥
       unfolding isRepeat
@@ -355,17 +365,25 @@ past-both false b l packet e = let z : _≡_ {A = ℕ} 0 1 = cc in absurd (omega
 past-both true false l packet e = let z : _≡_ {A = ℕ} 0 1 = cc in absurd (omega arith)
 past-both true true l packet e = (refl, e)
 
-pub never-eight : NeverEight
+-- A node or a watcher that holds what is genuine answers 8 to no genuine certificate.
+pub holder-never-eight : (stakes : List ℕ) (genesis : ℕ → ℕ) (honest : Test) (fed : ℕ → List Arrival) → Ring stakes genesis honest fed
+    → (me g : ℕ) → Sized stakes me → (before : List Arrival) → HoldsGenuine honest (castBy stakes genesis honest fed) (afterAll (fresh stakes me g) before)
+    → (room : ℕ) (packet : List ℕ) → GenuinePacket (length stakes) honest (castBy stakes genesis honest fed) packet
+    → ¬ (takeCertificate (afterAll (fresh stakes me g) before) room packet .answer ≡ step.Refused refusal.OtherStands)
 unfolding takeCertificate keptVerdict
-never-eight stakes genesis honest fed ring n h before later moment room packet g e =
-    let l : Ledger = afterAll (fresh stakes n (genesis n)) before in
-    let size = sized stakes genesis honest fed ring n h in
+holder-never-eight stakes genesis honest fed ring me g size before holds room packet genuine e =
+    let l : Ledger = afterAll (fresh stakes me g) before in
     let both = past-both (wellFormed l) (leb outboxWords room) l packet e in
     let x = packet-eight l packet (both .1) in
     let c : Certificate = x .certificate in
-    let fine = subst (λ (ws : List ℕ). judge ws c ≡ Fine) (stakes-are stakes n (genesis n) size before) (x .fine) in
+    let fine = subst (λ (ws : List ℕ). judge ws c ≡ Fine) (stakes-are stakes me g size before) (x .fine) in
     let says = eight-says (someKept (isRepeat (kindIn (l .count) (c .kind)) (c .block)) 0 (certificatesAt l (c .slot))) (hasRoom (kindIn (l .count) (c .kind)) 0 (certificatesAt l (c .slot))) (x .stands) in
-    let k : kindIn (l .count) (c .kind) ≡ kindIn (length stakes) (c .kind) = ap (λ (m : ℕ). kindIn m (c .kind)) (count-is stakes n (genesis n) size before) in
-    never stakes genesis honest fed ring n h before later moment c (g .first c (x .next) (x .read)) fine (both .0)
+    let k : kindIn (l .count) (c .kind) ≡ kindIn (length stakes) (c .kind) = ap (λ (m : ℕ). kindIn m (c .kind)) (count-is stakes me g size before) in
+    never stakes genesis honest fed ring me g size before holds c (genuine .first c (x .next) (x .read)) fine (both .0)
     (subst (λ (i : CertificateKind). someKept (isRepeat i (c .block)) 0 (certificatesAt l (c .slot)) ≡ false) k (says .0))
     (subst (λ (i : CertificateKind). hasRoom i 0 (certificatesAt l (c .slot)) ≡ false) k (says .1)) (kindIn (length stakes) (c .kind)) refl
+
+pub never-eight : NeverEight
+never-eight stakes genesis honest fed ring n h before later moment =
+    holder-never-eight stakes genesis honest fed ring n (genesis n) (sized stakes genesis honest fed ring n h) before
+    (node-holds stakes genesis honest fed ring n h before later moment)

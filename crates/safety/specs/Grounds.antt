@@ -1,14 +1,14 @@
 -- What stands behind a node's own votes besides their guards in the slot, and behind its final blocks: certificates held, kept blocks with
 -- their parents. All of it only grows truer, so that the node's end tells what held when it voted.
 use mathlib.Core.Path.{_≡_}
-use mathlib.Core.Bool.{Bool, not, _||_}
+use mathlib.Core.Bool.{Bool, not, _&&_, _||_}
 use Prim.Native.Nat.{ℕ, zero, suc, _<_}
 use lib.Dec.{T}
 use Rattle.rulebook.specs.declared.Cell.{Cell}
 use Rattle.rulebook.specs.declared.CertificateKind.{CertificateKind}
 use Rattle.rulebook.specs.declared.CertificateKind.the-variants as certificate
 use Rattle.rulebook.specs.Weights.{weight, reaches, dWeights, isFirst}
-use Rattle.rulebook.specs.Ledger.{Ledger, cellAt, keepsBlock, keptAt, isKept}
+use Rattle.rulebook.specs.Ledger.{Ledger, none, noInitial, cellAt, keepsBlock, keptAt, isKept}
 use Rattle.rulebook.specs.Pool.{fifthsOf, placeKind, servesAs}
 use Rattle.rulebook.specs.Rules.{Record}
 use Rattle.safety.specs.Slot.{Ballot, notar, notarFallback, skip, skipFallback, final}
@@ -61,8 +61,10 @@ pub record NotarGrounds (me : ℕ) (l : Ledger) (s b : ℕ) : Type 0 where
 abbrev pub weightOf : Ledger → ℕ → Ballot → ℕ
 weightOf l s v = weight (l .stakes) (l .count) (λ n. has (cellAt l s n) v)
 
--- Rule D: what stands behind a notar-fallback vote: its weights, a fifth of notar votes for the block in any case.
-pub record FallbackGrounds (l : Ledger) (s b : ℕ) : Type 0 where
+-- Rule D: what stands behind a notar-fallback vote: an own initial vote that is not for the block; its weights, a fifth of notar votes for
+-- the block in any case.
+pub record FallbackGrounds (me : ℕ) (l : Ledger) (s b : ℕ) : Type 0 where
+  pub before : T (not (noInitial (cellAt l s me)) && not (has (cellAt l s me) (notar b)))
   pub seen : T (reaches 1 (l .total) (weightOf l s (notar b)))
   pub weights : T (dWeights (l .total) (weightOf l s (notar b)) (weightOf l s skip))
   pub next : T (not (isFirst s)) → HeldParent l s b
@@ -70,9 +72,9 @@ pub record FallbackGrounds (l : Ledger) (s b : ℕ) : Type 0 where
 -- Behind each ballot.
 abbrev pub Grounds : ℕ → Ledger → ℕ → Ballot → Type 0
 Grounds me l s (notar b) = NotarGrounds me l s b
-Grounds me l s (notarFallback b) = FallbackGrounds l s b
+Grounds me l s (notarFallback b) = FallbackGrounds me l s b
 Grounds me l s skip = Unit {0}
-Grounds me l s skipFallback = Unit {0}
+Grounds me l s skipFallback = T (not (none (cellAt l s me .notar)))
 Grounds me l s final = Unit {0}
 
 -- Block b of slot s is final: by certificates, or as the parent of a final block that is kept with it.

@@ -41,7 +41,7 @@ module _ (stakes : List ℕ) (genesis : ℕ → ℕ) (honest : Test) (lives : Li
   abbrev fed : ℕ → List Arrival
   fed n = lives n .came
 
-  kept-same : (n s b p x : ℕ) → T (honest n) → blockKept lives n s b p x ≡ book.keptBy stakes genesis honest fed n s b p x
+  pub kept-same : (n s b p x : ℕ) → T (honest n) → blockKept lives n s b p x ≡ book.keptBy stakes genesis honest fed n s b p x
   kept-same n s b p x h = ap (λ (l : Ledger). keepsBlock l s b p x) (all n h .lived .ledger)
 
   pub parents : OneParent honest lives → book.OneParent stakes genesis honest fed

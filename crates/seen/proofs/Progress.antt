@@ -69,7 +69,7 @@ module _ (stakes : List ℕ) (own genesis : ℕ) (size : Sized stakes own) (life
   words-are : ledgerIn life ≡ now
   words-are = h .ledger
 
-  gives : (k : CertificateKind) (s b : ℕ) → isOtherKind k ≡ false → 1 ≤ s → s ≤ lastSlot → blockMisfits k b ≡ false → T (held now k s b) → Gives stakes life k s b
+  pub gives : (k : CertificateKind) (s b : ℕ) → isOtherKind k ≡ false → 1 ≤ s → s ≤ lastSlot → blockMisfits k b ≡ false → T (held now k s b) → Gives stakes life k s b
   unfolding writePanel
   gives k s b kind lo hi block t =
       record {

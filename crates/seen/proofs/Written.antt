@@ -3,7 +3,7 @@ use mathlib.Core.Path.{_≡_, refl, sym, ap, _∙_, subst}
 use mathlib.Core.Bool.{Bool, true, false, not}
 use mathlib.Core.List.{List}
 use mathlib.Core.Logic.{_⊎_, inl, inr}
-use Prim.Native.Nat.{ℕ, _-_, _<_}
+use Prim.Native.Nat.{ℕ, _-_, _<_, _^_}
 use native.Mathlib.Omega.{arith}
 use lib.Dec.{T}
 use lib.ListN.{length, take}
@@ -104,14 +104,21 @@ module _ (stakes : List ℕ) (own genesis : ℕ) (size : Sized stakes own) (v : 
   unfolding writeCertificate certificateVerdict
   kind-written room kind s b n e = refuse-fine _ _ _ (refuse-fine _ _ _ (wrote-fine _ _ n e) .1) .0
 
+  -- A written certificate is accepted as what was asked for.
+  pub certificate-accepted : (buffer after : List ℕ) (kind s b n : ℕ) → b < 2 ^ 64 → Wrote (certificateOn (v .words) (length buffer) kind s b) buffer 0 n after
+      → AcceptedAs (checkCertificate stakes (take n after)) (kindIn (length stakes) kind) s b
+  certificate-accepted buffer after kind s b n small w =
+      let p = laid-certificate buffer after kind s b n w in
+      subst (λ (x : List ℕ). AcceptedAs (checkCertificate stakes x) (kindIn (length stakes) kind) s b) (sym (p .bytes))
+      (certificate-written stakes own genesis size (v .came) (length buffer) (kindIn (length stakes) kind) s b n small (p .answer))
+
   accepted : CertificateAccepted stakes (v .words) × ProofAccepted stakes (v .words)
   accepted = (
     (λ buffer after values kind s b n number missing small w c.
         let p = laid-certificate buffer after kind s b n w in
         subst (λ (x : ℕ). NamedAs number values x s b) (number-back (length stakes) kind (kind-written (length buffer) kind s b n (p .answer)))
         (named (length stakes) (checkCertificate stakes (take n after)) number values missing (kindIn (length stakes) kind) s b c
-        (subst (λ (x : List ℕ). AcceptedAs (checkCertificate stakes x) (kindIn (length stakes) kind) s b) (sym (p .bytes))
-        (certificate-written stakes own genesis size (v .came) (length buffer) (kindIn (length stakes) kind) s b n small (p .answer))))),
+        (certificate-accepted buffer after kind s b n small w))),
     (λ buffer after values s b n number missing small w c.
         let p = laid-proof buffer after s b n w in
         let a = proof-written stakes own genesis size (v .came) (length buffer) s b n small (p .answer) in (

@@ -1,28 +1,26 @@
 -- The written rules meet the interface of progress at the live nodes, and so these never hang.
-use mathlib.Core.Path.{_≡_, sym, ap, _∙_, subst}
-use mathlib.Core.Bool.{Bool, false, not, _&&_, _||_}
+use mathlib.Core.Bool.{Bool, not, _&&_, _||_}
 use mathlib.Core.List.{List}
-use Prim.Native.Nat.{ℕ, zero, suc, _≤_}
+use Prim.Native.Nat.{ℕ, _≤_}
 use native.Mathlib.Omega.{arith}
-use lib.Dec.{T, eqb, eqb→eq, eqb-refl, T-not, not-T}
-use lib.ListN.{length, getD}
+use lib.Dec.{T, T-not, not-T}
+use lib.ListN.{length}
 use Rattle.rulebook.specs.Weights.{lastSlot, weight, totalTo, reaches, dWeights}
-use Rattle.rulebook.specs.Ledger.{Ledger, none, fresh, cellAt, isWatcher, ownCell, noInitial, isArmed}
+use Rattle.rulebook.specs.Ledger.{Ledger, none, fresh, cellAt, ownCell, noInitial, isArmed}
 use Rattle.rulebook.specs.Taking.{Arrival}
 use Rattle.safety.specs.Slot.{Test, Ballot, notar, notarFallback, skip, skipFallback, Heavy}
 use Rattle.safety.specs.Ballots.{has}
-use Rattle.safety.specs.Moves.{notFor, SameTable}
+use Rattle.safety.specs.Moves.{SameTable}
 use Rattle.safety.specs.Ring.{life, castBy, Ring}
 use Rattle.safety.specs.Watchers.{watched}
-use Rattle.safety.proofs.Tests.{not-false, and-T, T-and, or-T, T-left, T-right}
-use Rattle.safety.proofs.Weighing.{reaches-more, weight-mono}
-use Rattle.safety.proofs.Cells.{initial-cases, notar-present, skip-present, is-notar, notar-some, not-both, one-block}
-use Rattle.safety.proofs.Safety.{weight-padded, in-table, end-ready, end-table, own-stored, counted, lawful}
+use Rattle.safety.proofs.Tests.{and-T, T-and, or-T, T-left, T-right}
+use Rattle.safety.proofs.Weighing.{weight-mono}
+use Rattle.safety.proofs.Safety.{weight-padded, in-table, end-ready, own-stored, counted, lawful}
 use Rattle.chain.specs.OneChain.{keptBy}
-use Rattle.progress.specs.Rest.{Backs, Initial, voted, skips, Elsewhere, skipped, other, Decided, backed, passed}
+use Rattle.progress.specs.Rest.{Initial, Decided, backed, passed}
 use Rattle.progress.specs.Progress as end
 use Rattle.progress.specs.Watching.{DecidedEverywhere, notarized, skippedOver}
-use Rattle.progress.proofs.NeverHangs.{as-ledger, same-window}
+use Rattle.progress.proofs.NeverHangs as progress
 use Rattle.progress.proofs.Resting as ledger
 use Rattle.progress.proofs.Ends.{lives-settle, parents-alone}
 use Rattle.progress.proofs.Watching.{Stand, behind, over, three-there, four-there, armed-up}
@@ -32,7 +30,7 @@ use Rattle.stopped.proofs.Deciding.{some-live, live-decided, live-next-
 use Rattle.stopped.proofs.Falling as falling
 
 -- Rule D's weights in the table are so in a fresh node's padded one.
-d-ledger : (ws : List ℕ) (me g : ℕ) (l : Ledger) (p q : Test) → SameTable (fresh ws me g) l
+pub d-ledger : (ws : List ℕ) (me g : ℕ) (l : Ledger) (p q : Test) → SameTable (fresh ws me g) l
     → T (dWeights (totalTo ws (length ws)) (weight ws (length ws) p) (weight ws (length ws) q))
     → T (dWeights (l .total) (weight (l .stakes) (l .count) p) (weight (l .stakes) (l .count) q))
 unfolding fresh
@@ -60,51 +58,19 @@ module _ (stakes : List ℕ) (genesis : ℕ → ℕ) (honest live : Test) (fed :
     h : T (honest n)
     h = enough .honestToo n alive
 
-    same : SameTable (fresh stakes n (genesis n)) (ends n)
-    same = end-table stakes genesis honest fed ring n h
-
-    mine : (s : ℕ) → ownCell (ends n) s ≡ cellAt (ends n) s n
-    mine s = ap (λ (j : ℕ). cellAt (ends n) s j) (end-ready stakes genesis honest fed ring n h .own)
-
-    votes : isWatcher (ends n) ≡ false
-    unfolding isWatcher fresh
-    votes =
-        not-false (eqb (ends n .own) (ends n .count)) (not-T (eqb (ends n .own) (ends n .count))
-        (λ t. omega (arith, eqb→eq (ends n .own) (ends n .count) t, same .own, same .count, in-table stakes genesis honest fed ring n h)))
-
-    positive : 1 ≤ ends n .total
-    positive = end-ready stakes genesis honest fed ring n h .inv .some
-
     reach : (k : ℕ) (p : Test) → Heavy k stakes (length stakes) p → T (reaches k (ends n .total) (weight (ends n .stakes) (ends n .count) p))
-    reach k p t = as-ledger k stakes n (genesis n) (ends n) p same t
+    reach = progress.reach stakes genesis honest fed ring live n h
 
-    backs : (p x : ℕ) → Backs stakes (length stakes) live genesis casts keptAt pools arm n p x → ledger.BackedBy (ends n) positive p x
-    unfolding fresh
-    backs zero x e = e ∙ sym (same .genesis)
-    backs (suc p) x t = reach 3 (λ m. pools n (suc p) m (notar x) || pools n (suc p) m (notarFallback x)) t
-
-    present : (s : ℕ) → Initial stakes (length stakes) live genesis casts keptAt pools arm n s → T (not (noInitial (cellAt (ends n) s n)))
-    present s (voted c t) = notar-present (cellAt (ends n) s n) (notar-some (cellAt (ends n) s n) c t)
-    present s (skips t) = skip-present (cellAt (ends n) s n) t
-
-    elsewhere : (s m b : ℕ) → Elsewhere stakes (length stakes) live genesis casts keptAt pools arm n s m b → T (notFor b (cellAt (ends n) s m))
-    elsewhere s m b (skipped t) =
-        let c = cellAt (ends n) s m in
-        T-and (not (noInitial c)) (not (has c (notar b))) (skip-present c t)
-        (not-T (has c (notar b)) (λ u. not-both c (end-ready stakes genesis honest fed ring n h .inv .neat s m) (notar-some c b u) t))
-    elsewhere s m b (other d ne t) =
-        let c = cellAt (ends n) s m in
-        T-and (not (noInitial c)) (not (has c (notar b))) (notar-present c (notar-some c d t))
-        (not-T (has c (notar b)) (λ u. ne (one-block c d b t u)))
-
-    -- THE RULES MEET THE INTERFACE.
+    -- THE RULES MEET THE INTERFACE, as they do that of progress; rule D by both its arms.
     resting : end.AtRest (ends n) → lean.Resting stakes (length stakes) honest live genesis casts keptAt pools arm n
     resting rest =
+        let own = progress.resting stakes genesis honest fed ring live n h rest in
         record {
-          arms = λ s p x lo hi f lt b between. ledger.arms (ends n) positive rest s p x lo hi f lt (backs p x b)
-              (λ t y z. reach 3 (λ m. pools n t m skip || pools n t m skipFallback) (between t y z));
-          fallsBack = λ s b lo hi init nb nf w g. falling.falls (ends n) positive rest votes n mine s b lo hi (present s init) nb nf
-              (d-ledger stakes n (genesis n) (ends n) (λ m. pools n s m (notar b)) (λ m. pools n s m skip) same w)
+          arms = own .arms;
+          fallsBack = λ s b lo hi init nb nf w g. falling.falls (ends n) (progress.positive stakes genesis honest fed ring live n h) rest
+              (progress.votes stakes genesis honest fed ring live n h) n (progress.mine stakes genesis honest fed ring live n h) s b lo hi
+              (progress.present stakes genesis honest fed ring live n h s init) nb nf
+              (d-ledger stakes n (genesis n) (ends n) (λ m. pools n s m (notar b)) (λ m. pools n s m skip) (progress.same stakes genesis honest fed ring live n h) w)
               (λ z. let x = g z in
               record {
                 slot = x .slot;
@@ -114,18 +80,12 @@ module _ (stakes : List ℕ) (genesis : ℕ → ℕ) (honest live : Test) (fed :
                 below = x .lower;
                 holds = reach 3 (λ m. pools n (x .slot) m (notar (x .parent)) || pools n (x .slot) m (notarFallback (x .parent))) (x .held);
               });
-          skipsLate = λ s c lo hi v nf w. ledger.skips-late (ends n) positive rest votes n mine s c lo hi v nf
-              (λ b z. let x = w b in
-              reaches-more 2 (ends n .total) (weight (ends n .stakes) (ends n .count) (x .set)) (weight (ends n .stakes) (ends n .count) (λ m. notFor b (cellAt (ends n) s m)))
-              (weight-mono (ends n .stakes) (ends n .count) (x .set) (λ m. notFor b (cellAt (ends n) s m)) (λ m t. elsewhere s m b (x .all m t)))
-              (reach 2 (x .set) (x .heavy)));
-          window = λ s lo hi nf t. subst (λ (w : ℕ). T (not (none (getD (ends n .armed) w 0)))) (sym (same-window s lo hi nf)) t;
+          skipsLate = own .skipsLate;
+          window = own .window;
         }
 
-    initial-of : (s : ℕ) → T (not (noInitial (ownCell (ends n) s))) → Initial stakes (length stakes) live genesis casts keptAt pools arm n s
-    initial-of s t =
-        let c = cellAt (ends n) s n in
-        initial-cases c (rw (mine s) at t) (λ z. voted (c .notar) (is-notar c (c .notar) z (eqb-refl (c .notar)))) (λ z. skips z)
+    voted : (s : ℕ) → Initial stakes (length stakes) live genesis casts keptAt pools arm n s → T (not (noInitial (ownCell (ends n) s)))
+    voted s init = rw (progress.mine stakes genesis honest fed ring live n h s) (progress.present stakes genesis honest fed ring live n h s init)
 
     -- What its own cell has it cast, and what it cast stands there.
     told : (s : ℕ) (v : Ballot) → T (casts s n v) → T (castBy stakes genesis honest fed n s v)
@@ -171,11 +131,11 @@ module _ (stakes : List ℕ) (genesis : ℕ → ℕ) (honest live : Test) (fed :
     arrived =
         record {
           votes = λ n m s v a k lo hi f t. mail .votes n m s v a k lo hi f (told m k s v t);
-          initial = λ n s a lo hi t. initial-of n a s (mail .initial n s a lo hi t);
-          blocks = λ n m s b p x a k hi f v t w.
-              mail .blocks n m s b p x a k hi f (told n a s (notar b) v) t
+          initial = λ n s a lo hi t. progress.initial-of stakes genesis honest fed ring live n (enough .honestToo n a) s (mail .initial n s a lo hi t);
+          blocks = λ n m s b p x a k hi init f v t w.
+              mail .blocks n m s b p x a k hi (λ j l. voted j l s (init j l)) f (told n a s (notar b) v) t
               (omega (arith, w, out-less s b));
-          leans = λ n s b lo hi init a t. leans s b (allLean n s b lo hi (λ m k. rw (mine m k s) (present m k s (init m k))) a (told n a s (notar b) t));
+          leans = λ n s b lo hi init a t. leans s b (allLean n s b lo hi (λ m k. voted m k s (init m k)) a (told n a s (notar b) t));
         }
 
     quiet : lean.Quiet stakes (length stakes) honest live genesis casts keptAt pools arm u

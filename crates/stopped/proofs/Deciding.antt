@@ -1,19 +1,19 @@
 -- Why no slot is left undecided at the live nodes: the whole argument, over what they cast, keep and have in their pools. A block that the live
 -- votes do not outvote has rule D's weights by these votes alone, and so has its parent in the slot before; where there is none, rule E's weights
 -- are there by these votes alone. A final vote is in nobody's way: 60 for its block leave no room for 60, or for over 40, that speak for another.
-use mathlib.Core.Path.{_≡_, refl, sym, subst}
+use mathlib.Core.Path.{_≡_, subst}
 use mathlib.Core.Bool.{Bool, true, false, not, _&&_, _||_}
 use mathlib.Core.List.{List}
 use Prim.Native.Nat.{ℕ, zero, suc, _+_, _*_, _≤_, _<_}
 use native.Mathlib.Omega.{arith}
 use native.Mathlib.Decide.{ℕ-discrete}
 use lib.Dec.{T, leb, leb→le, nleb→lt, T-not, not-T}
-use Rattle.rulebook.specs.Weights.{lastSlot, weight, totalTo, reaches, isFirst, dWeights}
+use Rattle.rulebook.specs.Weights.{weight, totalTo, reaches, isFirst, dWeights}
 use Rattle.safety.specs.Slot.{Ballot, notar, notarFallback, skip, skipFallback, final, Test, Heavy, Quorum, Lawful}
 use Rattle.safety.proofs.Tests.{and-T, T-and, or-T, T-left, T-right, by-test}
 use Rattle.safety.proofs.Weighing.{reaches-le, le-reaches, weights-more, weight-mono, weight-cover, weight-apart, weight-find, weight-zero}
-use Rattle.progress.specs.Rest.{HeldThree, HeldFour, Initial, voted, skips, Elsewhere, skipped, other, Opposed, Grounded, Decided, backed, passed, Going}
-use Rattle.progress.proofs.Going.{first-one}
+use Rattle.progress.specs.Rest.{HeldThree, HeldFour, Initial, voted, skips, Elsewhere, skipped, other, Opposed, Grounded, Decided, backed, passed}
+use Rattle.progress.proofs.Ascending.{not-first-some, all-going, armed-behind}
 use Rattle.stopped.specs.Leaning.{liveFor, liveAgainst, liveSkips, liveWithSkips, Leans, outvoted, outright, withSkips, Resting, Quiet, LiveDecided, LiveNextArmed}
 
 split : (h c : Bool) → T h → T (h && not c || h && c)
@@ -213,8 +213,9 @@ module _ (ws : List ℕ) (k : ℕ) (honest live : Test) (genesis : ℕ → ℕ) 
   against true false false f t = tt
   against false c d f t = absurd t
 
-  parent-of : (s b : ℕ) → suc s ≤ u → T (not (isFirst (suc s))) → 5 * out (suc s) b ≤ 2 * total → Backing (suc s) b → Parent s b
-  parent-of s b hi nf few y =
+  parent-of : (s b : ℕ) → suc s ≤ u → ((n : ℕ) → T (live n) → Init n (suc s)) → T (not (isFirst (suc s))) → 5 * out (suc s) b ≤ 2 * total
+      → Backing (suc s) b → Parent s b
+  parent-of s b hi init nf few y =
       let v = voter (suc s) b y in
       let f = quiet .follows (v .0) (v .1) (suc s) b nf (v .2) in
       record {
@@ -228,7 +229,7 @@ module _ (ws : List ℕ) (k : ℕ) (honest live : Test) (genesis : ℕ → ℕ) 
             (λ n. against (live n) (cast s n (notar (f .parent))) (cast (suc s) n (notar b))
             (λ h c. let g = quiet .follows n h (suc s) b nf c in
             let o = quiet .alone (v .0) (suc s) b (g .slot) (g .parent) (f .slot) (f .parent) (v .1)
-            (quiet .mail .blocks n (v .0) (suc s) b (g .slot) (g .parent) h (v .1) hi nf c (g .keeps) few) (f .keeps) in
+            (quiet .mail .blocks n (v .0) (suc s) b (g .slot) (g .parent) h (v .1) hi init nf c (g .keeps) few) (f .keeps) in
             subst (λ (x : ℕ). T (cast s n (notar x))) (o .1)
             (subst (λ (j : ℕ). T (cast j n (notar (g .parent)))) (omega (arith, g .before)) (g .voted))));
       }
@@ -241,22 +242,19 @@ module _ (ws : List ℕ) (k : ℕ) (honest live : Test) (genesis : ℕ → ℕ) 
   strong (suc s) b lo hi init v lv cv few n h =
       let y : Backing (suc s) b = backing (suc s) b few (quiet .mail .leans v (suc s) b lo hi (init (suc s) lo (omega arith)) lv cv) in
       behind (suc s) b lo hi (init (suc s) lo (omega arith)) y
-      (λ nf m g. let p = parent-of s b hi nf few y in
-      let one : 1 ≤ s = some s nf in
+      (λ nf m g. let here : (n : ℕ) → T (live n) → Init n (suc s) = init (suc s) lo (omega arith) in
+      let p = parent-of s b hi here nf few y in
+      let one = not-first-some s nf in
       record {
         slot = s;
         parent = p .parent;
-        keeps = quiet .mail .blocks (p .node) m (suc s) b s (p .parent) (p .isLive) g hi nf (p .votes) (p .keeps) few;
+        keeps = quiet .mail .blocks (p .node) m (suc s) b s (p .parent) (p .isLive) g hi here nf (p .votes) (p .keeps) few;
         some = one;
         lower = omega arith;
         held = three-held s (p .parent) one (omega arith)
             (strong s (p .parent) one (omega arith) (λ t x z. init t x (omega arith)) (p .node) (p .isLive) (p .votedIt) (omega (arith, p .fewer))) m g;
       })
       n h
-    where
-      some : (s : ℕ) → T (not (isFirst (suc s))) → 1 ≤ s
-      some zero nf = absurd (T-not (isFirst 1) nf first-one)
-      some (suc s) nf = omega arith
 
   -- ---- every block is outvoted
 
@@ -347,59 +345,15 @@ module _ (ws : List ℕ) (k : ℕ) (honest live : Test) (genesis : ℕ → ℕ) 
           let sp = spread-all s lo hi here f in
           passed (λ n h. skips-all s lo hi here sp n h (here n h)) (four-held s lo hi here sp)
 
-  -- ---- arming
-
-  -- A first slot above decided slots: looking down from it, a parent is ready.
-  arms-down : (s n : ℕ) → T (live n) → 1 ≤ s → s ≤ lastSlot → T (isFirst s) → ((t : ℕ) → 1 ≤ t → t < s → Decided ws k live genesis cast kept pool armed t)
-      → (j : ℕ) → j < s → ((t : ℕ) → j < t → t < s → Four n t) → T (armed n s)
-  arms-down s n h lo hi f dec zero l skipsTo = rest n h .arms s 0 (genesis n) lo hi f l refl skipsTo
-  arms-down s n h lo hi f dec (suc j) l skipsTo = go (dec (suc j) (omega arith) l) (arms-down s n h lo hi f dec j (omega arith))
-    where
-      go : Decided ws k live genesis cast kept pool armed (suc j) → (((t : ℕ) → j < t → t < s → Four n t) → T (armed n s)) → T (armed n s)
-      go (backed b all held) below = rest n h .arms s (suc j) b lo hi f l (held n h) skipsTo
-      go (passed all held) below =
-          below (λ t x y. elim (ℕ-discrete t (suc j)) [
-            | yes e ↦ subst (λ (i : ℕ). Four n i) (sym e) (held n h)
-            | no ne ↦ skipsTo t (omega arith) y
-          ])
-
-  -- The next slot's window is armed where all slots up to it are going.
-  armed-next : (s : ℕ) → suc s ≤ lastSlot → ((t : ℕ) → 1 ≤ t → t ≤ s → Going ws k live genesis cast kept pool armed t) → (n : ℕ) → T (live n) → T (armed n (suc s))
-  armed-next s hi prior n h =
-      by-test (isFirst (suc s))
-      (λ f. arms-down (suc s) n h (omega arith) hi f (λ t x y. prior t x (omega arith) .decided) s (omega arith) (λ t x y. absurd (omega arith)))
-      (λ nf. let one : 1 ≤ s = some s nf in rest n h .window s one hi nf (prior s one (omega arith) .arming n h))
-    where
-      some : (s : ℕ) → T (not (isFirst (suc s))) → 1 ≤ s
-      some zero nf = absurd (T-not (isFirst 1) nf first-one)
-      some (suc s) nf = omega arith
-
-  -- Slots ascending.
-  up-to : (s : ℕ) → s ≤ u → (t : ℕ) → 1 ≤ t → t ≤ s → Going ws k live genesis cast kept pool armed t
-  up-to zero hi t lo l = absurd (omega arith)
-  up-to (suc s) hi t lo l =
-      let prior = up-to s (omega arith) in
-      elim (ℕ-discrete t (suc s)) [
-        | yes e ↦ subst (λ (j : ℕ). Going ws k live genesis cast kept pool armed j) (sym e) (here prior)
-        | no ne ↦ prior t lo (omega arith)
-      ]
-    where
-      here : ((t : ℕ) → 1 ≤ t → t ≤ s → Going ws k live genesis cast kept pool armed t) → Going ws k live genesis cast kept pool armed (suc s)
-      here prior =
-          let arm : (n : ℕ) → T (live n) → T (armed n (suc s)) = armed-next s (omega (arith, quiet .last)) prior in
-          let all : (t : ℕ) → 1 ≤ t → t ≤ suc s → (n : ℕ) → T (live n) → T (armed n t) =
-          λ t x y n h. elim (ℕ-discrete t (suc s)) [
-            | yes e ↦ subst (λ (j : ℕ). T (armed n j)) (sym e) (arm n h)
-            | no ne ↦ prior t x (omega arith) .arming n h
-          ] in
-          record { arming = arm; decided = decide (suc s) (omega arith) hi (λ t x y n h. quiet .mail .initial n t h x (omega arith) (all t x y n h)) }
-
 -- NO SLOT IS LEFT UNDECIDED at the live nodes.
 pub live-decided : (ws : List ℕ) (k : ℕ) (honest live : Test) (genesis : ℕ → ℕ) (cast : ℕ → ℕ → Ballot → Bool) (kept : ℕ → ℕ → ℕ → ℕ → ℕ → Bool)
     (pool : ℕ → ℕ → ℕ → Ballot → Bool) (armed : ℕ → ℕ → Bool) → LiveDecided ws k honest live genesis cast kept pool armed
-live-decided ws k honest live genesis cast kept pool armed u quiet s lo hi = up-to ws k honest live genesis cast kept pool armed u quiet u (omega arith) s lo hi
+live-decided ws k honest live genesis cast kept pool armed u quiet =
+    all-going ws k live genesis cast kept pool armed (λ n h. quiet .resting n h .arms) (λ n h. quiet .resting n h .window) u (quiet .last) (quiet .mail .initial)
+    (decide ws k honest live genesis cast kept pool armed u quiet)
 
 pub live-next-armed : (ws : List ℕ) (k : ℕ) (honest live : Test) (genesis : ℕ → ℕ) (cast : ℕ → ℕ → Ballot → Bool) (kept : ℕ → ℕ → ℕ → ℕ → ℕ → Bool)
     (pool : ℕ → ℕ → ℕ → Ballot → Bool) (armed : ℕ → ℕ → Bool) → LiveNextArmed ws k honest live genesis cast kept pool armed
-live-next-armed ws k honest live genesis cast kept pool armed u quiet last f n h =
-    armed-next ws k honest live genesis cast kept pool armed u quiet u last (λ t lo hi. up-to ws k honest live genesis cast kept pool armed u quiet u (omega arith) t lo hi) n h
+live-next-armed ws k honest live genesis cast kept pool armed u quiet last f =
+    armed-behind ws k live genesis cast kept pool armed (λ n h. quiet .resting n h .arms) (λ n h. quiet .resting n h .window) u (quiet .last) (quiet .mail .initial)
+    (decide ws k honest live genesis cast kept pool armed u quiet) last

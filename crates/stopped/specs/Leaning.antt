@@ -45,13 +45,13 @@ module _ (stakes : List ℕ) (count : ℕ) (honest live : Test) (genesis : ℕ �
     pub window : (s : ℕ) → 1 ≤ s → suc s ≤ lastSlot → T (not (isFirst (suc s))) → T (armed n s) → T (armed n (suc s))
 
   -- WHAT HAS ARRIVED, in slots up to u: every vote that a live node cast (finals need not) in every live pool; an own initial vote in every
-  -- slot of an armed window; outside first slots, a block that the live votes do not outvote at every live node. And where every live
-  -- node has its initial vote, these votes lean.
+  -- slot of an armed window. And where every live node has its initial vote: outside first slots, a block that the live votes do not outvote
+  -- at every live node; and the votes lean.
   pub record LiveMail (u : ℕ) : Type 0 where
     pub votes : (n m s : ℕ) (v : Ballot) → T (live n) → T (live m) → 1 ≤ s → s ≤ u → T (not (isFinalVote v)) → T (cast s m v) → T (pool n s m v)
     pub initial : (n s : ℕ) → T (live n) → 1 ≤ s → s ≤ u → T (armed n s) → Initial stakes count live genesis cast kept pool armed n s
-    pub blocks : (n m s b p x : ℕ) → T (live n) → T (live m) → s ≤ u → T (not (isFirst s)) → T (cast s n (notar b)) → T (kept n s b p x)
-        → 5 * liveAgainst s b ≤ 2 * totalTo stakes count → T (kept m s b p x)
+    pub blocks : (n m s b p x : ℕ) → T (live n) → T (live m) → s ≤ u → ((j : ℕ) → T (live j) → Initial stakes count live genesis cast kept pool armed j s)
+        → T (not (isFirst s)) → T (cast s n (notar b)) → T (kept n s b p x) → 5 * liveAgainst s b ≤ 2 * totalTo stakes count → T (kept m s b p x)
     pub leans : (n s b : ℕ) → 1 ≤ s → s ≤ u → ((m : ℕ) → T (live m) → Initial stakes count live genesis cast kept pool armed m s)
         → T (live n) → T (cast s n (notar b)) → Leans s b
 

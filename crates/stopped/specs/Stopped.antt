@@ -44,6 +44,10 @@ module _ (stakes : List ℕ) (genesis : ℕ → ℕ) (honest live : Test) (fed :
   abbrev pub FewStopped : Type 0
   FewStopped = 5 * weight stakes (length stakes) (λ n. honest n && not (live n)) ≤ totalTo stakes (length stakes)
 
+  -- Every live node has an initial vote in slot s.
+  abbrev pub AllVoted : ℕ → Type 0
+  AllVoted s = (n : ℕ) → T (live n) → T (not (noInitial (ownCell (life stakes genesis honest fed n) s)))
+
   -- THE PREMISE besides that of the ring: the mail of the slots up to u is in, at the ends of the live nodes' lives.
   pub record LiveMailIn (u : ℕ) : Type 0 where
     -- Every live node has had an accepted arrival;
@@ -54,14 +58,11 @@ module _ (stakes : List ℕ) (genesis : ℕ → ℕ) (honest live : Test) (fed :
     -- every live node has an initial vote in every slot of a window that it has armed;
     pub initial : (n s : ℕ) → T (live n) → 1 ≤ s → s ≤ u → T (isArmed (life stakes genesis honest fed n) s)
         → T (not (noInitial (ownCell (life stakes genesis honest fed n) s)))
-    -- outside first slots, a block that the live votes do not outvote is kept by every live node with the parent that its voters keep.
-    pub blocks : (n m s b p x : ℕ) → T (live n) → T (live m) → s ≤ u → T (not (isFirst s)) → T (castBy stakes genesis honest fed n s (notar b))
+    -- outside first slots, where all of them have voted, a block that the live votes do not outvote is kept by every live node with the parent
+    -- that its voters keep.
+    pub blocks : (n m s b p x : ℕ) → T (live n) → T (live m) → s ≤ u → AllVoted s → T (not (isFirst s)) → T (castBy stakes genesis honest fed n s (notar b))
         → T (keptBy stakes genesis honest fed n s b p x) → 5 * liveOthers s b ≤ 2 * totalTo stakes (length stakes)
         → T (keptBy stakes genesis honest fed m s b p x)
-
-  -- Every live node has an initial vote in slot s.
-  abbrev pub AllVoted : ℕ → Type 0
-  AllVoted s = (n : ℕ) → T (live n) → T (not (noInitial (ownCell (life stakes genesis honest fed n) s)))
 
   -- The live votes lean on block b of slot s: those not for it are over 40, or those for it are over 40, or reach 20 and with the skips 60.
   pub data Leaning (s b : ℕ) : Type 0 where

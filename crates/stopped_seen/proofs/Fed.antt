@@ -1,24 +1,30 @@
--- What was fed to the live nodes is enough, over seen lives; and feeding them ends.
-use mathlib.Core.List.{List}
+-- What was fed to the live nodes is enough, over seen lives; feeding them ends, and can always be done.
+use mathlib.Core.Path.{_≡_, sym, _∙_, subst}
+use mathlib.Core.List.{List, _++_}
 use Prim.Native.Nat.{ℕ, suc}
 use native.Mathlib.Omega.{arith}
 use lib.Dec.{T}
+use Rattle.rulebook.specs.Weights.{lastSlot}
 use Rattle.rulebook.specs.Ledger.{cellAt, keepsBlock}
 use Rattle.rulebook.specs.Rules.{fallbackWeights}
 use Rattle.rulebook.specs.Taking.{Arrival}
 use Rattle.safety.specs.Slot.{Test, notar}
 use Rattle.safety.specs.Ballots.{has}
+use Rattle.safety.specs.Ring.{announcedBy}
+use Rattle.safety.specs.Ring as safe
+use Rattle.stopped.specs.Stopped as bookStopped
+use Rattle.stopped.proofs.Leans.{honest-heavy}
 use Rattle.stopped_mail.specs.Fed as book
 use Rattle.stopped_mail.specs.Rounds as bookRounds
 use Rattle.stopped_mail.proofs.Fed as feeding
 use Rattle.stopped_mail.proofs.Rounds as rounds
-use Rattle.seen.specs.Ring.{Lives, Ring}
-use Rattle.seen.proofs.Ring.{told-cast, cast-told, book-ring}
+use Rattle.seen.specs.Ring.{Lives, Nodes, Ring}
+use Rattle.seen.proofs.Ring.{told-cast, cast-told, book-ring, book-fed-ring, seen-ring}
 use Rattle.seen.proofs.Chain.{parents, arrivals-are-enough}
 use Rattle.seen.proofs.Fed.{armed-words, initial-or-timed}
-use Rattle.stopped_seen.specs.Fed.{LiveAsked, LiveMailFed, LiveMailFedIsEnough, LiveAskedWeigh, OneAnnouncedIsOne, FedFifthStopped, LiveRounds, LiveRoundsDecide}
+use Rattle.stopped_seen.specs.Fed.{LiveAsked, LiveMailFed, LiveMailFedIsEnough, LiveAskedWeigh, OneAnnounced, OneAnnouncedIsOne, FedFifthStopped, LiveRounds, LiveRoundsDecide, LiveNoRingStuck, FifthNotStuck, NobodyStuck}
 use Rattle.stopped_seen.proofs.Weights.{others-same, leaning-down}
-use Rattle.stopped_seen.proofs.Stopped.{seen-life, to, back, one-up, mail-up, fifth-stopped}
+use Rattle.stopped_seen.proofs.Stopped.{seen-life, to, back, one-up, voted-up, voted-down, lean-down, mail-up, twenty-and-twenty, over-eighty-leans, live-never-hang, one-block-leans, fifth-stopped}
 
 module _ (stakes : List ℕ) (genesis : ℕ → ℕ) (honest live : Test) (lives : Lives) (ring : Ring stakes genesis honest lives) (sub : (n : ℕ) → T (live n) → T (honest n)) where
   abbrev fed : ℕ → List Arrival
@@ -30,6 +36,7 @@ module _ (stakes : List ℕ) (genesis : ℕ → ℕ) (honest live : Test) (lives
       let all = seen-life stakes genesis honest live lives ring sub in
       record {
         next = a .next;
+        allVoted = voted-up stakes genesis honest live lives ring sub s (a .allVoted);
         voter = a .voter;
         voted = cast-told stakes genesis live lives all n s (notar b) (a .voter) (a .voted);
         kept = back stakes genesis honest live lives ring sub (λ l. T (keepsBlock l s b p x)) n (a .voter) (a .kept);
@@ -41,6 +48,7 @@ module _ (stakes : List ℕ) (genesis : ℕ → ℕ) (honest live : Test) (lives
       let all = seen-life stakes genesis honest live lives ring sub in
       record {
         next = a .next;
+        allVoted = voted-down stakes genesis honest live lives ring sub s (a .allVoted);
         voter = a .voter;
         voted = told-cast stakes genesis live lives all n s (notar b) (a .voter) (a .voted);
         kept = to stakes genesis honest live lives ring sub (λ l. T (keepsBlock l s b p x)) n (a .voter) (a .kept);
@@ -111,3 +119,51 @@ live-rounds-decide stakes genesis honest live lives u last r few one =
       soon = e .soon;
       going = fifth-stopped stakes genesis honest live (lives k) (r .ring k) (r .honestToo) few u last (mail-up stakes genesis honest live (lives k) (r .ring k) (r .honestToo) u (e .mail)) (one k);
     }
+
+-- ---- and it can be done
+
+pub live-no-ring-stuck : LiveNoRingStuck
+live-no-ring-stuck stakes genesis honest live lives fed once enough policy =
+    let sub = enough .honestToo in
+    let g = rounds.live-no-ring-stuck stakes genesis honest live (λ n. lives n .came) (book-fed-ring stakes genesis honest lives fed) once
+    (record { honestToo = sub; heavy = enough .heavy }) policy in
+    let same : (after : Lives) → ((n : ℕ) → after n .came ≡ lives n .came ++ g .later n) → _≡_ {A = ℕ → List Arrival} (g .arrived) (λ n. after n .came) =
+    (λ after e i n. (g .goOn n ∙ sym (e n)) i) in
+    let whole : (after : Lives) → Nodes stakes genesis honest after → ((n : ℕ) → after n .came ≡ lives n .came ++ g .later n) → Ring stakes genesis honest after =
+    (λ after nodes e. seen-ring stakes genesis honest after nodes (subst (safe.Ring stakes genesis honest) (same after e) (g .ring))) in
+    record {
+      further = g .later;
+      others = g .others;
+      ring = whole;
+      announced = λ n s b p x h t. g .announced n s b p x h (subst (λ (is : List Arrival). T (announcedBy is s b p x)) (sym (g .goOn n)) t);
+      going = λ after nodes e leans.
+          let r = whole after nodes e in
+          let mail = subst (λ (f : ℕ → List Arrival). bookStopped.AllLean stakes genesis honest live f lastSlot → bookStopped.LiveMailIn stakes genesis honest live f lastSlot)
+          (same after e) (g .mail) (lean-down stakes genesis honest live after r sub lastSlot leans) in
+          live-never-hang stakes genesis honest live after r enough lastSlot (omega arith) (mail-up stakes genesis honest live after r sub lastSlot mail) leans;
+    }
+
+pub fifth-not-stuck : FifthNotStuck
+fifth-not-stuck stakes genesis honest live lives fed once sub few policy one =
+    let enough = twenty-and-twenty stakes genesis honest live lives (arrivals-are-enough stakes genesis honest lives fed once .0) sub few in
+    let g = live-no-ring-stuck stakes genesis honest live lives fed once enough policy in
+    let still-one : (after : Lives) → ((n : ℕ) → after n .came ≡ lives n .came ++ g .further n) → OneAnnounced stakes live after lastSlot =
+    (λ after e n m s b c p x q y h k lo hi t u.
+    let a = g .announced n s b p x h (subst (λ (is : List Arrival). T (announcedBy is s b p x)) (e n) t) in
+    let d = g .announced m s c q y k (subst (λ (is : List Arrival). T (announcedBy is s c q y)) (e m) u) in
+    one (a .0) (d .0) s b c p x q y (a .1) (d .1) lo hi (a .2) (d .2)) in
+    record {
+      further = g .further;
+      others = g .others;
+      ring = g .ring;
+      going = λ after nodes e.
+          let r = g .ring after nodes e in
+          g .going after nodes e
+          (one-block-leans stakes genesis honest live after r enough lastSlot (one-announced-is-one stakes genesis honest live after r sub lastSlot (still-one after e)));
+    }
+
+pub nobody-stuck : NobodyStuck
+nobody-stuck all stakes genesis honest lives fed once policy =
+    let heavy = honest-heavy stakes honest (fed .nodes .few) in
+    let g = all stakes genesis honest honest lives fed once (record { honestToo = λ n h. h; heavy = omega (arith, heavy) }) policy in
+    record { further = g .further; ring = g .ring; going = λ after nodes e. g .going after nodes e (over-eighty-leans stakes honest after heavy lastSlot) }

@@ -3,3 +3,4 @@ pub mod Weights
 pub mod Stopped
 pub mod Silent
 pub mod Fed
+pub mod Reached

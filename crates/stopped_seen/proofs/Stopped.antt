@@ -1,8 +1,8 @@
 -- The ring never hangs with a fifth stopped, over seen lives: where the mail is in by the words of the live nodes it is in by their ledgers.
 use mathlib.Core.Path.{sym, subst}
-use mathlib.Core.Bool.{true, not, _&&_}
+use mathlib.Core.Bool.{not, _&&_}
 use mathlib.Core.List.{List}
-use Prim.Native.Nat.{ℕ, suc, _+_, _*_, _≤_, _<_}
+use Prim.Native.Nat.{ℕ, suc, _+_, _*_, _≤_}
 use native.Mathlib.Omega.{arith}
 use lib.Dec.{T, leb, leb→le, nleb→lt}
 use lib.ListN.{length}
@@ -22,7 +22,7 @@ use Rattle.progress.proofs.Watching.{watcher-woken-armed}
 use Rattle.stopped.specs.Stopped as book
 use Rattle.stopped.proofs.Alive as alive
 use Rattle.stopped.proofs.Leans as leans
-use Rattle.stopped.proofs.Leans.{weight-all, either, split}
+use Rattle.stopped.proofs.Leans.{honest-heavy, split}
 use Rattle.seen.specs.Seen.{Seen, ledgerIn, NodeSeen}
 use Rattle.seen.specs.Ring.{Lives, toldBallot, Ring}
 use Rattle.seen.specs.Progress.{WatcherMail, Decided, notarized, skippedOver}
@@ -59,13 +59,13 @@ module _ (stakes : List ℕ) (genesis : ℕ → ℕ) (honest live : Test) (lives
   one-up u one n m s b c a k lo hi x y =
       one n m s b c a k lo hi (told-cast stakes genesis live lives seen-life n s (notar b) a x) (told-cast stakes genesis live lives seen-life m s (notar c) k y)
 
-  voted-up : (s : ℕ) → book.AllVoted stakes genesis honest live fed s → AllVoted stakes live lives s
+  pub voted-up : (s : ℕ) → book.AllVoted stakes genesis honest live fed s → AllVoted stakes live lives s
   voted-up s all n a = subst (λ (c : Cell). T (not (noInitial c))) (own-cell stakes n (genesis n) (lives n) (seen-life n a) s) (all n a)
 
-  voted-down : (s : ℕ) → AllVoted stakes live lives s → book.AllVoted stakes genesis honest live fed s
+  pub voted-down : (s : ℕ) → AllVoted stakes live lives s → book.AllVoted stakes genesis honest live fed s
   voted-down s all n a = subst (λ (c : Cell). T (not (noInitial c))) (sym (own-cell stakes n (genesis n) (lives n) (seen-life n a) s)) (all n a)
 
-  lean-down : (u : ℕ) → AllLean stakes live lives u → book.AllLean stakes genesis honest live fed u
+  pub lean-down : (u : ℕ) → AllLean stakes live lives u → book.AllLean stakes genesis honest live fed u
   lean-down u lean n s b lo hi all a t =
       leaning-down stakes genesis honest live lives seen-life s b (lean n s b lo hi (voted-up s all) a (cast-told stakes genesis live lives seen-life n s (notar b) a t))
 
@@ -80,8 +80,8 @@ module _ (stakes : List ℕ) (genesis : ℕ → ℕ) (honest live : Test) (lives
         votes = λ n m s v a k lo hi f t. to (λ l. T (has (cellAt l s m) v)) n a (mail .votes n m s v a k lo hi f (cast-told stakes genesis live lives seen-life m s v k t));
         initial = λ n s a lo hi t. subst (λ (c : Cell). T (not (noInitial c))) (sym (own-cell stakes n (genesis n) (lives n) (seen-life n a) s))
             (mail .initial n s a lo hi (back (λ l. T (isArmed l s)) n a t));
-        blocks = λ n m s b p x a k hi f v t w. to (λ l. T (keepsBlock l s b p x)) m k
-            (mail .blocks n m s b p x a k hi f (cast-told stakes genesis live lives seen-life n s (notar b) a v) (back (λ l. T (keepsBlock l s b p x)) n a t)
+        blocks = λ n m s b p x a k hi all f v t w. to (λ l. T (keepsBlock l s b p x)) m k
+            (mail .blocks n m s b p x a k hi (voted-up s all) f (cast-told stakes genesis live lives seen-life n s (notar b) a v) (back (λ l. T (keepsBlock l s b p x)) n a t)
             (omega (arith, w, others-same stakes genesis honest live lives seen-life s b)));
       }
 
@@ -92,8 +92,8 @@ module _ (stakes : List ℕ) (genesis : ℕ → ℕ) (honest live : Test) (lives
         votes = λ n m s v a k lo hi f t. back (λ l. T (has (cellAt l s m) v)) n a (mail .votes n m s v a k lo hi f (told-cast stakes genesis live lives seen-life m s v k t));
         initial = λ n s a lo hi t. subst (λ (c : Cell). T (not (noInitial c))) (own-cell stakes n (genesis n) (lives n) (seen-life n a) s)
             (mail .initial n s a lo hi (to (λ l. T (isArmed l s)) n a t));
-        blocks = λ n m s b p x a k hi f v t w. back (λ l. T (keepsBlock l s b p x)) m k
-            (mail .blocks n m s b p x a k hi f (told-cast stakes genesis live lives seen-life n s (notar b) a v) (to (λ l. T (keepsBlock l s b p x)) n a t)
+        blocks = λ n m s b p x a k hi all f v t w. back (λ l. T (keepsBlock l s b p x)) m k
+            (mail .blocks n m s b p x a k hi (voted-down s all) f (told-cast stakes genesis live lives seen-life n s (notar b) a v) (to (λ l. T (keepsBlock l s b p x)) n a t)
             (omega (arith, w, others-same stakes genesis honest live lives seen-life s b)));
       }
 
@@ -143,14 +143,13 @@ over-eighty-leans stakes live lives heavy u n s b lo hi all a t =
 pub nobody-stopped : NobodyStopped
 nobody-stopped stakes genesis honest lives ring u mail =
     let k = length stakes in
-    let heavy : 4 * totalTo stakes k < 5 * weight stakes k honest =
-    omega (arith, ring .nodes .few, weight-all stakes k, weight-cover stakes k (λ n. true) honest (λ n. not (honest n)) (λ n t. either (honest n))) in (
+    let heavy = honest-heavy stakes honest (ring .nodes .few) in (
       record { honestToo = λ n h. h; heavy = omega (arith, heavy) },
       record {
         woken = mail .woken;
         votes = mail .votes;
         initial = mail .initial;
-        blocks = λ n m s b p x h g hi nf v t w. mail .blocks n m s b p x h g hi nf v t
+        blocks = λ n m s b p x h g hi all nf v t w. mail .blocks n m s b p x h g hi nf v t
             (le-reaches 2 (totalTo stakes k) (liveNotar stakes honest lives s b) (omega (arith, heavy, w, covered stakes honest lives s b)));
       },
       over-eighty-leans stakes honest lives heavy u,

@@ -2,7 +2,7 @@
 -- is a statement that proofs/ proves under the same name in small letters.
 use mathlib.Core.Path.{_≡_}
 use mathlib.Core.Bool.{not, _||_}
-use mathlib.Core.List.{List}
+use mathlib.Core.List.{List, [], _++_}
 use Prim.Native.Nat.{ℕ, suc, _*_, _≤_}
 use lib.Dec.{T}
 use lib.ListN.{length}
@@ -10,6 +10,7 @@ use Rattle.rulebook.specs.Weights.{lastSlot, totalTo, isFirst}
 use Rattle.rulebook.specs.Ledger.{fresh, cellAt, noInitial}
 use Rattle.rulebook.specs.Rules.{fallbackWeights}
 use Rattle.rulebook.specs.Run.{mostRecords}
+use Rattle.rulebook.specs.Taking.{Arrival}
 use Rattle.safety.specs.Slot.{Test, Ballot, notar}
 use Rattle.safety.specs.Ring.{broughtBy, announcedBy}
 use Rattle.progress.specs.Rest.{isFinalVote}
@@ -17,17 +18,18 @@ use Rattle.progress.specs.Progress.{acceptedIn}
 use Rattle.mail.specs.Mail.{timedOutIn}
 use Rattle.mail.specs.Policy.{byPolicy}
 use Rattle.seen.specs.Seen.{ledgerIn, Earlier}
-use Rattle.seen.specs.Ring.{Lives, toldBallot, countedBallot, Ring, FedRing}
+use Rattle.seen.specs.Ring.{Lives, toldBallot, countedBallot, Nodes, Ring, FedRing}
 use Rattle.seen.specs.Chain.{blockKept, OneParent, AnnouncedOnce}
 use Rattle.seen.specs.Progress.{armedIn, Going}
-use Rattle.seen.specs.Fed.{DecidedBy}
-use Rattle.stopped_seen.specs.Stopped.{liveOthers, FewStopped, LiveMailIn, Leaning, OneBlock}
+use Rattle.seen.specs.Fed.{DecidedBy, NoRingStuck}
+use Rattle.stopped_seen.specs.Stopped.{liveOthers, LiveEnough, FewStopped, AllVoted, LiveMailIn, Leaning, AllLean, OneBlock}
 
 module _ (stakes : List ℕ) (live : Test) (lives : Lives) where
-  -- Block b of slot s is asked for, with the parent (p, x): outside first slots, the live votes do not outvote it, and live node n, whose outbox told a
-  -- vote for it, keeps it in its words with that parent.
+  -- Block b of slot s is asked for, with the parent (p, x): outside first slots, every live node has voted and their votes do not outvote it, and live node
+  -- n, whose outbox told a vote for it, keeps it in its words with that parent.
   pub record LiveAsked (n s b p x : ℕ) : Type 0 where
     pub next : T (not (isFirst s))
+    pub allVoted : AllVoted stakes live lives s
     pub voter : T (live n)
     pub voted : T (toldBallot lives n s (notar b))
     pub kept : T (blockKept lives n s b p x)
@@ -110,3 +112,43 @@ LiveRoundsDecide =
     (stakes : List ℕ) (genesis : ℕ → ℕ) (honest live : Test) (lives : ℕ → Lives) (u : ℕ) → u ≤ lastSlot → LiveRounds stakes genesis honest live lives u
     → FewStopped stakes honest live → ((k : ℕ) → OneBlock stakes live (lives k) u)
     → DecidedBy stakes live lives u (suc (mostRecords * length stakes))
+
+-- ---- and it can be done
+
+-- More that can arrive at the live nodes, after all that did. Whatever lives go on with it are a ring still.
+pub record LiveGoes (stakes : List ℕ) (genesis : ℕ → ℕ) (honest live : Test) (lives : Lives) : Type 0 where
+  pub further : ℕ → List Arrival
+  -- At the others nothing arrives: who has stopped has stopped.
+  pub others : (n : ℕ) → T (not (live n)) → further n ≡ []
+  pub ring : (after : Lives) → Nodes stakes genesis honest after → ((n : ℕ) → after n .came ≡ lives n .came ++ further n) → Ring stakes genesis honest after
+  -- No block is announced to a live node that was announced to none of them before.
+  pub announced : (n s b p x : ℕ) → T (live n) → T (announcedBy (lives n .came ++ further n) s b p x) → (m : ℕ) × T (live m) × T (announcedBy (lives m .came) s b p x)
+  -- Where the live votes then lean every slot is decided.
+  pub going : (after : Lives) → Nodes stakes genesis honest after → ((n : ℕ) → after n .came ≡ lives n .came ++ further n) → AllLean stakes live after lastSlot
+      → (s : ℕ) → 1 ≤ s → s ≤ lastSlot → Going stakes live after lastSlot s
+
+-- Whatever arrived at a ring's nodes so far, blocks by the policy at the live ones, there is such more.
+abbrev pub LiveNoRingStuck : Type 0
+LiveNoRingStuck =
+    (stakes : List ℕ) (genesis : ℕ → ℕ) (honest live : Test) (lives : Lives) → FedRing stakes genesis honest lives → AnnouncedOnce honest lives
+    → LiveEnough stakes honest live → ((n : ℕ) → T (live n) → T (byPolicy (fresh stakes n (genesis n)) (lives n .came))) → LiveGoes stakes genesis honest live lives
+
+-- Such more, by whose end every slot is decided, and its certificate written, at every live node; and so at every watcher that counts the live votes.
+pub record FifthGoes (stakes : List ℕ) (genesis : ℕ → ℕ) (honest live : Test) (lives : Lives) : Type 0 where
+  pub further : ℕ → List Arrival
+  pub others : (n : ℕ) → T (not (live n)) → further n ≡ []
+  pub ring : (after : Lives) → Nodes stakes genesis honest after → ((n : ℕ) → after n .came ≡ lives n .came ++ further n) → Ring stakes genesis honest after
+  pub going : (after : Lives) → Nodes stakes genesis honest after → ((n : ℕ) → after n .came ≡ lives n .came ++ further n)
+      → (s : ℕ) → 1 ≤ s → s ≤ lastSlot → Going stakes live after lastSlot s
+
+-- NO RING IS STUCK WITH A FIFTH STOPPED: whatever arrived so far, blocks by the policy and no two of a slot at live nodes, there is more that can arrive at the
+-- live nodes, by whose end every slot is decided at all of them.
+abbrev pub FifthNotStuck : Type 0
+FifthNotStuck =
+    (stakes : List ℕ) (genesis : ℕ → ℕ) (honest live : Test) (lives : Lives) → FedRing stakes genesis honest lives → AnnouncedOnce honest lives
+    → ((n : ℕ) → T (live n) → T (honest n)) → FewStopped stakes honest live → ((n : ℕ) → T (live n) → T (byPolicy (fresh stakes n (genesis n)) (lives n .came)))
+    → OneAnnounced stakes live lives lastSlot → FifthGoes stakes genesis honest live lives
+
+-- What is promised with nobody stopped is the case in which every honest node is live.
+abbrev pub NobodyStuck : Type 0
+NobodyStuck = LiveNoRingStuck → NoRingStuck

@@ -2,3 +2,4 @@
 pub mod Stopped
 pub mod Silent
 pub mod Fed
+pub mod Reached

@@ -40,6 +40,10 @@ module _ (stakes : List ℕ) (live : Test) (lives : Lives) where
   abbrev pub liveNotarOrSkip : ℕ → ℕ → ℕ
   liveNotarOrSkip s b = weight stakes (length stakes) (λ n. live n && (toldBallot lives n s skip || toldBallot lives n s (notar b)))
 
+  -- Every live node has an initial vote in slot s.
+  abbrev pub AllVoted : ℕ → Type 0
+  AllVoted s = (n : ℕ) → T (live n) → T (not (noInitial (cellAt (ledgerIn (lives n)) s n)))
+
   -- THE MAIL of the slots up to u is in at the live nodes:
   pub record LiveMailIn (u : ℕ) : Type 0 where
     -- every live node has armed window 1, as the first step that is answered 0 makes it do;
@@ -49,14 +53,11 @@ module _ (stakes : List ℕ) (live : Test) (lives : Lives) where
         → T (toldBallot lives m s v) → T (countedBallot lives n m s v)
     -- every live node has an initial vote in every slot of a window that it has armed;
     pub initial : (n s : ℕ) → T (live n) → 1 ≤ s → s ≤ u → T (armedIn (lives n) s) → T (not (noInitial (cellAt (ledgerIn (lives n)) s n)))
-    -- outside first slots, a block that the live votes do not outvote is kept by every live node with the parent that its voters keep.
-    pub blocks : (n m s b p x : ℕ) → T (live n) → T (live m) → s ≤ u → T (not (isFirst s)) → T (toldBallot lives n s (notar b))
+    -- outside first slots, where all of them have voted, a block that the live votes do not outvote is kept by every live node with the parent that its
+    -- voters keep.
+    pub blocks : (n m s b p x : ℕ) → T (live n) → T (live m) → s ≤ u → AllVoted s → T (not (isFirst s)) → T (toldBallot lives n s (notar b))
         → T (blockKept lives n s b p x) → 5 * liveOthers s b ≤ 2 * totalTo stakes (length stakes)
         → T (blockKept lives m s b p x)
-
-  -- Every live node has an initial vote in slot s.
-  abbrev pub AllVoted : ℕ → Type 0
-  AllVoted s = (n : ℕ) → T (live n) → T (not (noInitial (cellAt (ledgerIn (lives n)) s n)))
 
   -- The live votes lean on block b of slot s: those not for it are over 40, or those for it are over 40, or reach 20 and with the skips 60.
   pub data Leaning (s b : ℕ) : Type 0 where

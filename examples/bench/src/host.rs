@@ -56,7 +56,7 @@ impl Host {
     pub fn resume(own: Node, agreed: &Rc<Agreed>, store: Store, mut seen: Seen, now: u64) -> io::Result<Host> {
         let kept = store.load()?;
         seen.restarts += 1;
-        let mut host = Host::around(own, agreed, store, Record::from_words(kept.record), seen);
+        let mut host = Host::around(own, agreed, store, kept.record, seen);
         host.take_up_blocks(&kept.notes);
         for slot in slots() {
             for vote in host.ask(|record| record.kept_votes(slot, own)) {
@@ -286,7 +286,7 @@ impl Host {
 
     /// Stores the record, with the blocks that are known.
     pub fn put_away(&mut self) -> io::Result<()> {
-        self.store.save(self.record.words(), &self.blocks.notes())
+        self.store.save(&self.record, &self.blocks.notes())
     }
 
     /// The firm's fall: what was stored stays, and what the bench saw.

@@ -20,6 +20,7 @@ mod table;
 
 use options::{Command, Options, USAGE};
 use page::Named;
+use quointrowel::{Kept, Store};
 use std::fs;
 use std::io::{self, Write};
 use std::path::{Path, PathBuf};
@@ -30,6 +31,12 @@ use std::time::Instant;
 const BROKEN: u8 = 1;
 const REFUSED: u8 = 2;
 
+/// The two forms of a saved record.
+enum Form {
+    Stored,
+    Plain,
+}
+
 fn main() -> ExitCode {
     let words: Vec<String> = std::env::args().skip(1).collect();
     let done = same_version().and_then(|()| options::parse(&words)).and_then(|command| match command {
@@ -37,6 +44,7 @@ fn main() -> ExitCode {
         Command::Run { options, page } => run(&options, page.as_deref()),
         Command::Soak { options, runs } => soak::soak(&options, runs),
         Command::Page { records, page } => draw(&records, &page),
+        Command::Convert { from, to } => convert(&from, &to),
     });
     match done {
         Ok(true) => ExitCode::SUCCESS,
@@ -86,32 +94,49 @@ fn run(options: &Options, page: Option<&Path>) -> Result<bool, String> {
     Ok(!findings.is_fault())
 }
 
-/// A saved record: a record's words, as the panel's `save FILE` writes them, or a file of `--store`.
-fn read_record(file: &Path) -> Result<Named, String> {
+/// A saved record: a stored one, of `--store`, or a record's plain words, as the panel's `save FILE` writes them.
+fn read_record(file: &Path) -> Result<(Named, Form), String> {
     let name = file.display().to_string();
     let bytes = fs::read(file).map_err(|error| format!("{name}: {error}"))?;
-    let words =
-        store::words_of(&bytes).ok_or(format!("{name}: it has {} bytes, and a record's words have 8 each", bytes.len()))?;
-    let words = match store::is_marked(&words) {
-        true => store::of_bytes(&bytes).map_err(|why| format!("{name}: {why}"))?.record,
-        false => words,
+    let (words, form) = if Kept::is_marked(&bytes) {
+        let kept = Kept::of_bytes(&bytes).map_err(|why| format!("{name}: {why}"))?;
+        (kept.record.words().to_vec(), Form::Stored)
+    } else {
+        let words = store::words_of(&bytes);
+        (words.ok_or(format!("{name}: it has {} bytes, and a record's words have 8 each", bytes.len()))?, Form::Plain)
     };
-    Named::new(name.clone(), words).ok_or(format!("{name}: this is no node's record"))
+    Ok((Named::new(name.clone(), words).ok_or(format!("{name}: this is no node's record"))?, form))
+}
+
+/// Makes plain words of a stored record, and a stored one of plain words; a host's notes are left out.
+fn convert(from: &Path, to: &Path) -> Result<bool, String> {
+    let (named, form) = read_record(from)?;
+    match form {
+        Form::Stored => {
+            let bytes: Vec<u8> = named.record.words().iter().flat_map(|word| word.to_le_bytes()).collect();
+            write_whole(to, &bytes)
+        }
+        Form::Plain => Store::new(to).save(&named.record, &[]),
+    }
+    .map_err(|error| format!("{}: {error}", to.display()))?;
+    Ok(true)
 }
 
 fn draw(records: &[PathBuf], file: &Path) -> Result<bool, String> {
-    let records = records.iter().map(|file| read_record(file)).collect::<Result<Vec<_>, _>>()?;
+    let records = records.iter().map(|file| Ok(read_record(file)?.0)).collect::<Result<Vec<_>, String>>()?;
     write_page(file, &page::record_page(&records))?;
     Ok(true)
 }
 
-/// A page is written beside its file and renamed, so that nothing half written stands there.
 fn write_page(file: &Path, text: &str) -> Result<(), String> {
+    write_whole(file, text.as_bytes()).map_err(|error| format!("--page {}: {error}", file.display()))
+}
+
+/// Written beside its file and renamed, so that nothing half written stands there.
+fn write_whole(file: &Path, bytes: &[u8]) -> io::Result<()> {
     let beside = beside(file);
-    let written = fs::write(&beside, text).and_then(|()| fs::rename(&beside, file));
-    written.map_err(|error| {
+    fs::write(&beside, bytes).and_then(|()| fs::rename(&beside, file)).inspect_err(|_| {
         let _ = fs::remove_file(&beside);
-        format!("--page {}: {error}", file.display())
     })
 }
 

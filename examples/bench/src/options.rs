@@ -14,12 +14,15 @@ pub const USAGE: &str = "\
 usage: bench [run] [OPTION..] [--page FILE]
        bench soak [OPTION..] --runs N
        bench page RECORD [RECORD] --page FILE
+       bench convert FROM TO
 Seats a ring of firms, some of them lying, over the library, with mail that comes
 late, twice or never, in simulated time; the same history from a seed everywhere.
 run   one ring: a table, the verdict, and with --page FILE a picture for a browser
 soak  rings of seeds S, S+1 ..: ends with 1 at the first broken promise, and tells
       the words that run that ring again
 page  a saved record as a picture, or two with every differing vote marked
+convert  plain words, as the panel saves and differ reads them, of a stored
+      record, or a stored record of plain words
   --firms N          1 to 2,048 (64); in a soak also A-B: of each seed one between
   --stakes WHICH     equal, steep (few heavy firms), or a FILE, a number a line
   --lying PERCENT    of the stake at most (19); from 20 on promises may break
@@ -88,6 +91,7 @@ pub enum Command {
     Run { options: Options, page: Option<PathBuf> },
     Soak { options: Options, runs: u64 },
     Page { records: Vec<PathBuf>, page: PathBuf },
+    Convert { from: PathBuf, to: PathBuf },
 }
 
 impl Options {
@@ -158,8 +162,9 @@ pub fn parse(words: &[String]) -> Result<Command, String> {
     match words.first().map(String::as_str) {
         Some("soak") => parse_soak(&words[1..]),
         Some("page") => parse_page(&words[1..]),
+        Some("convert") => parse_convert(&words[1..]),
         Some("run") => parse_run(&words[1..]),
-        Some(word) if !word.starts_with("--") => Err(format!("{word}: no command; run, soak and page are")),
+        Some(word) if !word.starts_with("--") => Err(format!("{word}: no command; run, soak, page and convert are")),
         _ => parse_run(words),
     }
 }
@@ -208,6 +213,13 @@ fn parse_page(words: &[String]) -> Result<Command, String> {
         return Err(format!("page wants one or two records, and here are {}", records.len()));
     }
     Ok(Command::Page { records, page: PathBuf::from(page.ok_or("page wants --page FILE")?) })
+}
+
+fn parse_convert(words: &[String]) -> Result<Command, String> {
+    match words {
+        [from, to] => Ok(Command::Convert { from: PathBuf::from(from), to: PathBuf::from(to) }),
+        _ => Err(format!("convert wants two files, and here are {} words", words.len())),
+    }
 }
 
 /// The options of a ring; others are left with their values.
@@ -337,6 +349,8 @@ mod tests {
             "page --page x",
             "page a b c --page x",
             "page a",
+            "convert a",
+            "convert a b c",
             "--stakes /no/such/file",
             "run fork",
         ] {

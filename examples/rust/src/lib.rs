@@ -3,7 +3,8 @@
 //! A node is its [`Record`]. The host feeds it votes, blocks, timeouts and other nodes' certificates; what the node does in
 //! answer stands in an [`Outbox`], the votes to be sent among it; a watcher, [`Record::watch`], never votes. Certificates and
 //! finality proofs are bytes, written by a record and checked by [`check_certificate`] and [`check_proof`] against the stakes
-//! alone. Every refusal is a [`Refusal`]. A stored record is for the [`version`] that wrote it; certificates and proofs carry over.
+//! alone. Every refusal is a [`Refusal`]. A [`Store`] keeps a record in a file, for a host that dies and starts again. A stored
+//! record is for the [`version`] that wrote it; certificates and proofs carry over.
 //!
 //! ```no_run
 //! use quointrowel::{check_proof, Block, Event, Node, Outbox, Record, Slot};
@@ -29,6 +30,7 @@ mod face;
 mod message;
 mod record;
 mod refusal;
+mod store;
 mod version;
 mod words;
 
@@ -37,5 +39,6 @@ pub use difference::{differences, Comparison, Difference, Side};
 pub use message::{read_vote, write_vote};
 pub use record::{Outbox, Record};
 pub use refusal::Refusal;
+pub use store::{Kept, Store, Unread};
 pub use version::{version, VERSION};
 pub use words::{Block, Card, CertificateKind, Event, Node, Slot, Vote, VoteKind, Weight};

@@ -1,0 +1,2 @@
+-- Laws of the lines in a lent list.
+pub mod Laws

@@ -1,0 +1,3 @@
+-- What is handed over is kept, and what is kept makes blocks final.
+pub mod Kept
+pub mod Spreading

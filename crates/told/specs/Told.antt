@@ -1,0 +1,57 @@
+-- TOLD ONCE, over what is seen of a life, a node's or a watcher's: goods are released on record (6, s, b), so that it comes once for a slot, and
+-- stands beside the slot's final mark.
+use mathlib.Core.Path.{_≡_}
+use mathlib.Core.Bool.{Bool, not, _&&_, _||_}
+use mathlib.Core.List.{List, [], _∷_}
+use Prim.Native.Nat.{ℕ, _+_, _≤_}
+use lib.Dec.{eqb}
+use lib.ListN.{length}
+use Rattle.rulebook.specs.Tools.{part}
+use Rattle.rulebook.specs.Weights.{windowOf}
+use Rattle.rulebook.specs.Ledger.{none, rowAt}
+use Rattle.rulebook.specs.Rules.{Record, recordOf}
+use Rattle.rulebook.specs.Run.{mostRecords}
+use Rattle.safety.specs.Slot.{Ballot}
+use Rattle.safety.specs.Ballots.{recordFor, sameRecord, among}
+use Rattle.seen.specs.Seen.{Seen, ledgerIn, Alive}
+
+-- How many of the records pass the test.
+unfoldable pub countOf : (Record → Bool) → List Record → ℕ
+countOf p [] = 0
+countOf p (r ∷ rs) = part (p r) 1 + countOf p rs
+
+-- The record is of kind k and slot s, whatever its block.
+abbrev pub tells : ℕ → ℕ → Record → Bool
+tells k s r = eqb (r .kind) k && eqb (r .slot) s
+
+-- It tells that window w is armed: its kind is 7, and its slot is one of the window's.
+abbrev pub arms : ℕ → Record → Bool
+arms w r = eqb (r .kind) 7 && eqb (windowOf (r .slot)) w
+
+-- It is an initial vote for slot s: notar for any block, or skip.
+abbrev pub opens : ℕ → Record → Bool
+opens s r = (eqb (r .kind) 1 || eqb (r .kind) 3) && eqb (r .slot) s
+
+-- TOLD ONCE: of what was told, at most one final block a slot, at most one that another is final too, one arming a window, one initial vote a slot, and no
+-- vote twice.
+pub record Once (told : List Record) : Type 0 where
+  pub final : (s : ℕ) → countOf (tells 6 s) told ≤ 1
+  pub another : (s : ℕ) → countOf (tells 8 s) told ≤ 1
+  pub armed : (w : ℕ) → countOf (arms w) told ≤ 1
+  pub initial : (s : ℕ) → countOf (opens s) told ≤ 1
+  pub vote : (s : ℕ) (v : Ballot) → countOf (λ r. sameRecord r (recordFor s v)) told ≤ 1
+
+abbrev pub ToldOnce : Type 0
+ToldOnce = (stakes : List ℕ) (genesis : ℕ) (v : Seen) → Alive stakes genesis v → Once (v .told)
+
+-- MARKS AND RECORDS ARE ONE: a slot's final mark is b exactly where (6, s, b) was told, and its mark of another is on exactly where an (8, s, _) was.
+pub record Marked (v : Seen) : Type 0 where
+  pub final : (s b : ℕ) → (not (none b) && eqb (rowAt (ledgerIn v) s .final) b) ≡ among (v .told) (recordOf 6 s b)
+  pub another : (s : ℕ) → not (none (rowAt (ledgerIn v) s .clash)) ≡ not (none (countOf (tells 8 s) (v .told)))
+
+abbrev pub MarksAreTold : Type 0
+MarksAreTold = (stakes : List ℕ) (genesis : ℕ) (v : Seen) → Alive stakes genesis v → Marked v
+
+-- "the life total is at most 132".
+abbrev pub ToldFew : Type 0
+ToldFew = (stakes : List ℕ) (genesis : ℕ) (v : Seen) → Alive stakes genesis v → length (v .told) ≤ mostRecords
