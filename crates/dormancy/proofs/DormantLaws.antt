@@ -29,67 +29,24 @@ use Rattle.rule_laws.proofs.WeightLaws.{weight-none, reaches-nothing, reaches-f
 use Rattle.rule_laws.proofs.LowestLaws.{named-off, lower-off, lowest-none, lowest-skip, lowest-take}
 use Rattle.rule_laws.proofs.CertificateLaws.{some-place, kept-name}
 use Rattle.pool.specs.Weighing.{namedHolds}
-use Rattle.parents.specs.Naming.{someNamed}
-use Rattle.parents.proofs.AnyLaws.{any-start, any-next, any-end}
+use Rattle.parents.specs.Naming.{someKeptHolds}
+use Rattle.parents.proofs.AnyLaws.{certifiable-named}
+use Rattle.parents.proofs.FewLaws.{few-held}
 use Rattle.parents.proofs.ReadyLaws.{any-later, none-more, cut-ready}
 use Rattle.recounting.proofs.Using.{reached-one, reached-two, newcomer-lead}
 use Rattle.recounting.proofs.Scanning.{weigh-some, leader-voted}
 use Rattle.record.specs.Tabled.{Tabled}
+use Rattle.looks.specs.Looks.{Bounds, isShort}
+use Rattle.looks.proofs.Beside.{short-names}
 use Rattle.record.proofs.BlockPlaces.{some-first}
 use Rattle.kept_certificates.proofs.ByPlace.{each-places}
 use Rattle.kept_places.proofs.Laws.{skip-serves}
 use Rattle.finality.proofs.FinalLaws.{F-off, G-halts}
 use Rattle.rules.proofs.RuleLaws.{A-off, A-none}
-use Rattle.dormancy.specs.Dormant.{someNode, supports, isSupported, seeksParent, isBare, namesKept, leadsAnew, isDormant}
+use Rattle.dormancy.specs.Dormant.{isIdle, seeksParent, isBare, namesKept, leadsAnew, isDormant}
 use Rattle.dormancy.proofs.SlotLaws.{pass, only-A, only-F, only-G, bare-quiet}
 
--- ---- the nodes, looked at one by one with a test
-
-module _ (f : Cell → Bool) (l : Ledger) (s : ℕ) where
-  abbrev pub passedTo : ℕ → Bool
-  passedTo n = someTo n (λ i. f (cellAt l s i))
-
-  pub nodes-start : passedTo 0 ≡ false
-  unfolding someTo
-  nodes-start = refl
-
-  module _ (n : ℕ) (c : Cell) (e : c ≡ cellAt l s n) where
-    pub nodes-more : f c ≡ false → passedTo n ≡ false → passedTo (n + 1) ≡ false
-    nodes-more t h = some-more n (λ i. f (cellAt l s i)) ∙ (λ k. h k || (ap f (sym e) ∙ t) k)
-
-    pub nodes-found : n < l .count → f c ≡ true → true ≡ someNode l s f
-    unfolding someNode
-    nodes-found few t = sym (some-at (l .count) n (λ i. f (cellAt l s i)) few (ap f (sym e) ∙ t))
-
-  pub nodes-end : (n : ℕ) → n ≡ l .count → passedTo n ≡ false → false ≡ someNode l s f
-  unfolding someNode
-  nodes-end n e h = sym h ∙ ap (λ (k : ℕ). passedTo k) e
-
-  -- Where none passes, each fails.
-  none-passes : someNode l s f ≡ false → (i : ℕ) → i < l .count → f (cellAt l s i) ≡ false
-  unfolding someNode
-  none-passes e i h = some-each (l .count) i (λ n. f (cellAt l s n)) e h
-
--- ---- a slot without a vote but finals makes no parent ready
-
--- Such a cell has no notar, skip, skip-fallback nor notar-fallback.
-bare-votes : (c : Cell) → supports c ≡ false → (not (none (c .notar)) ≡ false) × (not (none (c .skip)) ≡ false) × (not (none (c .skipfallback)) ≡ false)
-    × (not (none (c .fallback1)) ≡ false) × (not (none (c .fallback2)) ≡ false) × (not (none (c .fallback3)) ≡ false)
-unfolding supports
-bare-votes c e =
-    let h = or-none (not (none (c .notar)) || not (none (c .skip))) ((not (none (c .fallback1)) || not (none (c .fallback2))) || (not (none (c .fallback3)) || not (none (c .skipfallback)))) e in
-    let a = or-none (not (none (c .notar))) (not (none (c .skip))) (h .0) in
-    let b = or-none (not (none (c .fallback1)) || not (none (c .fallback2))) (not (none (c .fallback3)) || not (none (c .skipfallback))) (h .1) in
-    let d = or-none (not (none (c .fallback1))) (not (none (c .fallback2))) (b .0) in
-    let g = or-none (not (none (c .fallback3))) (not (none (c .skipfallback))) (b .1) in
-    (a .0, a .1, g .1, d .0, d .1, g .0)
-
--- So it names no block, and does not count for a skip.
-bare-cell : (c : Cell) → supports c ≡ false → (p : ℕ → Bool) → (someNamed p c ≡ false) × (counts who.SkipOrFallback c ≡ false)
-unfolding someNamed namedHolds counts
-bare-cell c e p =
-    let h = bare-votes c e in
-    ((λ k. (h .0 k && p (c .notar)) || ((h .3 k && p (c .fallback1)) || ((h .4 k && p (c .fallback2)) || (h .5 k && p (c .fallback3))))), (λ k. h .1 k || h .2 k))
+-- ---- an idle slot makes no parent ready
 
 -- Where no place for certificates names a block, the blocks are those that votes name.
 kept-nameless : (qs : List Kept) (bs : List ℕ) → someTo (length qs) (λ n. not (none (getD qs n noKept .block))) ≡ false → keptNames qs bs ≡ bs
@@ -100,80 +57,37 @@ kept-nameless (q ∷ qs) bs e =
     let h = or-none (not (none (q .block))) (someTo (length qs) (λ n. f (suc n))) (sym (some-first (length qs) f) ∙ e) in
     named-off (q .block) (keptNames qs bs) (not-false (none (q .block)) (h .0)) ∙ kept-nameless qs bs (h .1)
 
--- Where the third place keeps nothing, no kept certificate serves as kind 4.
-no-kept-skip : (l : Ledger) (q : ℕ) → isKept (keptAt l q 2) ≡ false → keptAs l certificate.Skip q 0 ≡ false
-unfolding keptAs isFor
-no-kept-skip l q e =
-    let qs = certificatesAt l q in
-    by-test (keptAs l certificate.Skip q 0)
+-- Nor does one of them hold anything.
+kept-unheld : (p : ℕ → Bool) (qs : List Kept) → someTo (length qs) (λ n. not (none (getD qs n noKept .block))) ≡ false → someKeptHolds p qs ≡ false
+unfolding someKeptHolds namedHolds
+kept-unheld p qs e =
+    let f : ℕ → Bool = λ n. not (none (getD qs n noKept .block)) && p (getD qs n noKept .block) in
+    by-test (someTo (length qs) f)
     (λ t.
-    let r = some-place (isFor certificate.Skip 0) 0 qs t in
-    let n = 0 + r .0 in
-    let third : n ≡ 2 = eqb-true n 2 (skip-serves n ∙ and-both (servesAs (placeKind n) certificate.Skip) (eqb (getD qs (r .0) noKept .block) 0) (r .2) .0) in
-    let is : r .0 ≡ 2 = omega (arith, third) in
-    true-not-false (isKept (getD qs 2 noKept)) (ap (λ (i : ℕ). isKept (getD qs i noKept)) (sym is) ∙ r .1) e)
+    let r = some-find (length qs) f t in
+    true-not-false (not (none (getD qs (r .0) noKept .block))) (and-both (not (none (getD qs (r .0) noKept .block))) (p (getD qs (r .0) noKept .block)) (r .2) .0)
+    (some-each (length qs) (r .0) (λ n. not (none (getD qs n noKept .block))) e (r .1)))
     (λ t. t)
 
--- Where no certificate is kept no place names a block, and the third keeps nothing.
-nothing-kept : (l : Ledger) (q : ℕ) → eachKept (λ i k. keptBlank k) 0 (certificatesAt l q) ≡ true → (namesKept l q ≡ false) × (isKept (keptAt l q 2) ≡ false)
-unfolding namesKept keptBlank
-nothing-kept l q e =
-    let qs = certificatesAt l q in
-    let each : (n : ℕ) → n < length qs → (isKept (getD qs n noKept) ≡ false) × (none (getD qs n noKept .block) ≡ true) =
-    λ n h.
-    let r = and-both (not (isKept (getD qs n noKept))) (none (getD qs n noKept .block)) (all-at (length qs) n (λ j. not (isKept (getD qs j noKept)) && none (getD qs j noKept .block)) (sym (each-places (λ i k. not (isKept k) && none (k .block)) 0 qs) ∙ e) h) in
-    (not-true (isKept (getD qs n noKept)) (r .0), r .1) in (
-      by-test (someTo (length qs) (λ n. not (none (getD qs n noKept .block))))
-          (λ t.
-          let f = some-find (length qs) (λ n. not (none (getD qs n noKept .block))) t in
-          true-not-false (none (getD qs (f .0) noKept .block)) (each (f .0) (f .1) .1) (not-true (none (getD qs (f .0) noKept .block)) (f .2)))
-          (λ t. t),
-      third qs (each 2),
-    )
-  where
-    third : (qs : List Kept) → (2 < length qs → (isKept (getD qs 2 noKept) ≡ false) × (none (getD qs 2 noKept .block) ≡ true)) → isKept (getD qs 2 noKept) ≡ false
-    third [] f = refl
-    third (a ∷ []) f = refl
-    third (a ∷ b ∷ []) f = refl
-    third (a ∷ b ∷ c ∷ qs) f = f (omega arith) .0
+module _ (l : Ledger) (q : ℕ) (looks : List ℕ) (b : Bounds l looks) (e : isIdle l looks q ≡ true) where
+  idle-parts : (isShort l looks q ≡ true) × (namesKept l q ≡ false) × (held l certificate.Skip q 0 ≡ false)
+  unfolding isIdle
+  idle-parts =
+      let h = and-both (isShort l looks q) (not (namesKept l q) && not (held l certificate.Skip q 0)) e in
+      let g = and-both (not (namesKept l q)) (not (held l certificate.Skip q 0)) (h .1) in
+      (h .0, not-true (namesKept l q) (g .0), not-true (held l certificate.Skip q 0) (g .1))
 
-module _ (l : Ledger) (q : ℕ) (some : 1 ≤ l .total) (e : isSupported l q ≡ false) where
-  nothing : (namesKept l q ≡ false) × (isKept (keptAt l q 2) ≡ false) × (someNode l q supports ≡ false)
-  unfolding isSupported
-  nothing =
-      let h = or-none (not (eachKept (λ i k. keptBlank k) 0 (certificatesAt l q))) (someNode l q supports) e in
-      let g = nothing-kept l q (not-false (eachKept (λ i k. keptBlank k) 0 (certificatesAt l q)) (h .0)) in
-      (g .0, g .1, h .1)
+  no-blocks : anyOf (held l certificate.NotarFallback q) (certifiable l q) ≡ false
+  unfolding namesKept
+  no-blocks =
+      let k = kept-unheld (held l certificate.NotarFallback q) (certificatesAt l q) (idle-parts .1) in
+      certifiable-named l q (held l certificate.NotarFallback q) k ∙ few-held l q k (short-names l q looks b (idle-parts .0))
 
-  bare : (p : ℕ → Bool) (i : ℕ) → i < l .count → (someNamed p (cellAt l q i) ≡ false) × (counts who.SkipOrFallback (cellAt l q i) ≡ false)
-  bare p i h = bare-cell (cellAt l q i) (none-passes supports l q (nothing .2) i h) p
-
-  no-names-to : (p : ℕ → Bool) (n : ℕ) → n ≤ l .count → anyOf p (namesTo l q n) ≡ false
-  no-names-to p zero h = any-start p l q
-  no-names-to p (suc n) h =
-      ap (λ (k : ℕ). anyOf p (namesTo l q k)) (sym (add-one n))
-      ∙ any-next p l q n (cellAt l q n) refl (bare p n (omega arith) .0) (no-names-to p n (omega arith))
-
-  no-blocks : (p : ℕ → Bool) → anyOf p (certifiable l q) ≡ false
-  unfolding certifiable namesKept
-  no-blocks p =
-      ap (anyOf p) (kept-nameless (certificatesAt l q) (names l q) (nothing .0)) ∙ any-end p l q (l .count) refl (no-names-to p (l .count) (omega arith))
-
-  no-voted-skip : reached l certificate.Skip q 0 ≡ false
-  unfolding reached weighs signersOf fifthsOf weigh
-  no-voted-skip =
-      ap (reaches 3 (l .total)) (weight-none (l .stakes) (l .count) (λ n. counts who.SkipOrFallback (cellAt l q n)) (λ i h. bare (λ _. false) i h .1))
-      ∙ reaches-nothing 3 (l .total) (omega arith) some
-
-  no-skip : held l certificate.Skip q 0 ≡ false
-  unfolding held
-  no-skip = λ i. no-voted-skip i || no-kept-skip l q (nothing .1) i
-
-  unsupported : (s : ℕ) → 1 ≤ q → s ≡ q + 1 → someReady l s ≡ false
-  unsupported s low t =
+  unready : (s : ℕ) → 1 ≤ q → s ≡ q + 1 → someReady l s ≡ false
+  unready s low t =
       cut-ready l s q (omega arith)
-      (none-more l s q (omega arith) (λ i a b. absurd (omega arith)) (any-later l q low ∙ no-blocks (held l certificate.NotarFallback q)) (λ i a b. absurd (omega arith)))
-      no-skip
+      (none-more l s q (omega arith) (λ i a b. absurd (omega arith)) (any-later l q low ∙ no-blocks) (λ i a b. absurd (omega arith)))
+      (idle-parts .2)
 
 -- ---- where no kept certificate names a block, and the leader is the slot's final block or has less than 60, there is no newcomer
 
@@ -253,33 +167,6 @@ module _ (l : Ledger) (s : ℕ) (k : Tabled l) (t : Tally) (card : t ≡ recount
   unfolding recount
   leader-is = ap (λ (x : Tally). x .leader) card
 
-  -- a vote that counts so is one of support
-  by-votes : (w : Who) → ((c : Cell) → counts w c ≡ true → supports c ≡ true) → someTo (l .count) (λ n. counts w (cellAt l s n)) ≡ true → true ≡ someNode l s supports
-  unfolding someNode
-  by-votes w f e =
-      let g = some-find (l .count) (λ n. counts w (cellAt l s n)) e in
-      sym (some-at (l .count) (g .0) (λ n. supports (cellAt l s n)) (g .1) (f (cellAt l s (g .0)) (g .2)))
-
-  notar-supports : (c : Cell) → counts who.AnyNotar c ≡ true → supports c ≡ true
-  unfolding counts
-  notar-supports c e =
-      by-test (supports c) (λ u. u) (λ u. true-not-false (not (none (c .notar))) e (bare-votes c u .0))
-
-  skip-supports : (c : Cell) → counts who.SkipOrFallback c ≡ true → supports c ≡ true
-  unfolding counts
-  skip-supports c e =
-      by-test (supports c) (λ u. u)
-      (λ u. or-cases (not (none (c .skip))) (not (none (c .skipfallback))) e (λ v. true-not-false (not (none (c .skip))) v (bare-votes c u .1)) (λ v. true-not-false (not (none (c .skipfallback))) v (bare-votes c u .2)))
-
-  pub support-by-card : (not (eqb (t .leader) 0) || not (eqb (t .skipcert .0) 0)) ≡ true → true ≡ someNode l s supports
-  unfolding recount
-  support-by-card e =
-      or-cases (not (eqb (t .leader) 0)) (not (eqb (t .skipcert .0) 0)) e
-      (λ u. by-votes who.AnyNotar notar-supports (leader-voted l s (k .sum) (k .some) (λ z. eqb-false (t .leader) 0 (not-true (eqb (t .leader) 0) u) (leader-is ∙ z))))
-      (λ u.
-      let q : t .skipcert .0 ≡ weigh l s who.SkipOrFallback = ap (λ (x : Tally). x .skipcert .0) card in
-      by-votes who.SkipOrFallback skip-supports (weigh-some l s who.SkipOrFallback (omega (arith, q, eqb-false (t .skipcert .0) 0 (not-true (eqb (t .skipcert .0) 0) u)))))
-
   -- the leader is not the slot's final block, and what it has is asked of the card
   pub leads-final : (f : ℕ) → f ≡ rowAt l s .final → t .leader ≡ f → false ≡ leadsAnew l s
   unfolding leadsAnew
@@ -292,28 +179,34 @@ module _ (l : Ledger) (s : ℕ) (k : Tabled l) (t : Tally) (card : t ≡ recount
 
 -- ---- what the look at a slot before a window tells
 
-module _ (l : Ledger) (s : ℕ) (a : Bool) (none : a ≡ eachKept (λ i q. keptBlank q) 0 (certificatesAt l s)) where
-  pub supported-kept : a ≡ false → true ≡ isSupported l s
-  unfolding isSupported
-  supported-kept e = λ k. not ((sym e ∙ none) k) || someNode l s supports
+module _ (l : Ledger) (looks : List ℕ) (s : ℕ) (a : Bool) (short : a ≡ isShort l looks s) where
+  pub idle-long : a ≡ false → false ≡ isIdle l looks s
+  unfolding isIdle
+  idle-long e = λ k. (sym e ∙ short) k && (not (namesKept l s) && not (held l certificate.Skip s 0))
 
-  pub supported-voted : (x : Bool) → a ≡ true → x ≡ someNode l s supports → x ≡ isSupported l s
-  unfolding isSupported
-  supported-voted x e h = h ∙ (λ k. not ((sym e ∙ none) k) || someNode l s supports)
+  module _ (n : Bool) (named : n ≡ namesKept l s) (e : a ≡ true) where
+    pub idle-named : n ≡ true → false ≡ isIdle l looks s
+    unfolding isIdle
+    idle-named f = λ k. (sym e ∙ short) k && (not ((sym f ∙ named) k) && not (held l certificate.Skip s 0))
+
+    pub idle-skipped : (x : Bool) → n ≡ false → x ≡ held l certificate.Skip s 0 → not x ≡ isIdle l looks s
+    unfolding isIdle
+    idle-skipped x f h = ap not h ∙ (λ k. (sym e ∙ short) k && (not ((sym f ∙ named) k) && not (held l certificate.Skip s 0)))
 
 -- ---- no rule applies in a dormant slot
 
-module _ (o : State) (s : ℕ) (low : 1 ≤ s) (k : Tabled (o .ledger)) where
+module _ (o : State) (looks : List ℕ) (bounds : Bounds (o .ledger) looks) (s : ℕ) (low : 1 ≤ s) (k : Tabled (o .ledger)) where
   abbrev mayArm : Bool
   mayArm = isFirst s && not (isArmed (o .ledger) s)
 
-  parentless : seeksParent (o .ledger) s ≡ false → ruleA o s ≡ o
+  parentless : seeksParent (o .ledger) looks s ≡ false → ruleA o s ≡ o
   unfolding seeksParent
   parentless e =
       by-test mayArm
       (λ t.
-      let h = or-none (eqb s 1) (isSupported (o .ledger) (s - 1)) ((λ k. sym t k && (eqb s 1 || isSupported (o .ledger) (s - 1))) ∙ e) in
-      A-none o s t (unsupported (o .ledger) (s - 1) (k .some) (h .1) s (omega (arith, eqb-false s 1 (h .0))) (omega arith)))
+      let idle = isIdle (o .ledger) looks (s - 1) in
+      let h = or-none (eqb s 1) (not idle) ((λ k. sym t k && (eqb s 1 || not idle)) ∙ e) in
+      A-none o s t (unready (o .ledger) (s - 1) looks bounds (not-false idle (h .1)) s (omega (arith, eqb-false s 1 (h .0))) (omega arith)))
       (A-off o s)
 
   module _ (fits : blocksFit (o .ledger) s (blocksAt (o .ledger) s) ≡ true) where
@@ -323,15 +216,15 @@ module _ (o : State) (s : ℕ) (low : 1 ≤ s) (k : Tabled (o .ledger)) where
         let bs = blocksAt (o .ledger) s in
         G-halts o s low noBlock (sym (find-none (rowAt (o .ledger) s .final) bs (and-both (allBlocks (keptFits (o .ledger) s) bs) (blocksApart bs) fits .1) e)) refl
 
-    pub dormant-quiet : isDormant (o .ledger) s ≡ true → firstRule 7 0 o s ≡ o
+    pub dormant-quiet : isDormant (o .ledger) looks s ≡ true → firstRule 7 0 o s ≡ o
     unfolding isDormant isBare
     dormant-quiet e =
         let l = o .ledger in
-        let h = and-both (not (seeksParent l s)) ((not (namesKept l s) && isBare l s) && not (leadsAnew l s)) e in
+        let h = and-both (not (seeksParent l looks s)) ((not (namesKept l s) && isBare l s) && not (leadsAnew l s)) e in
         let i = and-both (not (namesKept l s) && isBare l s) (not (leadsAnew l s)) (h .1) in
         let f = and-both (not (namesKept l s)) (isBare l s) (i .0) in
         let none-new = nobody-new l s k (not-true (namesKept l s) (f .0)) (not-true (leadsAnew l s) (i .1)) in
-        pass o s 1 6 0 (sym (only-A o s) ∙ parentless (not-true (seeksParent l s) (h .0)))
+        pass o s 1 6 0 (sym (only-A o s) ∙ parentless (not-true (seeksParent l looks s) (h .0)))
         ∙ pass o s 4 2 1 (bare-quiet o s (f .1))
         ∙ pass o s 1 1 5 (sym (only-F o s) ∙ F-off o s (eq-eqb _ 0 none-new))
         ∙ sym (only-G o s)
@@ -339,39 +232,39 @@ module _ (o : State) (s : ℕ) (low : 1 ≤ s) (k : Tabled (o .ledger)) where
 
 -- ---- the look at a slot, as code goes through it
 
-module _ (l : Ledger) (s : ℕ) (a : Bool) (arms : a ≡ (isFirst s && not (isArmed l s))) where
-  pub seeks-off : a ≡ false → false ≡ seeksParent l s
+module _ (l : Ledger) (looks : List ℕ) (s : ℕ) (a : Bool) (arms : a ≡ (isFirst s && not (isArmed l s))) where
+  pub seeks-off : a ≡ false → false ≡ seeksParent l looks s
   unfolding seeksParent
-  seeks-off e = λ k. (sym e ∙ arms) k && (eqb s 1 || isSupported l (s - 1))
+  seeks-off e = λ k. (sym e ∙ arms) k && (eqb s 1 || not (isIdle l looks (s - 1)))
 
-  pub seeks-genesis : a ≡ true → s ≡ 1 → true ≡ seeksParent l s
+  pub seeks-genesis : a ≡ true → s ≡ 1 → true ≡ seeksParent l looks s
   unfolding seeksParent
-  seeks-genesis e z = λ k. (sym e ∙ arms) k && (sym (eq-eqb s 1 z) k || isSupported l (s - 1))
+  seeks-genesis e z = λ k. (sym e ∙ arms) k && (sym (eq-eqb s 1 z) k || not (isIdle l looks (s - 1)))
 
-  pub seeks-support : a ≡ true → (s ≡ 1 → ⊥) → (x : Bool) → x ≡ isSupported l (s - 1) → x ≡ seeksParent l s
+  pub seeks-idle : a ≡ true → (s ≡ 1 → ⊥) → (x : Bool) → x ≡ isIdle l looks (s - 1) → not x ≡ seeksParent l looks s
   unfolding seeksParent
-  seeks-support e ne x h = h ∙ (λ k. (sym e ∙ arms) k && (sym (ne-eqb s 1 ne) k || isSupported l (s - 1)))
+  seeks-idle e ne x h = ap not h ∙ (λ k. (sym e ∙ arms) k && (sym (ne-eqb s 1 ne) k || not (isIdle l looks (s - 1))))
 
 -- Something for A: not dormant. Else a kept name or something of the own: not dormant. Else the leader decides.
-module _ (l : Ledger) (s : ℕ) (a : Bool) (seeks : a ≡ seeksParent l s) where
+module _ (l : Ledger) (looks : List ℕ) (s : ℕ) (a : Bool) (seeks : a ≡ seeksParent l looks s) where
   abbrev rest : Bool
   rest = (not (namesKept l s) && isBare l s) && not (leadsAnew l s)
 
-  looked : (not a && rest) ≡ isDormant l s
+  looked : (not a && rest) ≡ isDormant l looks s
   unfolding isDormant
   looked = λ k. not (seeks k) && rest
 
-  pub look-seeks : a ≡ true → false ≡ isDormant l s
+  pub look-seeks : a ≡ true → false ≡ isDormant l looks s
   look-seeks e = ap (λ (x : Bool). not x && rest) (sym e) ∙ looked
 
   module _ (e : a ≡ false) (n b : Bool) (named : n ≡ namesKept l s) (bare : b ≡ isBare l s) where
-    passed : rest ≡ isDormant l s
+    passed : rest ≡ isDormant l looks s
     passed = ap (λ (x : Bool). not x && rest) (sym e) ∙ looked
 
     parts : ((not n && b) && not (leadsAnew l s)) ≡ rest
     parts = λ k. (not (named k) && bare k) && not (leadsAnew l s)
 
-    pub look-busy : (n || not b) ≡ true → false ≡ isDormant l s
+    pub look-busy : (n || not b) ≡ true → false ≡ isDormant l looks s
     look-busy t = ap (λ (x : Bool). x && not (leadsAnew l s)) (busy n b t) ∙ parts ∙ passed
       where
         busy : (x y : Bool) → (x || not y) ≡ true → false ≡ (not x && y)
@@ -379,7 +272,7 @@ module _ (l : Ledger) (s : ℕ) (a : Bool) (seeks : a ≡ seeksParent l s) where
         busy false true u = u
         busy false false u = refl
 
-    pub look-led : (x : Bool) → (n || not b) ≡ false → x ≡ leadsAnew l s → not x ≡ isDormant l s
+    pub look-led : (x : Bool) → (n || not b) ≡ false → x ≡ leadsAnew l s → not x ≡ isDormant l looks s
     look-led x t h = ap not h ∙ ap (λ (y : Bool). y && not (leadsAnew l s)) (free n b t) ∙ parts ∙ passed
       where
         free : (y z : Bool) → (y || not z) ≡ false → true ≡ (not y && z)

@@ -1,12 +1,14 @@
 -- Computed cases of slots that are passed over, and of what keeps a slot from it.
 use mathlib.Core.Bool.{Bool, not}
-use mathlib.Core.List.{[], _∷_}
+use mathlib.Core.List.{List, [], _∷_}
+use Prim.Native.Nat.{ℕ}
 use lib.ListN.{set}
 use lib.Dec.{T}
 use Rattle.rulebook.specs.Ledger.{Ledger, certificatesAt, putCertificates, putFinal, putArmed, fresh}
 use Rattle.rulebook.specs.Scripts.{vote, block, stored, cell, withVotes, allArmed, all}
 use Rattle.rulebook.specs.Computes.{rules}
-use Rattle.dormancy.specs.Dormant.{someNode, supports, isSupported, seeksParent, isBare, namesKept, leadsAnew, isDormant}
+use Rattle.looks.specs.Looks.{isShort}
+use Rattle.dormancy.specs.Dormant.{isIdle, seeksParent, isBare, namesKept, leadsAnew, isDormant}
 
 -- Node 1 has 80 percent, the own node and node 2 ten each.
 abbrev untouched : Ledger
@@ -16,31 +18,41 @@ untouched = fresh (1 ∷ 8 ∷ 1 ∷ []) 0 1
 abbrev armed : Ledger
 armed = allArmed untouched
 
+-- Passed over without anything kept in mind.
+abbrev dormant : Ledger → ℕ → Bool
+dormant l s = isDormant l [] s
+
 -- A slot with nothing in it is passed over, and one with votes of others that make no block final, or only the one that is.
 abbrev passedOver : Bool
 passedOver =
-    all (isDormant armed 3 ∷ isDormant (stored armed (vote 1 2 3 7 ∷ vote 5 1 3 0 ∷ vote 3 1 3 0 ∷ [])) 3
-    ∷ isDormant (putFinal (stored armed (vote 1 1 3 7 ∷ [])) 3 7) 3 ∷ [])
+    all (dormant armed 3 ∷ dormant (stored armed (vote 1 2 3 7 ∷ vote 5 1 3 0 ∷ vote 3 1 3 0 ∷ [])) 3
+    ∷ dormant (putFinal (stored armed (vote 1 1 3 7 ∷ [])) 3 7) 3 ∷ [])
 
 -- Not so where a block may become final by its votes, or by a certificate that another firm sent; where the node voted; where a block is
 -- kept.
 abbrev looked : Bool
 looked =
-    all (not (isDormant (stored armed (vote 1 1 3 7 ∷ [])) 3) ∷ not (isDormant (putFinal (stored armed (vote 1 1 3 7 ∷ [])) 3 8) 3)
-    ∷ not (isDormant (putCertificates armed 3 (set (certificatesAt armed 3) 12 (record { block = 7; maska = 2; maskb = 0 }))) 3)
-    ∷ not (isDormant (withVotes armed 3 0 (cell 7 0 0 0 0 0 0)) 3) ∷ not (isDormant (withVotes armed 3 0 (cell 0 1 0 0 0 0 0)) 3)
-    ∷ not (isDormant (stored armed (block 3 31 2 21 ∷ [])) 3) ∷ [])
+    all (not (dormant (stored armed (vote 1 1 3 7 ∷ [])) 3) ∷ not (dormant (putFinal (stored armed (vote 1 1 3 7 ∷ [])) 3 8) 3)
+    ∷ not (dormant (putCertificates armed 3 (set (certificatesAt armed 3) 12 (record { block = 7; maska = 2; maskb = 0 }))) 3)
+    ∷ not (dormant (withVotes armed 3 0 (cell 7 0 0 0 0 0 0)) 3) ∷ not (dormant (withVotes armed 3 0 (cell 0 1 0 0 0 0 0)) 3)
+    ∷ not (dormant (stored armed (block 3 31 2 21 ∷ [])) 3) ∷ [])
 
--- Nor the first slot of a window that is to be armed: slot 1, and another where anything in the slot before may make a parent ready, a
--- final vote alone not.
+-- Kept in mind: so much in slot 4, all in the slots below it.
+abbrev mind : ℕ → List ℕ
+mind w = 10 ∷ 10 ∷ 10 ∷ 10 ∷ w ∷ []
+
+-- Nor the first slot of a window that is to be armed: slot 1, and another where nothing is kept in mind of the slot before, or 60 percent are;
+-- where skips hold there, by votes or by a certificate that another firm sent; or where such a certificate names a block.
 abbrev toArm : Bool
 toArm =
     let first = putArmed untouched 1 in
-    all (not (isDormant untouched 1) ∷ isDormant first 1 ∷ isDormant first 5 ∷ isDormant (stored first (vote 5 2 4 0 ∷ [])) 5
-    ∷ not (isDormant (stored first (vote 2 2 4 7 ∷ [])) 5) ∷ not (isDormant (stored first (vote 4 2 4 0 ∷ [])) 5)
-    ∷ not (isDormant (putCertificates first 4 (set (certificatesAt first 4) 2 (record { block = 0; maska = 2; maskb = 0 }))) 5)
-    ∷ isDormant (stored first (vote 2 2 3 7 ∷ [])) 5 ∷ isDormant (stored first (vote 2 2 4 7 ∷ [])) 6 ∷ [])
+    all (not (dormant untouched 1) ∷ dormant first 1 ∷ not (dormant first 5)
+    ∷ isDormant first (mind 5) 5 ∷ not (isDormant first (mind 6) 5)
+    ∷ isDormant (stored first (vote 4 2 4 0 ∷ vote 2 2 4 7 ∷ [])) (mind 2) 5 ∷ not (isDormant (stored first (vote 3 1 4 0 ∷ [])) (mind 1) 5)
+    ∷ not (isDormant (putCertificates first 4 (set (certificatesAt first 4) 2 (record { block = 0; maska = 2; maskb = 0 }))) (mind 1) 5)
+    ∷ not (isDormant (putCertificates first 4 (set (certificatesAt first 4) 12 (record { block = 7; maska = 2; maskb = 0 }))) (mind 1) 5)
+    ∷ dormant (stored first (vote 2 2 4 7 ∷ [])) 6 ∷ [])
 
 cornersOfDormancy : T (all (passedOver ∷ looked ∷ toArm ∷ []))
-unfolding rules someNode supports isSupported seeksParent isBare namesKept leadsAnew isDormant
+unfolding rules isShort isIdle seeksParent isBare namesKept leadsAnew isDormant
 cornersOfDormancy = tt

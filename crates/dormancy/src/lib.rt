@@ -5,21 +5,19 @@ ghost use lib.ListN.{length};
 ghost use Rattle.rulebook.specs.Ledger.{mostCertificates};
 ghost use Rattle.record.specs.Layout.{InSlot, ledgerOf};
 ghost use Rattle.pool.specs.Weighing.{Carded};
-ghost use Rattle.dormancy.specs.Dormant.{someNode, supports, isSupported, seeksParent, isBare, namesFrom, namesKept, leadsAnew, isDormant};
-use kept_certificates::nothing_kept;
+ghost use Rattle.dormancy.specs.Dormant.{isIdle, seeksParent, isBare, namesFrom, namesKept, leadsAnew, isDormant};
+use looks::is_short;
 use parents::leader_held;
+use pool::held;
 use record::MOST_CERTIFICATES;
-use record::count;
 use record::final_block;
 use record::kept_start;
 use record::load_block;
 use record::load_card;
-use record::load_cell;
 use record::mask_words;
 use record::own_cell;
 use record::places_in;
-use rulebook::Cell;
-use rulebook::Node;
+use rulebook::CertificateKind;
 use rulebook::Slot;
 use rules::may_arm;
 use voter::no_initial;
@@ -29,50 +27,24 @@ const SMALL_WORDS: usize = 3;
 
 const LARGE_WORDS: usize = 65;
 
-// Whether a cell has a vote that helps to make a parent ready: every vote but a final.
-fn supports(c: Cell) -> bool
-    ensures { λ r. ⌜ r ≡ supports c ⌝ }
+// Whether a slot cannot make a parent ready: too few name a block there, by what the tray keeps in mind, and nothing else helps.
+fn is_idle(rec: &[u64], looks: &[u64], s: Slot) -> bool
+    requires { ⌜ Carded (now rec) (s .0) ⌝ }
+    ensures { λ r. ⌜ r ≡ isIdle (ledgerOf (now (rec .entry))) (now (looks .entry)) (s .0) ⌝ }
 {
-    let initial = (c.notar != 0) | (c.skip != 0);
-    initial
-        | (((c.fallback1 != 0) | (c.fallback2 != 0)) | ((c.fallback3 != 0) | (c.skipfallback != 0)))
+    if !is_short(rec, looks, s) {
+        return false;
+    }
+    if names_kept(rec, s) {
+        return false;
+    }
+    !held(rec, CertificateKind::Skip, s, 0)
 }
 
-// Whether a node has such a vote in a slot: the card tells of every one but the notar-fallbacks.
-fn votes_support(rec: &[u64], s: Slot) -> bool
+// Whether rule A has a window to arm and may find a parent: genesis in slot 1, else in the slot before.
+fn seeks_parent(rec: &[u64], looks: &[u64], s: Slot) -> bool
     requires { ⌜ Carded (now rec) (s .0) ⌝ }
-    ensures { λ r. ⌜ r ≡ someNode (ledgerOf (now (rec .entry))) (s .0) supports ⌝ }
-{
-    let card = load_card(rec, s);
-    let skips = card.skipcert;
-    if (card.leader != 0) | (skips.0 != 0) {
-        return true;
-    }
-    let nodes = count(rec);
-    for n in 0..nodes {
-        let c = load_cell(rec, s, Node(n));
-        if supports(c) {
-            return true;
-        }
-    }
-    false
-}
-
-// Whether a slot may make a parent ready: by a kept certificate, or by votes.
-fn has_support(rec: &[u64], s: Slot) -> bool
-    requires { ⌜ Carded (now rec) (s .0) ⌝ }
-    ensures { λ r. ⌜ r ≡ isSupported (ledgerOf (now (rec .entry))) (s .0) ⌝ }
-{
-    if !nothing_kept(rec, s) {
-        return true;
-    }
-    votes_support(rec, s)
-}
-
-// Whether rule A has a window to arm and may find a parent: genesis in slot 1, else support in the slot before.
-fn seeks_parent(rec: &[u64], s: Slot) -> bool
-    requires { ⌜ Carded (now rec) (s .0) ⌝ }
-    ensures { λ r. ⌜ r ≡ seeksParent (ledgerOf (now (rec .entry))) (s .0) ⌝ }
+    ensures { λ r. ⌜ r ≡ seeksParent (ledgerOf (now (rec .entry))) (now (looks .entry)) (s .0) ⌝ }
 {
     if !may_arm(rec, s) {
         return false;
@@ -80,7 +52,8 @@ fn seeks_parent(rec: &[u64], s: Slot) -> bool
     if s.0 == 1 {
         return true;
     }
-    has_support(rec, Slot(s.0 - 1))
+    let before = s.0 - 1;
+    !is_idle(rec, looks, Slot(before))
 }
 
 // Whether a slot has no own initial vote and keeps no block: places are filled from the front.
@@ -145,11 +118,11 @@ fn leads_anew(rec: &[u64], s: Slot) -> bool
 }
 
 // Whether a look that weighs nothing shows that no rule applies in a slot.
-pub fn is_dormant(rec: &[u64], s: Slot) -> bool
+pub fn is_dormant(rec: &[u64], looks: &[u64], s: Slot) -> bool
     requires { ⌜ Carded (now rec) (s .0) ⌝ }
-    ensures { λ r. ⌜ r ≡ isDormant (ledgerOf (now (rec .entry))) (s .0) ⌝ }
+    ensures { λ r. ⌜ r ≡ isDormant (ledgerOf (now (rec .entry))) (now (looks .entry)) (s .0) ⌝ }
 {
-    if seeks_parent(rec, s) {
+    if seeks_parent(rec, looks, s) {
         return false;
     }
     let named = names_kept(rec, s);

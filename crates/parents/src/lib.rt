@@ -105,7 +105,7 @@ pub fn leader_held(rec: &[u64], p: Slot) -> bool
 }
 
 // Whether a cell names some block.
-fn names_some(c: Cell) -> bool
+pub fn names_some(c: Cell) -> bool
     ensures { λ r. ⌜ r ≡ namesSome c ⌝ }
 {
     (c.notar != 0) | ((c.fallback1 != 0) | ((c.fallback2 != 0) | (c.fallback3 != 0)))

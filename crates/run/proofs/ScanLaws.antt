@@ -8,7 +8,7 @@ use lib.ListN.{length}
 use lib.Dec.{eqb, leb}
 use borrow.Author.Tests.{eqb-true, eqb-false, leb-true, le-leb}
 use Rattle.rulebook.specs.Weights.{lastSlot, totalTo}
-use Rattle.rulebook.specs.Ledger.{isWatcher}
+use Rattle.rulebook.specs.Ledger.{Ledger, isWatcher}
 use Rattle.rulebook.specs.Rules.{State, ruleG}
 use Rattle.rulebook.specs.Run.{made, ruleAt, firstRule, firstSlot, scan, run}
 use Rattle.rule_laws.proofs.ToolLaws.{by-test, and-both, both-and, true-not-false}
@@ -29,6 +29,8 @@ use Rattle.voter.proofs.LiveLaws.{onward-none, onward-is, onward-then}
 use Rattle.fallbacks.specs.UnderWay.{UnderWay, UnderWayAt, VotingAt}
 use Rattle.finality.specs.Telling.{walkBegins}
 use Rattle.finality.proofs.FinalLaws.{walk-off}
+use Rattle.looks.specs.Looks.{Bounds}
+use Rattle.looks.proofs.Staying.{bounds-scan, bounds-run}
 use Rattle.dormancy.specs.Dormant.{isDormant}
 use Rattle.dormancy.proofs.SlotLaws.{rules-on, rules-off, pass, one-rule, only-G}
 use Rattle.dormancy.proofs.DormantLaws.{dormant-quiet}
@@ -161,10 +163,29 @@ trying-end {ws = ws} {out = out} {at = at} {s = s} {r = r} h b =
     onward-is (h .going .held) (sym (rule-end (stateIn ws out at) s r (7 - r) (omega arith)) ∙ h .going .ends)
 
 -- A dormant slot is passed over: none of its rules applies.
-pub dormant-passes : {ws out : List ℕ} {at s : ℕ} → UnderWayAt ws out at s → (d : Bool) → d ≡ isDormant (ledgerOf ws) s → d ≡ true → Onward ws out at ws out at (firstRule 7 0 (stateIn ws out at) s)
-dormant-passes {ws = ws} {out = out} {at = at} {s = s} v d e t =
+pub dormant-passes : {ws out : List ℕ} {at s : ℕ} → UnderWayAt ws out at s → (looks : List ℕ) → Bounds (ledgerOf ws) looks → (d : Bool) → d ≡ isDormant (ledgerOf ws) looks s → d ≡ true → Onward ws out at ws out at (firstRule 7 0 (stateIn ws out at) s)
+dormant-passes {ws = ws} {out = out} {at = at} {s = s} v looks b d e t =
     onward-none (v .live .live)
-    (sym (dormant-quiet (stateIn ws out at) s (v .live .low) (v .table) (formed (ledgerOf ws) (v .live .live .sound .formed) .rows s (v .live .low) (v .live .high) .blocks) (sym e ∙ t)))
+    (sym (dormant-quiet (stateIn ws out at) looks b s (v .live .low) (v .table) (formed (ledgerOf ws) (v .live .live .sound .formed) .rows s (v .live .low) (v .live .high) .blocks) (sym e ∙ t)))
+
+-- ---- what is kept in mind
+
+-- The memory holds the ledger of that state.
+held-ledger : {ws out ws' left : List ℕ} {at now : ℕ} {q : State} → Onward ws out at ws' left now q → ledgerOf ws' ≡ q .ledger
+held-ledger a = ap (λ (x : State). x .ledger) (a .moved .is)
+
+-- The memory still holds the state of the start.
+pub bounds-still : {ws out ws' left : List ℕ} {at now : ℕ} → Onward ws out at ws' left now (stateIn ws out at) → (looks : List ℕ) → Bounds (ledgerOf ws) looks → Bounds (ledgerOf ws') looks
+bounds-still a looks b = subst (λ (l : Ledger). Bounds l looks) (sym (held-ledger a)) b
+
+-- A scan has run, or the rules until none applies.
+pub bounds-scanned : {ws out ws' left : List ℕ} {at now : ℕ} → Live ws out at → Onward ws out at ws' left now (scan (stateIn ws out at)) → (looks : List ℕ) → Bounds (ledgerOf ws) looks → Bounds (ledgerOf ws') looks
+bounds-scanned {ws = ws} {out = out} {at = at} v a looks b =
+    subst (λ (l : Ledger). Bounds l looks) (sym (held-ledger a)) (bounds-scan (stateIn ws out at) (v .sound) looks b)
+
+pub bounds-settled : {ws out ws' left : List ℕ} {at now : ℕ} → Live ws out at → Onward ws out at ws' left now (run (stateIn ws out at)) → (looks : List ℕ) → Bounds (ledgerOf ws) looks → Bounds (ledgerOf ws') looks
+bounds-settled {ws = ws} {out = out} {at = at} v a looks b =
+    subst (λ (l : Ledger). Bounds l looks) (sym (held-ledger a)) (bounds-run (stateIn ws out at) (v .sound) looks b)
 
 -- ---- the walk of a slot in which no rule applies has nothing to tell
 

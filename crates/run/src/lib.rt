@@ -1,6 +1,9 @@
-// The first of the rules A to G that applies, and settling: again from slot 1 until none applies. A dormant slot is passed over.
+// The first of the rules A to G that applies, and settling: again from slot 1 until none applies. A dormant slot is passed over; what a tray
+// keeps in mind of who names blocks tells of some that they are.
 ghost use Rattle.rulebook.specs.Rules.{ruleG};
 ghost use Rattle.rulebook.specs.Run.{ruleAt, scan, run};
+ghost use Rattle.record.specs.Layout.{ledgerOf};
+ghost use Rattle.looks.specs.Looks.{Bounds};
 ghost use Rattle.voter.specs.Outbox.{stateIn};
 ghost use Rattle.voter.specs.Voting.{Onward};
 ghost use Rattle.fallbacks.specs.UnderWay.{UnderWay};
@@ -51,13 +54,13 @@ fn rule(rec: &mut [u64], outbox: &mut [u64], at: usize, s: Slot, r: usize) -> us
 }
 
 // The first rule that applies, slots ascending and rules A to G within a slot. In a dormant slot none is tried.
-fn scan_slots(rec: &mut [u64], outbox: &mut [u64], at: usize) -> usize
-    requires { ⌜ UnderWay (now rec) (now outbox) at ⌝ }
+fn scan_slots(rec: &mut [u64], outbox: &mut [u64], at: usize, looks: &[u64]) -> usize
+    requires { ⌜ UnderWay (now rec) (now outbox) at × Bounds (ledgerOf (now rec)) (now looks) ⌝ }
     ensures { λ m. ⌜ Onward (now (rec .entry)) (now (outbox .entry)) at (now (rec .exit)) (now (outbox .exit)) m (scan (stateIn (now (rec .entry)) (now (outbox .entry)) at)) ⌝ }
 {
     let mut made = at;
     'scan: for s in 1..17 {
-        if is_dormant(rec, Slot(s)) {
+        if is_dormant(rec, looks, Slot(s)) {
             continue;
         }
         for r in 0..7 {
@@ -70,18 +73,27 @@ fn scan_slots(rec: &mut [u64], outbox: &mut [u64], at: usize) -> usize
     made
 }
 
-// Again from slot 1 until no rule applies.
-pub fn settle(rec: &mut [u64], outbox: &mut [u64], at: usize) -> usize
-    requires { ⌜ UnderWay (now rec) (now outbox) at ⌝ }
+// Again from slot 1 until no rule applies, with what a tray keeps in mind.
+pub fn settle_with(rec: &mut [u64], outbox: &mut [u64], at: usize, looks: &[u64]) -> usize
+    requires { ⌜ UnderWay (now rec) (now outbox) at × Bounds (ledgerOf (now rec)) (now looks) ⌝ }
     ensures { λ m. ⌜ Onward (now (rec .entry)) (now (outbox .entry)) at (now (rec .exit)) (now (outbox .exit)) m (run (stateIn (now (rec .entry)) (now (outbox .entry)) at)) ⌝ }
 {
     let mut made = at;
     loop {
-        let next = scan_slots(rec, outbox, made);
+        let next = scan_slots(rec, outbox, made, looks);
         if next == made {
             break;
         }
         made = next;
     }
     made
+}
+
+// Likewise with nothing kept in mind.
+pub fn settle(rec: &mut [u64], outbox: &mut [u64], at: usize) -> usize
+    requires { ⌜ UnderWay (now rec) (now outbox) at ⌝ }
+    ensures { λ m. ⌜ Onward (now (rec .entry)) (now (outbox .entry)) at (now (rec .exit)) (now (outbox .exit)) m (run (stateIn (now (rec .entry)) (now (outbox .entry)) at)) ⌝ }
+{
+    let none = [0u64; 0];
+    settle_with(rec, outbox, at, &none)
 }

@@ -24,6 +24,7 @@ use Rattle.settling.proofs.Verdicts.{vote-fine}
 use Rattle.settling.proofs.Life.{vote-paid}
 use Rattle.settling.proofs.FeedLaws.{feed-fine, feed-refused}
 use Rattle.storing.specs.Storing.{Storing}
+use Rattle.looks.specs.Looks.{Bounds, Noted}
 use Rattle.voter.specs.Outbox.{recordsIn, stateIn}
 use Rattle.voter.specs.Voting.{Onward}
 use Rattle.voter.proofs.LiveLaws.{onward-none, onward-is, onward-then}
@@ -81,6 +82,10 @@ module _ {ws out : List ℕ} {made : ℕ} {v : Vote} (k : Taking ws out made v) 
     -- The rules can run.
     pub vote-way : UnderWay ws' out made
     vote-way = under-way (sound-tabled ws (k .serving .sound)) vote-stored
+
+    -- What was kept in mind of the votes before holds of this one too.
+    pub vote-noted : (looks : List ℕ) → Noted (ledgerOf ws) (v .slot .0) (v .node .0) (v .kind) looks → Bounds (ledgerOf ws') looks
+    vote-noted looks f = subst (λ (l : Ledger). Bounds l looks) (sym is) (f (v .block) (fits .free))
 
     -- And then they have run.
     pub vote-run : {ws'' left : List ℕ} {r : ℕ} → Onward ws' out made ws'' left r (run (stateIn ws' out made))

@@ -1,0 +1,3 @@
+pub mod Beside
+pub mod Staying
+pub mod Noted
