@@ -17,12 +17,12 @@ use Rattle.seen.specs.Seen.{Seen, NodeSeen}
 use Rattle.seen.specs.Ring.{toldBallot}
 use Rattle.seen.specs.Chain as seen
 use Rattle.seen.proofs.More.{signers-more}
-use Rattle.seen.proofs.Safety.{safe, mail-is-enough}
+use Rattle.seen.proofs.Safety.{safe}
 use Rattle.seen.proofs.Chain.{settled-chained, settled-once}
 use Rattle.calls.specs.Life.{Calls, Life}
 use Rattle.calls.proofs.Life.{life-is-seen, calls-earlier}
 use Rattle.restart.specs.Deeds.{Desk, Deed, calls, stores, sends, dies, opened, afterDeed, afterDeeds, diesIn, allTold, inOrder, allInOrder, Called, AllCalled, Host, OneLife}
-use Rattle.restart.specs.Ring.{Desks, livesOf, sentBallot, DyingRing, FedDyingRing, DyingIsRing, FedDyingIsRing, StoredIsMoment, DyingMet, SafeThroughDeaths, SettledOut, proved, reported, ChainedThroughDeaths, SettledOnceThroughDeaths}
+use Rattle.restart.specs.Ring.{Desks, livesOf, sentBallot, DyingRing, FedDyingRing, DyingIsRing, FedDyingIsFed, StoredIsMoment, DyingMet, SafeThroughDeaths, SettledOut, proved, reported, ChainedThroughDeaths, SettledOnceThroughDeaths}
 use Rattle.restart.proofs.Deeds.{told-itself, then-on, whole-at-first, deaths-leave-one-life}
 
 module _ (stakes : List ℕ) (genesis : ℕ → ℕ) (honest : Test) (desks : Desks) (hosts : (n : ℕ) → T (honest n) → Host stakes n (genesis n) (desks n)) where
@@ -51,15 +51,14 @@ dying-is-ring stakes genesis honest desks ring =
       kept = λ n s j h t. signers-more honest (sentBallot desks) (toldBallot (livesOf desks)) up (placeKind j) _ (ring .kept n s j h t);
     }
 
-pub fed-dying-is-ring : FedDyingIsRing
-fed-dying-is-ring stakes genesis honest desks ring =
+pub fed-dying-is-fed : FedDyingIsFed
+fed-dying-is-fed stakes genesis honest desks ring =
     let up = sent-told stakes genesis honest desks (ring .hosts) in
-    mail-is-enough stakes genesis honest (livesOf desks)
-    (record {
+    record {
       nodes = record { few = ring .few; lived = still-node stakes genesis honest desks (ring .hosts) };
       mail = λ n m s v h k ne t. up m s v k (ring .mail n m s v h k ne t);
       packets = λ n c h t f. signers-more honest (sentBallot desks) (toldBallot (livesOf desks)) up (kindIn (length stakes) (c .kind)) c (ring .packets n c h t f);
-    })
+    }
 
 pub stored-is-moment : StoredIsMoment
 stored-is-moment stakes genesis honest desks ring n h xs ys e =

@@ -56,8 +56,10 @@ module _ (stakes : List ℕ) (genesis : ℕ → ℕ) (honest : Test) (desks : De
 abbrev pub DyingIsRing : Type 0
 DyingIsRing = (stakes : List ℕ) (genesis : ℕ → ℕ) (honest : Test) (desks : Desks) → DyingRing stakes genesis honest desks → seen.Ring stakes genesis honest (livesOf desks)
 
-abbrev pub FedDyingIsRing : Type 0
-FedDyingIsRing = (stakes : List ℕ) (genesis : ℕ → ℕ) (honest : Test) (desks : Desks) → FedDyingRing stakes genesis honest desks → seen.Ring stakes genesis honest (livesOf desks)
+-- And where the host checks what arrives it is a ring of what arrived at them.
+abbrev pub FedDyingIsFed : Type 0
+FedDyingIsFed =
+    (stakes : List ℕ) (genesis : ℕ → ℕ) (honest : Test) (desks : Desks) → FedDyingRing stakes genesis honest desks → seen.FedRing stakes genesis honest (livesOf desks)
 
 -- Every record that was ever stored is a moment of the one life: so what is promised of certificates and proofs that are written at a moment holds of those
 -- that a host writes off what it stored, and hands out.

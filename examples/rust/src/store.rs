@@ -3,6 +3,27 @@
 //! A host stores its record after each call that made something, and sends only once [`Store::save`] has returned: then nothing that
 //! it sent is unknown to the record that it starts again from.
 //!
+//! ```no_run
+//! use quointrowel::{Node, Outbox, Record, Slot, Store};
+//!
+//! let store = Store::new("firm-2");
+//! store.save(&Record::start(&[4, 3, 3], Node(2), 1)?, &[])?; // once, before anything else in these sixteen slots
+//!
+//! let mut record = store.load()?.record; // at every start of the process
+//! for slot in 1..=16 {
+//!     for vote in record.kept_votes(Slot(slot), Node(2))? {
+//!         println!("to be sent again: {vote:?}");
+//!     }
+//! }
+//! let mut outbox = Outbox::new();
+//! record.look(&mut outbox)?;
+//! store.save(&record, &[])?; // and only then
+//! for event in outbox.events() {
+//!     println!("to be sent, where it is a vote: {event:?}");
+//! }
+//! # Ok::<(), Box<dyn std::error::Error>>(())
+//! ```
+//!
 //! # The form of a file
 //!
 //! Words of 8 bytes, lowest byte first:
@@ -55,7 +76,8 @@ pub struct Kept {
 /// Why a file gave no record.
 #[derive(Clone, Copy, Debug, PartialEq, Eq)]
 pub enum Unread {
-    /// There is no such file.
+    /// There is no such file. A host that has sent anything in these sixteen slots must not start afresh then: it would not know its
+    /// own votes.
     Missing,
     /// It ends before what its front says, or before its front does.
     Cut,
