@@ -116,7 +116,7 @@ fill-there k i p [] e = true-not-false false e refl
 fill-there k i p (q ∷ qs) e = fill-go (isRoom k i q) k i p q qs refl e (λ x. fill-there k (suc i) p qs x)
 
 -- What the checker accepts has a signer.
-some-fifths : (k : CertificateKind) (t : ℕ) → 1 ≤ t → 1 ≤ fifthsOf k * t
+pub some-fifths : (k : CertificateKind) (t : ℕ) → 1 ≤ t → 1 ≤ fifthsOf k * t
 unfolding fifthsOf
 some-fifths certificate.FastFinal t h = omega arith
 some-fifths certificate.Notar t h = omega arith

@@ -20,7 +20,7 @@ use Rattle.safety.specs.Slot.{Ballot}
 use Rattle.safety.specs.Ballots.{has, recordFor, sameRecord, among}
 use Rattle.safety.specs.Ring.{afterAll}
 use Rattle.safety.proofs.Tests.{true-T}
-use Rattle.safety.proofs.Lives.{fresh-cell, fresh-has}
+use Rattle.safety.proofs.Lives.{Sized, start-sized, watch-sized, fresh-cell, fresh-has}
 use Rattle.seen.specs.Seen.{Seen, ledgerIn, LifeSeen, Alive, node, watcher}
 use Rattle.told.specs.Told.{countOf, tells, arms, opens, Once, ToldOnce, Marked, MarksAreTold, ToldFew}
 use Rattle.told.proofs.Counting.{Counts, life-counts}
@@ -31,12 +31,13 @@ use Rattle.told.proofs.Once.{finalOn, final-counts, finalIs, block-coun
 -- What a node's life and a watcher's began with.
 pub record Began (stakes : List ℕ) (genesis : ℕ) (v : Seen) : Type 0 where
   pub own : ℕ
+  pub size : Sized stakes own
   pub sound : Sound (fresh stakes own genesis)
   pub lived : LifeSeen (fresh stakes own genesis) v
 
 pub alive-began : {stakes : List ℕ} {genesis : ℕ} {v : Seen} → Alive stakes genesis v → Began stakes genesis v
-alive-began {stakes} {genesis} (node own h) = record { own = own; sound = fresh-sound stakes own genesis (h .started); lived = h .lived }
-alive-began {stakes} {genesis} (watcher h) = record { own = length stakes; sound = watching-sound stakes genesis (h .started); lived = h .lived }
+alive-began {stakes} {genesis} (node own h) = record { own = own; size = start-sized stakes own genesis (h .started); sound = fresh-sound stakes own genesis (h .started); lived = h .lived }
+alive-began {stakes} {genesis} (watcher h) = record { own = length stakes; size = watch-sized stakes genesis (h .started); sound = watching-sound stakes genesis (h .started); lived = h .lived }
 
 -- ---- counted
 

@@ -11,7 +11,7 @@ use Rattle.rulebook.specs.declared.Who.the-variants as who
 use Rattle.rulebook.specs.Tools.{choose}
 use Rattle.rulebook.specs.Ledger.{Ledger, noCell, rowAt, fresh}
 use Rattle.rulebook.specs.Pool.{counts, weigh, held}
-use Rattle.rulebook.specs.Rules.{Record, recordOf}
+use Rattle.rulebook.specs.Rules.{Record, recordOf, isFinal}
 use Rattle.rulebook.specs.Taking.{Arrival, ofInput, ofPacket}
 use Rattle.rulebook.specs.Scripts.{vote, block, look, flatten, equal, all}
 use Rattle.rulebook.specs.Computes.{rules}
@@ -63,9 +63,18 @@ another =
     all (equal (flatten told) (7 ∷ 1 ∷ 0 ∷ 6 ∷ 1 ∷ 7 ∷ 8 ∷ 1 ∷ 9 ∷ [])
     ∷ found (tells 6 1) told 1
     ∷ found (tells 8 1) told 1
+    ∷ isFinal (after l cs) 1 7
+    ∷ isFinal (after l cs) 1 9
     ∷ eqb (rowAt (after l cs) 1 .final) 7
     ∷ eqb (rowAt (after l cs) 1 .clash) 1
     ∷ eqb (rowAt (after l cs) 2 .clash) 0 ∷ [])
+
+-- It keeps block 7 and its child 8, and is handed kind 1 for the child: the child is told, and in the same call the parent.
+abbrev parentToo : Bool
+parentToo =
+    let l : Ledger = fresh (1 ∷ 1 ∷ 1 ∷ 1 ∷ 1 ∷ []) 5 1 in
+    let told = life l (ofInput (block 1 7 0 1) ∷ ofInput (block 2 8 1 7) ∷ packet 1 2 8 15 0 ∷ []) in
+    all (equal (flatten told) (7 ∷ 1 ∷ 0 ∷ 6 ∷ 2 ∷ 8 ∷ 6 ∷ 1 ∷ 7 ∷ []) ∷ found (tells 6 1) told 1 ∷ found (tells 6 2) told 1 ∷ [])
 
 -- Node 0 of five takes kind 2 for block 7, has it already, refuses one for block 9 in its place: held are kinds 2 and 3 for 7 in slot 1, nothing for 9,
 -- nothing in slot 2, before it nothing; and it stays so.
@@ -100,6 +109,6 @@ weighed =
     ∷ eqb (weigh l 2 (who.Notar 7)) 0
     ∷ eqb (weigh l 2 who.AnyNotar) 0 ∷ [])
 
-cornersOfTold : T (all (onceInALife ∷ countedApart ∷ another ∷ taken ∷ alike (notar 7) ∷ alike (notarFallback 7) ∷ alike skip ∷ alike skipFallback ∷ alike final ∷ weighed ∷ []))
+cornersOfTold : T (all (onceInALife ∷ countedApart ∷ another ∷ parentToo ∷ taken ∷ alike (notar 7) ∷ alike (notarFallback 7) ∷ alike skip ∷ alike skipFallback ∷ alike final ∷ weighed ∷ []))
 unfolding rules after life countOf belongs
 cornersOfTold = tt
