@@ -73,7 +73,7 @@ module _ (stakes : List ℕ) (genesis : ℕ) (v : Seen) (a : Began stakes genesi
       (λ t. g (a .lived .ledger ∙ life-stays l (v .came) (a .sound) t))
 
   -- A mark was told.
-  mark-told : (s b : ℕ) → T (not (none b)) → IsTold (ledgerIn v) s b → T (isTold v s b)
+  mark-told : (s b : ℕ) → T (not (none b)) → IsTold (ledgerIn v) s b → T (isTold (v .told) s b)
   mark-told s b nb (inl e) =
       T-left (among (v .told) (recordOf 6 s b)) (not (none (countOf (tells 8 s) (v .told))))
       (true-T (among (v .told) (recordOf 6 s b)) (sym (m .final s b) ∙ both-and (not (none b)) (eqb (rowAt (ledgerIn v) s .final) b) (T-true (not (none b)) nb) (eq-eqb (rowAt (ledgerIn v) s .final) b e)))
@@ -81,14 +81,14 @@ module _ (stakes : List ℕ) (genesis : ℕ) (v : Seen) (a : Began stakes genesi
       T-right (among (v .told) (recordOf 6 s b)) (not (none (countOf (tells 8 s) (v .told))))
       (true-T (not (none (countOf (tells 8 s) (v .told)))) (sym (m .another s) ∙ ap not e))
 
-  certified : (s b : ℕ) → 1 ≤ s → s ≤ lastSlot → T (not (none b)) → T (isFinal (ledgerIn v) s b) → T (isTold v s b)
+  certified : (s b : ℕ) → 1 ≤ s → s ≤ lastSlot → T (not (none b)) → T (isFinal (ledgerIn v) s b) → T (isTold (v .told) s b)
   certified s b low high nb t =
       rest-or-fresh
       (λ r. mark-told s b nb
       (certified-is-told (stateOf (ledgerIn v) (r .records)) (r .settled) (sound-tabled (v .words) (a .lived .sound)) s b low high (not-false (none b) nb) (T-true (isFinal (ledgerIn v) s b) t)))
       (λ e. absurd (fresh-not-final stakes (a .own) genesis (a .size) s b nb (subst (λ (l : Ledger). T (isFinal l s b)) e t)))
 
-  parent : (s b p x : ℕ) → 1 ≤ s → s ≤ lastSlot → 1 ≤ p → T (among (v .told) (recordOf 6 s b)) → T (keepsBlock (ledgerIn v) s b p x) → T (isTold v p x)
+  parent : (s b p x : ℕ) → 1 ≤ s → s ≤ lastSlot → 1 ≤ p → T (among (v .told) (recordOf 6 s b)) → T (keepsBlock (ledgerIn v) s b p x) → T (isTold (v .told) p x)
   parent s b p x low high pos told t =
       let l = ledgerIn v in
       let is : rowAt l s .final ≡ b = eqb-true (rowAt l s .final) b (and-both (not (none b)) (eqb (rowAt l s .final) b) (m .final s b ∙ T-true (among (v .told) (recordOf 6 s b)) told) .1) in

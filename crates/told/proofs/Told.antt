@@ -117,6 +117,10 @@ marks-are-told stakes genesis v alive =
           (seen-counts (λ r. sameRecord r (recordOf 6 s b)) (finalIs s b) (block-counts s b) stakes genesis v a (fresh-is s b (a .own)))
           ∙ sym (among-counts (v .told) (recordOf 6 s b));
       another = λ s. one-on (not (none (rowAt (ledgerIn v) s .clash))) (countOf (tells 8 s) (v .told)) (another-told stakes genesis v a s);
+      armed = λ w. one-on (not (none (getD (ledgerIn v .armed) w 0))) (countOf (arms w) (v .told)) (armed-told stakes genesis v a w);
+      vote = λ s b.
+          one-on (has (ownCell (ledgerIn v) s) b) (countOf (λ r. sameRecord r (recordFor s b)) (v .told)) (vote-told stakes genesis v a s b)
+          ∙ sym (among-counts (v .told) (recordFor s b));
     }
   where
     no-final : (b x : ℕ) → x ≡ 0 → (not (none b) && eqb x b) ≡ false

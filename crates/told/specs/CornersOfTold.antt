@@ -18,7 +18,7 @@ use Rattle.rulebook.specs.Computes.{rules}
 use Rattle.settling.specs.Steps.{after, life}
 use Rattle.safety.specs.Slot.{Ballot, notar, notarFallback, skip, skipFallback, final}
 use Rattle.safety.specs.Ballots.{withBallot, sameRecord}
-use Rattle.told.specs.Told.{countOf, tells, arms, opens}
+use Rattle.told.specs.Told.{countOf, tells, arms, opens, isTold}
 use Rattle.told.specs.Held.{belongs}
 
 -- So many of the records pass the test.
@@ -39,7 +39,7 @@ onceInALife =
 -- Counted apart: kind and slot of a final block, whatever the block; a window by any of its slots; notar and skip together, fallbacks and finals not.
 abbrev countedApart : Bool
 countedApart =
-    let told = recordOf 6 1 7 ∷ recordOf 6 1 9 ∷ recordOf 6 2 7 ∷ recordOf 8 1 9 ∷ recordOf 7 1 0 ∷ recordOf 7 4 0 ∷ recordOf 7 5 0 ∷ recordOf 1 3 7 ∷ recordOf 3 3 0 ∷ recordOf 2 3 7 ∷ recordOf 5 3 0 ∷ recordOf 3 4 0 ∷ [] in
+    let told = recordOf 6 1 7 ∷ recordOf 6 1 9 ∷ recordOf 6 2 7 ∷ recordOf 8 1 9 ∷ recordOf 7 1 0 ∷ recordOf 7 4 0 ∷ recordOf 7 5 0 ∷ recordOf 1 3 7 ∷ recordOf 3 3 0 ∷ recordOf 2 3 7 ∷ recordOf 5 3 0 ∷ recordOf 3 4 0 ∷ recordOf 0 3 7 ∷ [] in
     all (found (tells 6 1) told 2
     ∷ found (tells 6 2) told 1
     ∷ found (tells 8 1) told 1
@@ -48,6 +48,20 @@ countedApart =
     ∷ found (arms 1) told 1
     ∷ found (opens 3) told 2
     ∷ found (opens 4) told 1 ∷ [])
+
+-- Told are a slot's final block, and of a slot with another any block; nothing of a slot whose window was armed, nor of one with no record.
+abbrev toldOrAnother : Bool
+toldOrAnother =
+    let told = recordOf 6 1 7 ∷ recordOf 8 2 9 ∷ recordOf 7 5 0 ∷ recordOf 5 3 7 ∷ [] in
+    all (isTold told 1 7
+    ∷ isTold told 2 9
+    ∷ isTold told 2 5
+    ∷ not (isTold told 1 9)
+    ∷ not (isTold told 1 1)
+    ∷ not (isTold told 5 0)
+    ∷ not (isTold told 3 7)
+    ∷ not (isTold told 7 1)
+    ∷ not (isTold told 4 2) ∷ [])
 
 -- A packet by its five numbers: kind, slot, block and masks.
 abbrev packet : ℕ → ℕ → ℕ → ℕ → ℕ → Arrival
@@ -109,6 +123,6 @@ weighed =
     ∷ eqb (weigh l 2 (who.Notar 7)) 0
     ∷ eqb (weigh l 2 who.AnyNotar) 0 ∷ [])
 
-cornersOfTold : T (all (onceInALife ∷ countedApart ∷ another ∷ parentToo ∷ taken ∷ alike (notar 7) ∷ alike (notarFallback 7) ∷ alike skip ∷ alike skipFallback ∷ alike final ∷ weighed ∷ []))
+cornersOfTold : T (all (onceInALife ∷ countedApart ∷ toldOrAnother ∷ another ∷ parentToo ∷ taken ∷ alike (notar 7) ∷ alike (notarFallback 7) ∷ alike skip ∷ alike skipFallback ∷ alike final ∷ weighed ∷ []))
 unfolding rules after life countOf belongs
 cornersOfTold = tt
