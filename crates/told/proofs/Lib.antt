@@ -5,3 +5,4 @@ pub mod Told
 pub mod Held
 pub mod Counted
 pub mod All
+pub mod Spreads
