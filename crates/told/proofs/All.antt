@@ -1,25 +1,23 @@
 -- Where no rule applies a final block is marked, and marks are told; before the first accepted call nothing is final.
-use mathlib.Core.Path.{_≡_, refl, sym, ap, _∙_, subst}
-use mathlib.Core.Bool.{Bool, true, false, not, _&&_, _||_}
+use mathlib.Core.Path.{_≡_, sym, ap, _∙_, subst}
+use mathlib.Core.Bool.{not, _&&_}
 use mathlib.Core.List.{List}
-use mathlib.Core.Logic.{_⊎_, inl, inr, ⊎-elim}
+use mathlib.Core.Logic.{inl, inr}
 use Prim.Native.Nat.{ℕ, _*_, _≤_}
 use native.Mathlib.Omega.{arith}
 use lib.Dec.{T, eqb, leb→le, not-T}
-use lib.ListN.{length}
-use borrow.Author.Tests.{eqb-true, eq-eqb, not-true}
+use borrow.Author.Tests.{eqb-true, eq-eqb}
 use Rattle.rulebook.specs.declared.CertificateKind.{CertificateKind}
 use Rattle.rulebook.specs.declared.CertificateKind.the-variants as certificate
-use Rattle.rulebook.specs.Weights.{lastSlot, weight, totalTo, reaches}
+use Rattle.rulebook.specs.Weights.{lastSlot, weight, reaches}
 use Rattle.rulebook.specs.Ledger.{Ledger, none, rowAt, cellAt, keepsBlock, fresh}
 use Rattle.rulebook.specs.Pool.{fifthsOf, held}
 use Rattle.rulebook.specs.Checker.{isOtherKind, blockMisfits}
-use Rattle.rulebook.specs.Rules.{State, stateOf, recordOf, isFinal}
+use Rattle.rulebook.specs.Rules.{stateOf, recordOf, isFinal}
 use Rattle.rule_laws.proofs.ToolLaws.{by-test, and-both, both-and}
-use Rattle.settling.specs.Facts.{Sound}
 use Rattle.safety.specs.Ballots.{has, among}
 use Rattle.safety.specs.Grounds.{signs, Held, byVotes, byKept}
-use Rattle.safety.specs.Ring.{afterAll, ballotA, ballotB}
+use Rattle.safety.specs.Ring.{ballotA, ballotB}
 use Rattle.safety.proofs.Tests.{T-true, true-T, and-T, or-T, T-left, T-right, neither, not-false}
 use Rattle.safety.proofs.Weighing.{weight-zero}
 use Rattle.safety.proofs.Behind.{held-Held}

@@ -1,8 +1,8 @@
 -- What is written is accepted, what is taken is held, what is held is final and told.
 use mathlib.Core.Path.{_≡_, refl, sym, ap, _∙_, subst}
-use mathlib.Core.Bool.{Bool, true, false, not, _&&_, _||_}
+use mathlib.Core.Bool.{Bool, true, false, not, _&&_}
 use mathlib.Core.List.{List, [], _∷_, _++_, append-assoc}
-use Prim.Native.Nat.{ℕ, _+_, _≤_}
+use Prim.Native.Nat.{ℕ, _+_}
 use native.Mathlib.Omega.{arith}
 use lib.Dec.{T, eqb}
 use lib.ListN.{length, take}
@@ -10,7 +10,6 @@ use borrow.Author.Tests.{eq-eqb}
 use Rattle.rulebook.specs.declared.CertificateKind.{CertificateKind}
 use Rattle.rulebook.specs.declared.CertificateKind.the-variants as certificate
 use Rattle.rulebook.specs.Tools.{part}
-use Rattle.rulebook.specs.Weights.{lastSlot}
 use Rattle.rulebook.specs.PaperNumbers.{checkNumber, checkValues, checkMissing}
 use Rattle.rulebook.specs.Ledger.{Ledger, none, fresh}
 use Rattle.rulebook.specs.Pool.{held}
@@ -22,9 +21,7 @@ use Rattle.settling.specs.Steps.{life}
 use Rattle.safety.specs.Ballots.{sameRecord, among}
 use Rattle.safety.specs.Ring.{afterAll}
 use Rattle.safety.proofs.Tests.{true-T, and-T, T-and, or-T, T-left, T-right, not-false}
-use Rattle.answers.specs.Face.{Checked}
-use Rattle.seen.specs.Seen.{Seen, ledgerIn, LifeSeen, Earlier, Alive, node}
-use Rattle.seen.specs.Progress.{Gives}
+use Rattle.seen.specs.Seen.{Seen, ledgerIn, LifeSeen, Earlier, node}
 use Rattle.seen.proofs.Alive.{alive-common}
 use Rattle.seen.proofs.Ring.{among-both}
 use Rattle.seen.proofs.Written.{written-accepted}

@@ -4,7 +4,7 @@ use mathlib.Core.Bool.{Bool, true, false, not, _&&_, _||_}
 use mathlib.Core.List.{List, [], _∷_}
 use Prim.Native.Nat.{ℕ, _+_, _≤_}
 use native.Mathlib.Omega.{arith}
-use lib.Dec.{T, eqb}
+use lib.Dec.{eqb}
 use lib.ListN.{length, getD}
 use borrow.Author.Tests.{eqb-false, ne-eqb}
 use Rattle.rulebook.specs.Tools.{part}
@@ -18,11 +18,10 @@ use Rattle.settling.proofs.Start.{fresh-sound, watching-sound}
 use Rattle.settling.proofs.Life.{life-within}
 use Rattle.safety.specs.Slot.{Ballot}
 use Rattle.safety.specs.Ballots.{has, recordFor, sameRecord, among}
-use Rattle.safety.specs.Ring.{afterAll}
 use Rattle.safety.proofs.Tests.{true-T}
 use Rattle.safety.proofs.Lives.{Sized, start-sized, watch-sized, fresh-cell, fresh-has}
 use Rattle.seen.specs.Seen.{Seen, ledgerIn, LifeSeen, Alive, node, watcher}
-use Rattle.told.specs.Told.{countOf, tells, arms, opens, Once, ToldOnce, Marked, MarksAreTold, ToldFew}
+use Rattle.told.specs.Told.{countOf, tells, arms, opens, Once, ToldOnce, MarksAreTold, ToldFew}
 use Rattle.told.proofs.Counting.{Counts, life-counts}
 use Rattle.told.proofs.Once.{finalOn, final-counts, finalIs, block-counts, anotherOn, another-counts, armedOn, armed-counts, openIn, initial-counts, vote-counts, fresh-final, fresh-clash, fresh-armed}
 

@@ -4,7 +4,6 @@ use mathlib.Core.Bool.{Bool, not}
 use mathlib.Core.List.{List, [], _∷_, _++_, map}
 use Prim.Native.Nat.{ℕ}
 use lib.Dec.{T, eqb}
-use lib.ListN.{length}
 use Rattle.rulebook.specs.declared.CertificateKind.the-variants as certificate
 use Rattle.rulebook.specs.declared.Who.{Who}
 use Rattle.rulebook.specs.declared.Who.the-variants as who
@@ -13,6 +12,7 @@ use Rattle.rulebook.specs.Ledger.{Ledger, noCell, rowAt, fresh}
 use Rattle.rulebook.specs.Pool.{counts, weigh, held}
 use Rattle.rulebook.specs.Rules.{Record, recordOf, isFinal}
 use Rattle.rulebook.specs.Taking.{Arrival, ofInput, ofPacket}
+use Rattle.rulebook.specs.Writers.{writeCertificate}
 use Rattle.rulebook.specs.Scripts.{vote, block, look, flatten, equal, all}
 use Rattle.rulebook.specs.Computes.{rules}
 use Rattle.settling.specs.Steps.{after, life}
@@ -112,6 +112,13 @@ alike v =
     let same : Who → Bool = λ x. choose (belongs v x) (counts x c) (not (counts x c)) in
     all (same (who.Notar 7) ∷ same (who.Notar 9) ∷ same (who.NotarOrFallback 7) ∷ same (who.NotarOrFallback 9) ∷ same who.Skip ∷ same who.SkipOrFallback ∷ same who.Final ∷ same who.AnyNotar ∷ [])
 
+-- Node 0 has four of five votes for block 7 and writes kind 1; node 1, which has none of them, takes it and tells of the block in that call.
+abbrev spreads : Bool
+spreads =
+    let l : Ledger = after (fresh (1 ∷ 1 ∷ 1 ∷ 1 ∷ 1 ∷ []) 0 1) (map ofInput (vote 1 1 1 7 ∷ vote 1 2 1 7 ∷ vote 1 3 1 7 ∷ vote 1 4 1 7 ∷ [])) in
+    let handed : Arrival = ofPacket (writeCertificate l 1000 certificate.FastFinal 1 7 .bytes) in
+    equal (flatten (life (fresh (1 ∷ 1 ∷ 1 ∷ 1 ∷ 1 ∷ []) 1 1) (handed ∷ []))) (7 ∷ 1 ∷ 0 ∷ 6 ∷ 1 ∷ 7 ∷ [])
+
 -- Another's notar vote for block 7 of slot 1 has its stake, 3 of 6, in the three weights of slot 1 that it belongs to, and in none of slot 2.
 abbrev weighed : Bool
 weighed =
@@ -123,6 +130,6 @@ weighed =
     ∷ eqb (weigh l 2 (who.Notar 7)) 0
     ∷ eqb (weigh l 2 who.AnyNotar) 0 ∷ [])
 
-cornersOfTold : T (all (onceInALife ∷ countedApart ∷ toldOrAnother ∷ another ∷ parentToo ∷ taken ∷ alike (notar 7) ∷ alike (notarFallback 7) ∷ alike skip ∷ alike skipFallback ∷ alike final ∷ weighed ∷ []))
+cornersOfTold : T (all (onceInALife ∷ countedApart ∷ toldOrAnother ∷ another ∷ parentToo ∷ taken ∷ alike (notar 7) ∷ alike (notarFallback 7) ∷ alike skip ∷ alike skipFallback ∷ alike final ∷ spreads ∷ weighed ∷ []))
 unfolding rules after life countOf belongs
 cornersOfTold = tt
