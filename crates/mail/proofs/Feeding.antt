@@ -12,7 +12,7 @@ use lib.ListN.{length, getD-replicate}
 use Rattle.rulebook.specs.declared.Block.{Block}
 use Rattle.rulebook.specs.declared.Input.the-variants as input
 use Rattle.rulebook.specs.Certificates.{Certificate}
-use Rattle.rulebook.specs.Tools.{given}
+use Rattle.rulebook.specs.Tools.{whenever}
 use Rattle.rulebook.specs.PaperNumbers.{kindIn}
 use Rattle.rulebook.specs.Weights.{placesFor, lastSlot}
 use Rattle.rulebook.specs.Ledger.{Ledger, blankRow, noRow, fresh, cellAt, ownCell, noInitial, isWatcher, isArmed, blocksAt, keepsBlock}
@@ -60,7 +60,7 @@ module _ (stakes : List ℕ) (genesis : ℕ → ℕ) (honest : Test) where
 
   -- The votes that honest node m cast, for node n.
   abbrev votesFrom : Fed → ℕ → ℕ → List Arrival
-  votesFrom fed n m = given (honest m && not (eqb m n)) [] (λ _. asVotes m (calls.life (start m) (fed m)))
+  votesFrom fed n m = whenever (honest m && not (eqb m n)) (λ _. asVotes m (calls.life (start m) (fed m))) []
 
   -- First a look and the votes.
   abbrev opening : Fed → ℕ → List Arrival
@@ -71,7 +71,7 @@ module _ (stakes : List ℕ) (genesis : ℕ → ℕ) (honest : Test) where
 
   -- The blocks that honest node m keeps, and all of them.
   abbrev shownBy : Fed → ℕ → List Arrival
-  shownBy fed m = given (honest m) [] (λ _. gather (suc lastSlot) (λ t. asShown t (blocksAt (life stakes genesis honest fed m) t)))
+  shownBy fed m = whenever (honest m) (λ _. gather (suc lastSlot) (λ t. asShown t (blocksAt (life stakes genesis honest fed m) t))) []
 
   abbrev shownAll : Fed → List Arrival
   shownAll fed = gather count (shownBy fed)
