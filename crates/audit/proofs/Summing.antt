@@ -10,7 +10,7 @@ use borrow.Author.Tests.{eq-eqb, eqb-true, ne-eqb, lt-ltb}
 use Rattle.rulebook.specs.declared.Cell.{Cell}
 use Rattle.rulebook.specs.declared.Tally.{Tally}
 use Rattle.rulebook.specs.declared.Who.the-variants as who
-use Rattle.rulebook.specs.Tools.{part, given, allTo}
+use Rattle.rulebook.specs.Tools.{part, whenever, allTo}
 use Rattle.rulebook.specs.Weights.{stakeIn, weight}
 use Rattle.rulebook.specs.Ledger.{Ledger, none, noCell, noCard, places, rowAt, cellAt}
 use Rattle.rulebook.specs.Pool.{counts, weigh}
@@ -108,9 +108,9 @@ module _ (l : Ledger) (s b : ℕ) where
   pub cells-tested : places l ≡ l .count → done .fits ≡ cellsFit l s (l .count)
   unfolding sumsTo cellsFit
   cells-tested full =
-      all-same (l .count) (λ i. cellFits (cellAt l s i)) (λ i. given (ltb i (l .count)) (cellBlank (cellAt l s i)) (λ _. cellFits (cellAt l s i)))
+      all-same (l .count) (λ i. cellFits (cellAt l s i)) (λ i. whenever (ltb i (l .count)) (λ _. cellFits (cellAt l s i)) (cellBlank (cellAt l s i)))
       (λ i h. sym (given-on (ltb i (l .count)) (cellBlank (cellAt l s i)) (λ _. cellFits (cellAt l s i)) (lt-ltb i (l .count) h)))
-      ∙ ap (λ (k : ℕ). allTo k (λ i. given (ltb i (l .count)) (cellBlank (cellAt l s i)) (λ _. cellFits (cellAt l s i)))) (sym full)
+      ∙ ap (λ (k : ℕ). allTo k (λ i. whenever (ltb i (l .count)) (λ _. cellFits (cellAt l s i)) (cellBlank (cellAt l s i)))) (sym full)
 
 -- ---- a blank cell
 

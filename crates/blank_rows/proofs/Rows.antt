@@ -10,7 +10,7 @@ use lib.Dec.{ltb}
 use borrow.Author.Tests.{le-ltb}
 use Rattle.rulebook.specs.declared.Block.{Block}
 use Rattle.rulebook.specs.declared.Tally.{Tally}
-use Rattle.rulebook.specs.Tools.{given, allTo}
+use Rattle.rulebook.specs.Tools.{whenever, allTo}
 use Rattle.rulebook.specs.Ledger.{Ledger, none, noBlock, noCard, places, rowAt, cellAt, blocksAt, allBlocks, certificatesAt}
 use Rattle.rulebook.specs.Cards.{sameCard}
 use Rattle.rulebook.specs.WellFormed.{blockBlank, keptBlank, eachKept, cellBlank, cellFits, cellsFit}
@@ -57,7 +57,7 @@ module _ (ws : List ℕ) (a : ℕ) where
 pub unused-blank : (l : Ledger) (s : ℕ) → allTo (places l) (λ n. cellBlank (cellAt l s n)) ≡ cellsFit l s 0
 unfolding cellsFit
 unused-blank l s =
-    all-same (places l) (λ n. cellBlank (cellAt l s n)) (λ n. given (ltb n 0) (cellBlank (cellAt l s n)) (λ _. cellFits (cellAt l s n)))
+    all-same (places l) (λ n. cellBlank (cellAt l s n)) (λ n. whenever (ltb n 0) (λ _. cellFits (cellAt l s n)) (cellBlank (cellAt l s n)))
     (λ n h. sym (given-off (ltb n 0) (cellBlank (cellAt l s n)) (λ _. cellFits (cellAt l s n)) (le-ltb n 0 (omega arith))))
 
 module _ (ws : List ℕ) (s from : ℕ) (h : InSlot ws s) (is : from ≡ rowStart (placesIn ws) s) where

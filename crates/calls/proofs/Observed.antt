@@ -11,7 +11,7 @@ use Rattle.rulebook.specs.declared.Input.{Input}
 use Rattle.rulebook.specs.declared.StepAnswer.{StepAnswer}
 use Rattle.rulebook.specs.declared.StepAnswer.the-variants.{Done, Refused}
 use Rattle.rulebook.specs.PaperNumbers.{stepPanel}
-use Rattle.rulebook.specs.Tools.{given}
+use Rattle.rulebook.specs.Tools.{whenever}
 use Rattle.rulebook.specs.Ledger.{Ledger, fresh}
 use Rattle.rulebook.specs.Taking.{Arrival, ofInput, ofPacket, served}
 use Rattle.rulebook.specs.WellFormed.{outboxWords}
@@ -154,10 +154,10 @@ module _ (ws lent : List ℕ) (i : Arrival) (number made : ℕ) (words left : Li
       by-test (leb outboxWords (length lent))
       (λ t. let d = call-served ws lent i number made words left sound leaves one a b w o (leb-true outboxWords (length lent) t) in
       let e = done-zero (served (ledgerOf ws) i .answer) number (d .answered) in
-      (λ j. given (e j) [] (λ _. passedOn i ++ asVotes (ledgerOf ws .own) (d .told j)))
+      (λ j. whenever (e j) (λ _. passedOn i ++ asVotes (ledgerOf ws .own) (d .told j)) [])
       ∙ sym (append-nil _) ∙ ap (shown (ledgerOf ws)) (sym (given-on _ _ _ t)))
       (λ t. let n = short-nine ws lent i number made words left sound leaves one a b w o (leb-false outboxWords (length lent) t) in
-      ap (λ (k : ℕ). given (eqb k 0) [] (λ _. passedOn i ++ asVotes (ledgerOf ws .own) (firstRecords made left))) n
+      ap (λ (k : ℕ). whenever (eqb k 0) (λ _. passedOn i ++ asVotes (ledgerOf ws .own) (firstRecords made left)) []) n
       ∙ given-off false [] _ refl ∙ ap (shown (ledgerOf ws)) (sym (given-off _ _ _ t)))
 
 -- Of any call.

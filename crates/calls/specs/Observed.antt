@@ -4,7 +4,7 @@ use mathlib.Core.Bool.{Bool, true, false, _&&_, _||_}
 use mathlib.Core.List.{List, [], _++_}
 use Prim.Native.Nat.{ℕ}
 use lib.Dec.{T, eqb}
-use Rattle.rulebook.specs.Tools.{given}
+use Rattle.rulebook.specs.Tools.{whenever}
 use Rattle.rulebook.specs.Ledger.{fresh}
 use Rattle.rulebook.specs.Taking.{Arrival, ofInput, ofPacket}
 use Rattle.watchers.specs.Watching.{asVotes, passedOn, shown}
@@ -70,7 +70,7 @@ PolicySeen =
 
 -- Of a call with which one thing arrived at node `own`: where it answers 0 that thing, and then the votes that the outbox tells, in the node's name.
 unfoldable pub shownOne : ℕ → Arrival → (number made : ℕ) (left : List ℕ) → List Arrival
-shownOne own i number made left = given (eqb number 0) [] (λ _. passedOn i ++ asVotes own (firstRecords made left))
+shownOne own i number made left = whenever (eqb number 0) (λ _. passedOn i ++ asVotes own (firstRecords made left)) []
 
 -- Of any call, on what was seen before it. A tray's outbox does not tell which vote brought a record, so of a tray what single calls with its votes
 -- would show.

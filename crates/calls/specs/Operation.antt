@@ -6,7 +6,7 @@ use lib.ListN.{length}
 use lib.Dec.{eqb, leb}
 use Rattle.rulebook.specs.declared.Input.{Input}
 use Rattle.rulebook.specs.declared.Input.the-variants as input
-use Rattle.rulebook.specs.Tools.{given}
+use Rattle.rulebook.specs.Tools.{whenever}
 use Rattle.rulebook.specs.Rules.{Record, recordOf}
 use Rattle.rulebook.specs.Taking.{Arrival, ofInput, ofPacket}
 use Rattle.rulebook.specs.WellFormed.{outboxWords}
@@ -21,15 +21,16 @@ pub data Operation : Type 0 where
 
 -- One thing arrives where the outbox has room.
 unfoldable pub oneWith : Arrival → List ℕ → List Arrival
-oneWith i lent = given (leb outboxWords (length lent)) [] (λ _. i ∷ [])
+oneWith i lent = whenever (leb outboxWords (length lent)) (λ _. i ∷ []) []
 
 -- What arrives with a call: with a step its input, with a tray its votes, with a certificate packet that packet. Nothing arrives with a call
 -- without room in its outbox, or for a tray's answers, nor with a tray that has a part of a vote at its end.
 unfoldable pub fedBy : Operation → List ℕ → List Arrival
 fedBy (oneInput i) lent = oneWith (ofInput i) lent
 fedBy (aTray votes places answers) lent =
-    given (leb outboxWords (length lent) && leb (wholeVotes votes) (length places)) []
-    (λ _. given (eqb (length votes % 4) 0) [] (λ _. map (λ v. ofInput (input.Vote v)) (votesIn votes)))
+    whenever (leb outboxWords (length lent) && leb (wholeVotes votes) (length places))
+    (λ _. whenever (eqb (length votes % 4) 0) (λ _. map (λ v. ofInput (input.Vote v)) (votesIn votes)) [])
+    []
 fedBy (aPacket packet) lent = oneWith (ofPacket packet) lent
 
 -- The first n records of an outbox, three words each.

@@ -3,7 +3,7 @@ use mathlib.Core.List.{List, [], _∷_}
 use Prim.Native.Nat.{ℕ}
 use Rattle.rulebook.specs.declared.Tally.{Tally}
 use Rattle.rulebook.specs.declared.Refusal.the-variants as refusal
-use Rattle.rulebook.specs.Tools.{given}
+use Rattle.rulebook.specs.Tools.{whenever}
 use Rattle.rulebook.specs.Weights.{slotOk}
 use Rattle.rulebook.specs.Ledger.{rowAt}
 use Rattle.rulebook.specs.PaperNumbers.{Panel, refusalNumber}
@@ -15,8 +15,9 @@ use Rattle.cards.specs.declared.CardAnswer.the-variants as answer
 -- 17, then 3, then the card that the slot's row keeps.
 unfoldable pub cardOn : List ℕ → ℕ → CardAnswer
 cardOn ws s =
-    given (soundWords ws) (answer.Refused refusal.BadRecord)
-    (λ _. given (slotOk s) (answer.Refused refusal.BadSlot) (λ _. answer.Card (rowAt (ledgerOf ws) s .card)))
+    whenever (soundWords ws)
+    (λ _. whenever (slotOk s) (λ _. answer.Card (rowAt (ledgerOf ws) s .card)) (answer.Refused refusal.BadSlot))
+    (answer.Refused refusal.BadRecord)
 
 -- "skip weight, final weight, skip-certificate weight and the leading notar block with its weight".
 abbrev pub cardValues : Tally → List ℕ

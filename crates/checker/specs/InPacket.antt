@@ -10,7 +10,7 @@ use Rattle.rulebook.specs.declared.CertificateKind.the-variants as certificate
 use Rattle.rulebook.specs.declared.CheckAnswer.{CheckAnswer}
 use Rattle.rulebook.specs.declared.CheckAnswer.the-variants as check
 use Rattle.rulebook.specs.declared.Refusal.the-variants as refusal
-use Rattle.rulebook.specs.Tools.{given}
+use Rattle.rulebook.specs.Tools.{whenever}
 use Rattle.rulebook.specs.Checker.{oneAt, singleOf, proofOf}
 use Rattle.stakes.specs.declared.LentTable.{LentTable}
 use Rattle.certificates.specs.Told.{told}
@@ -19,7 +19,7 @@ use Rattle.certificates.specs.declared.Checked.the-variants as checked
 
 -- "leftover bytes last", of a packet so long.
 unfoldable pub finished : Accepted → ℕ → ℕ → CheckAnswer
-finished a next n = given (not (ltb next n)) (check.Refused refusal.BadLength) (λ _. check.Accepted a)
+finished a next n = whenever (not (ltb next n)) (λ _. check.Accepted a) (check.Refused refusal.BadLength)
 
 -- A packet that is to be one certificate.
 unfoldable pub alone : ℕ → Checked → CheckAnswer
@@ -37,7 +37,7 @@ isFinalKind certificate.Other = false
 -- "the second whole, then 16 if not kind 5 of that slot; leftover bytes last".
 unfoldable pub followed : Accepted → ℕ → Checked → CheckAnswer
 followed a n (checked.Good f next) =
-    given (isFinalKind (f .kind) && eqb (f .slot .0) (a .slot .0)) (check.Refused refusal.NotAProof) (λ _. finished a next n)
+    whenever (isFinalKind (f .kind) && eqb (f .slot .0) (a .slot .0)) (λ _. finished a next n) (check.Refused refusal.NotAProof)
 followed a n (checked.Bad r) = check.Refused r
 
 -- "16 if its kind is not 1 or 2".

@@ -2,7 +2,7 @@
 use mathlib.Core.Bool.{Bool}
 use mathlib.Core.List.{[], _∷_}
 use lib.Dec.{T}
-use Rattle.rulebook.specs.Tools.{choose, given}
+use Rattle.rulebook.specs.Tools.{choose, whenever}
 use Rattle.rulebook.specs.Scripts.{equal, all}
 use Rattle.lines.specs.Text.{glyph, digitsOf, decimal}
 use Rattle.lines.specs.Cases.{reads}
@@ -23,5 +23,5 @@ bytes =
     ∷ equal (wordBytes 18446744073709551615) (255 ∷ 255 ∷ 255 ∷ 255 ∷ 255 ∷ 255 ∷ 255 ∷ 255 ∷ []) ∷ [])
 
 cases : T (all (lines ∷ bytes ∷ []))
-unfolding choose given glyph digitsOf decimal partsTo lineText linesText differLine bytesOf wordBytes wordsBytes
+unfolding choose whenever glyph digitsOf decimal partsTo lineText linesText differLine bytesOf wordBytes wordsBytes
 cases = tt

@@ -7,7 +7,7 @@ use native.Mathlib.Omega.{arith}
 use lib.ListN.{length}
 use lib.Dec.{eqb, ltb}
 use borrow.Author.Tests.{eq-eqb, ne-eqb, eqb-true, eqb-false, ltb-true, ltb-false, lt-ltb, le-ltb, not-true, not-false}
-use Rattle.rulebook.specs.Tools.{given, part, anyOf, lower, lowest}
+use Rattle.rulebook.specs.Tools.{whenever, part, anyOf, lower, lowest}
 use Rattle.rulebook.specs.Ledger.{none}
 use Rattle.rule_laws.proofs.ToolLaws.{given-on, given-off, by-test, and-both, both-and, or-cases, or-left, or-right, true-not-false, same-test, part-on, part-off, part-mono}
 use Rattle.rule_laws.proofs.LowestLaws.{lower-cases, lower-off, low-find}

@@ -11,7 +11,7 @@ use Rattle.rulebook.specs.declared.Cell.{Cell}
 use Rattle.rulebook.specs.declared.Vote.{Vote}
 use Rattle.rulebook.specs.declared.VoteKind.{VoteKind}
 use Rattle.rulebook.specs.declared.VoteKind.the-variants as vote
-use Rattle.rulebook.specs.Tools.{given, anyOf, someTo}
+use Rattle.rulebook.specs.Tools.{whenever, anyOf, someTo}
 use Rattle.rulebook.specs.Weights.{lastSlot, slotOk}
 use Rattle.rulebook.specs.PaperNumbers.{voteNumber}
 use Rattle.rulebook.specs.Ledger.{Ledger, none, noInitial, cellAt}

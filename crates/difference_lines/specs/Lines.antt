@@ -9,7 +9,7 @@ use Rattle.rulebook.specs.declared.VoteKind.{VoteKind}
 use Rattle.rulebook.specs.declared.VoteKind.the-variants as vote
 use Rattle.rulebook.specs.declared.Place.{Place}
 use Rattle.rulebook.specs.declared.Place.the-variants.{Free, Same, Taken}
-use Rattle.rulebook.specs.Tools.{given, allTo, lowest}
+use Rattle.rulebook.specs.Tools.{whenever, allTo, lowest}
 use Rattle.rulebook.specs.Weights.{lastSlot, stakeIn, slotOk}
 use Rattle.rulebook.specs.PaperNumbers.{voteNumber}
 use Rattle.rulebook.specs.Ledger.{Ledger, none, cellAt}
@@ -97,7 +97,7 @@ mostNamed = 6
 unfoldable pub ascending : List ℕ → ℕ → ℕ → List ℕ
 ascending bs x zero = []
 ascending bs x (suc f) =
-    given (not (none (lowest (ltb x) bs))) [] (λ _. lowest (ltb x) bs ∷ ascending bs (lowest (ltb x) bs) f)
+    whenever (not (none (lowest (ltb x) bs))) (λ _. lowest (ltb x) bs ∷ ascending bs (lowest (ltb x) bs) f) []
 
 -- The lines for each block of a list, in its order.
 unfoldable pub linesOver : (ℕ → List Line) → List ℕ → List Line
@@ -141,4 +141,4 @@ tablesLine = lineFor (voteAt 0 0 vote.Other 0) side.Neither
 
 -- "Different stake tables, own numbers aside, give one line saying so and nothing else."
 unfoldable pub differences : Ledger → Ledger → List Line
-differences l m = given (sameTables l m) (tablesLine ∷ []) (λ _. voteLines l m)
+differences l m = whenever (sameTables l m) (λ _. voteLines l m) (tablesLine ∷ [])

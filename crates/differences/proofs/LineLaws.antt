@@ -13,7 +13,7 @@ use Rattle.rulebook.specs.declared.Cell.{Cell}
 use Rattle.rulebook.specs.declared.Vote.{Vote}
 use Rattle.rulebook.specs.declared.VoteKind.{VoteKind}
 use Rattle.rulebook.specs.declared.VoteKind.the-variants as vote
-use Rattle.rulebook.specs.Tools.{given, lowest}
+use Rattle.rulebook.specs.Tools.{whenever, lowest}
 use Rattle.rulebook.specs.Weights.{mostNodes, lastSlot}
 use Rattle.rulebook.specs.PaperNumbers.{voteNumber}
 use Rattle.rulebook.specs.Ledger.{Ledger, none, cellAt}

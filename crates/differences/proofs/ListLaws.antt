@@ -8,7 +8,7 @@ use lib.ListN.{length}
 use lib.Seq.{sets}
 use lib.Dec.{leb}
 use borrow.Author.Tests.{le-leb, lt-leb}
-use Rattle.rulebook.specs.Tools.{given}
+use Rattle.rulebook.specs.Tools.{whenever}
 use Rattle.rulebook.specs.Writers.{over}
 use Rattle.rule_laws.proofs.ToolLaws.{given-on, given-off}
 use Rattle.numbers.proofs.Stores.{stores-lay, laid-front}

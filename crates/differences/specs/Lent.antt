@@ -7,7 +7,7 @@ use lib.ListN.{length}
 use lib.Seq.{sets}
 use lib.Dec.{leb}
 use Rattle.rulebook.specs.declared.Cell.{Cell}
-use Rattle.rulebook.specs.Tools.{given}
+use Rattle.rulebook.specs.Tools.{whenever}
 use Rattle.rulebook.specs.Weights.{lastSlot}
 use Rattle.rulebook.specs.declared.Refusal.the-variants as refusal
 use Rattle.rulebook.specs.PaperNumbers.{Panel, refusalNumber}
@@ -31,14 +31,16 @@ refusedBy a = record { answer = a; lines = [] }
 -- "A list buffer that is too small for the whole list is 9, with the number of lines needed": a list of so many words, five a line.
 unfoldable pub listedIn : ℕ → List Line → Differed
 listedIn room xs =
-    given (leb (5 * length xs) room) (refusedBy (answer.NoRoom (length xs))) (λ _. record { answer = answer.Listed (length xs); lines = xs })
+    whenever (leb (5 * length xs) room) (λ _. record { answer = answer.Listed (length xs); lines = xs }) (refusedBy (answer.NoRoom (length xs)))
 
 -- "A bad record is 17 with the side named, the first side if both are bad; 17 comes before 9."
 unfoldable pub differ : List ℕ → List ℕ → ℕ → Differed
 differ one two room =
-    given (soundWords one) (refusedBy (answer.BadRecord side.First))
-    (λ _. given (soundWords two) (refusedBy (answer.BadRecord side.Second))
-    (λ _. listedIn room (differences (ledgerOf one) (ledgerOf two))))
+    whenever (soundWords one)
+    (λ _. whenever (soundWords two)
+    (λ _. listedIn room (differences (ledgerOf one) (ledgerOf two)))
+    (refusedBy (answer.BadRecord side.Second)))
+    (refusedBy (answer.BadRecord side.First))
 
 -- What is answered, and all words of the list afterwards; words past the lines stay.
 pub record DifferOf (one two list : List ℕ) (r : DifferAnswer) (left : List ℕ) : Type 0 where

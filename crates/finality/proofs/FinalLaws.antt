@@ -7,7 +7,7 @@ use native.Mathlib.Omega.{arith}
 use lib.Dec.{eqb, leb, ltb}
 use borrow.Author.Tests.{eqb-true, leb-true, leb-false, lt-ltb, le-ltb, not-false}
 use Rattle.rulebook.specs.declared.Block.{Block}
-use Rattle.rulebook.specs.Tools.{given, choose, lowest}
+use Rattle.rulebook.specs.Tools.{whenever, choose, lowest}
 use Rattle.rulebook.specs.Ledger.{Ledger, none, noBlock, rowAt, blocksAt, isFree, hasNumber, putFinal, putClash}
 use Rattle.rulebook.specs.Weights.{lastSlot}
 use Rattle.rulebook.specs.Pool.{certifiable}
@@ -102,11 +102,11 @@ module _ (o : State) (s : ℕ) (a : 1 ≤ s) (k : Block) (is : k ≡ findBlock (
       (subst (λ (j : Block). (not (none (j .parentslot .0)) && ltb (j .parentslot .0) s) ≡ true) is (lower-slot parent s false e)))
 
   -- The walk by the block that was found.
-  walk-is : ruleG o s ≡ given (not (none parent) && ltb parent s) o (λ _. walkTo ruleG o parent (k .parent))
+  walk-is : ruleG o s ≡ whenever (not (none parent) && ltb parent s) (λ _. walkTo ruleG o parent (k .parent)) o
   unfolding walkStep
   walk-is =
       walk-on o s a
-      ∙ ap (λ (j : Block). given (not (none (j .parentslot .0)) && ltb (j .parentslot .0) s) o (λ _. walkTo ruleG o (j .parentslot .0) (j .parent))) (sym is)
+      ∙ ap (λ (j : Block). whenever (not (none (j .parentslot .0)) && ltb (j .parentslot .0) s) (λ _. walkTo ruleG o (j .parentslot .0) (j .parent)) o) (sym is)
 
   pub G-halts : (eqb parent 0 || leb s parent) ≡ true → ruleG o s ≡ o
   G-halts e = walk-is ∙ given-off (not (none parent) && ltb parent s) o _ (lower-slot parent s true e)

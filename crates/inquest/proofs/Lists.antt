@@ -9,7 +9,7 @@ use Rattle.rulebook.specs.declared.CertificateKind.{CertificateKind}
 use Rattle.rulebook.specs.Certificates.{Certificate, Found, Kept}
 use Rattle.rulebook.specs.Certificates as found
 use Rattle.rulebook.specs.PaperNumbers.{kindIn}
-use Rattle.rulebook.specs.Tools.{given, allTo}
+use Rattle.rulebook.specs.Tools.{whenever, allTo}
 use Rattle.rulebook.specs.Weights.{lastSlot}
 use Rattle.rulebook.specs.Ledger.{Ledger, noKept, cellAt, ownCell, certificatesAt, isKept}
 use Rattle.rulebook.specs.Pool.{placeKind}
@@ -104,15 +104,15 @@ cell-lacks s m c d =
 signer-lacks : (k : CertificateKind) (c : Certificate) (m : ℕ) (d : Cell) → isEmpty (signerLacks k c m d) ≡ signerVouched k c m d
 unfolding signerLacks signerVouched
 signer-lacks k c m d =
-    let a = given (bit (c .maska) m) true (λ _. has d (ballotA k (c .block))) in
-    let b = given (not (withoutB k) && bit (c .maskb) m) true (λ _. has d (ballotB k (c .block))) in
+    let a = whenever (bit (c .maska) m) (λ _. has d (ballotA k (c .block))) true in
+    let b = whenever (not (withoutB k) && bit (c .maskb) m) (λ _. has d (ballotB k (c .block))) true in
     empty-more a _ _ (empty-unless b _)
 
 place-lacks : (s m : ℕ) (d : Cell) (j : ℕ) (q : Kept) → isEmpty (placeLacks s m d j q) ≡ keptVouched s m d j q
-unfolding placeLacks keptVouched given isEmpty
+unfolding placeLacks keptVouched whenever isEmpty
 place-lacks s m d j q = go (isKept q)
   where
-    go : (b : Bool) → isEmpty (given b [] (λ _. signerLacks (placeKind j) (keptIn s q) m d)) ≡ given b true (λ _. signerVouched (placeKind j) (keptIn s q) m d)
+    go : (b : Bool) → isEmpty (whenever b (λ _. signerLacks (placeKind j) (keptIn s q) m d) []) ≡ whenever b (λ _. signerVouched (placeKind j) (keptIn s q) m d) true
     go true = signer-lacks (placeKind j) (keptIn s q) m d
     go false = refl
 

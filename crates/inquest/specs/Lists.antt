@@ -9,7 +9,7 @@ use Rattle.rulebook.specs.declared.CertificateKind.{CertificateKind}
 use Rattle.rulebook.specs.Certificates.{Certificate, Found, Kept}
 use Rattle.rulebook.specs.Certificates as found
 use Rattle.rulebook.specs.PaperNumbers.{certificateNumber, kindIn}
-use Rattle.rulebook.specs.Tools.{given}
+use Rattle.rulebook.specs.Tools.{whenever}
 use Rattle.rulebook.specs.Weights.{lastSlot}
 use Rattle.rulebook.specs.Ledger.{Ledger, noKept, cellAt, ownCell, certificatesAt, isKept}
 use Rattle.rulebook.specs.Pool.{placeKind}
@@ -101,12 +101,12 @@ cellLacks s m c d =
 -- What a certificate of kind k counts firm m for and the cell lacks; its source is the certificate's kind.
 unfoldable pub signerLacks : CertificateKind → Certificate → ℕ → Cell → List Line
 signerLacks k c m d =
-    unless (given (bit (c .maska) m) true (λ _. has d (ballotA k (c .block)))) (lineOf (c .slot) m (ballotA k (c .block)) (certificateNumber k))
-    ++ unless (given (not (withoutB k) && bit (c .maskb) m) true (λ _. has d (ballotB k (c .block)))) (lineOf (c .slot) m (ballotB k (c .block)) (certificateNumber k))
+    unless (whenever (bit (c .maska) m) (λ _. has d (ballotA k (c .block))) true) (lineOf (c .slot) m (ballotA k (c .block)) (certificateNumber k))
+    ++ unless (whenever (not (withoutB k) && bit (c .maskb) m) (λ _. has d (ballotB k (c .block))) true) (lineOf (c .slot) m (ballotB k (c .block)) (certificateNumber k))
 
 -- The same of what a place of slot s keeps.
 unfoldable pub placeLacks : ℕ → ℕ → Cell → ℕ → Kept → List Line
-placeLacks s m d j q = given (isKept q) [] (λ _. signerLacks (placeKind j) (keptIn s q) m d)
+placeLacks s m d j q = whenever (isKept q) (λ _. signerLacks (placeKind j) (keptIn s q) m d) []
 
 -- Of all places of a slot, in their order.
 unfoldable pub keptLacks : ℕ → ℕ → Cell → List Kept → List Line

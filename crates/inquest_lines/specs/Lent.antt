@@ -6,7 +6,7 @@ use lib.ListN.{length}
 use lib.Seq.{sets}
 use lib.Dec.{leb}
 use Rattle.rulebook.specs.declared.Refusal.the-variants as refusal
-use Rattle.rulebook.specs.Tools.{given}
+use Rattle.rulebook.specs.Tools.{whenever}
 use Rattle.rulebook.specs.PaperNumbers.{Panel, refusalNumber, voteNumber}
 use Rattle.rulebook.specs.Writers.{over}
 use Rattle.difference_lines.specs.Lines.{sideNumber}
@@ -34,7 +34,7 @@ refusedBy a = record { answer = a; lines = [] }
 -- A list that is too small for all lines is 9, with the number of lines needed: a list of so many words, five a line.
 unfoldable pub listedIn : ℕ → List Line → Told
 listedIn room xs =
-    given (leb (5 * length xs) room) (refusedBy (answer.NoRoom (length xs))) (λ _. record { answer = answer.Listed (length xs); lines = xs })
+    whenever (leb (5 * length xs) room) (λ _. record { answer = answer.Listed (length xs); lines = xs }) (refusedBy (answer.NoRoom (length xs)))
 
 -- What is answered, and all words of the list afterwards; words past the lines stay.
 pub record ToldIn (list : List ℕ) (t : Told) (r : ListAnswer) (left : List ℕ) : Type 0 where

@@ -7,7 +7,7 @@ use native.Mathlib.Omega.{arith}
 use native.Mathlib.Nat.{add-zero, zero-mul}
 use lib.ListN.{length, getD, take, drop}
 use borrow.Author.Tests.{not-true}
-use Rattle.rulebook.specs.Tools.{given, allTo, someTo}
+use Rattle.rulebook.specs.Tools.{whenever, allTo, someTo}
 use Rattle.rulebook.specs.Certificates.{Kept}
 use Rattle.rulebook.specs.Ledger.{none, noKept, isKept, mostCertificates, places, certificatesAt}
 use Rattle.rulebook.specs.Pool.{placeKind, sameKind, someKept}
@@ -37,7 +37,7 @@ each-places p i (q ∷ qs) =
 
 -- The test holds of place j, and it keeps a certificate.
 abbrev pub keptAnd : (ℕ → Kept → Bool) → ℕ → Kept → Bool
-keptAnd p j q = given (isKept q) false (λ _. p j q)
+keptAnd p j q = whenever (isKept q) (λ _. p j q) false
 
 pub some-places : (p : ℕ → Kept → Bool) (i : ℕ) (qs : List Kept) → someKept p i qs ≡ someTo (length qs) (λ j. keptAnd p (i + j) (getD qs j noKept))
 unfolding someKept someTo
@@ -54,7 +54,7 @@ some-places p i (q ∷ qs) =
 
 -- What place b keeps is in turn behind what place a keeps, or is of another kind, or place b keeps nothing.
 abbrev pub turns : ℕ → ℕ → Kept → Kept → Bool
-turns a b q r = given (isKept r && sameKind (placeKind a) (placeKind b)) true (λ _. inTurn q r)
+turns a b q r = whenever (isKept r && sameKind (placeKind a) (placeKind b)) (λ _. inTurn q r) true
 
 -- Place k, the first being place i, is in turn behind every place before it.
 abbrev pub behindAt : ℕ → List Kept → ℕ → Bool
@@ -113,7 +113,7 @@ blank-apart i [] e = refl
 blank-apart i (q ∷ qs) e =
     let rest = and-both (keptBlank q) (eachKept (λ j q. keptBlank q) (suc i) qs) e .1 in
     both-and _ (certificatesApart (suc i) qs)
-    (each-mono (λ j r. keptBlank r) (λ j r. given (isKept r && sameKind (placeKind i) (placeKind j)) true (λ _. inTurn q r)) (suc i) qs
+    (each-mono (λ j r. keptBlank r) (λ j r. whenever (isKept r && sameKind (placeKind i) (placeKind j)) (λ _. inTurn q r) true) (suc i) qs
     (λ j r t. given-off (isKept r && sameKind (placeKind i) (placeKind j)) true (λ _. inTurn q r) (ap (λ (x : Bool). x && sameKind (placeKind i) (placeKind j)) (blank-unkept r t .0))) rest)
     (blank-apart (suc i) qs rest)
 

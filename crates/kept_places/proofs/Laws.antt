@@ -13,7 +13,7 @@ use lib.Dec.{eqb, leb, ltb}
 use borrow.Author.Tests.{ltb-true, ltb-false, lt-ltb, le-leb, lt-leb, ne-eqb}
 use Rattle.rulebook.specs.declared.CertificateKind.{CertificateKind}
 use Rattle.rulebook.specs.declared.CertificateKind.the-variants as certificate
-use Rattle.rulebook.specs.Tools.{given, choose}
+use Rattle.rulebook.specs.Tools.{whenever, choose}
 use Rattle.rulebook.specs.Certificates.{Kept}
 use Rattle.rulebook.specs.PaperNumbers.{certificateNumber}
 use Rattle.rulebook.specs.Ledger.{Ledger, Row, noKept, noRow, isKept, certificatesAt, putCertificates}
@@ -181,8 +181,8 @@ room-from k i [] = refl
 room-from k i (q ∷ qs) =
     ap (λ (t : Bool). isRoom k i q || t) (room-from k (suc i) qs) ∙ sym (found-here (isRoom k i q) (firstPlace (isRoom k) (suc i) qs) (length qs))
 
-kept-first : (a b : Bool) → (a && b) ≡ given a false (λ _. b)
-unfolding given
+kept-first : (a b : Bool) → (a && b) ≡ whenever a (λ _. b) false
+unfolding whenever
 kept-first true b = refl
 kept-first false b = refl
 

@@ -3,7 +3,7 @@ use mathlib.Core.List.{List, [], _∷_, _++_}
 use Prim.Native.Nat.{ℕ, zero, suc}
 use lib.Dec.{eqb}
 use lib.ListN.{length, take, getD}
-use Rattle.rulebook.specs.Tools.{given, choose}
+use Rattle.rulebook.specs.Tools.{whenever, choose}
 use Rattle.rulebook.specs.PaperNumbers.{Panel}
 use Rattle.lines.specs.Text.{decimal, hexText, recordsText}
 
@@ -17,7 +17,7 @@ startLine p = numberLine (p .number)
 
 -- A refusal is its number alone; "0" is followed by what belongs to the answer.
 unfoldable pub answerLine : Panel → List ℕ → List ℕ
-answerLine p more = given (eqb (p .number) 0) (numberLine (p .number)) (λ _. (48 ∷ []) ++ (more ++ (10 ∷ [])))
+answerLine p more = whenever (eqb (p .number) 0) (λ _. (48 ∷ []) ++ (more ++ (10 ∷ []))) (numberLine (p .number))
 
 -- A blank and a number.
 unfoldable pub spaced : ℕ → List ℕ

@@ -14,7 +14,7 @@ use Rattle.rulebook.specs.declared.CheckAnswer.{CheckAnswer}
 use Rattle.rulebook.specs.declared.CheckAnswer.the-variants as check
 use Rattle.rulebook.specs.declared.CertificateKind.the-variants as certificate
 use Rattle.rulebook.specs.declared.Refusal.the-variants as refusal
-use Rattle.rulebook.specs.Tools.{choose, given, part}
+use Rattle.rulebook.specs.Tools.{choose, whenever, part}
 use Rattle.rulebook.specs.Weights.{isLarge, family}
 use Rattle.rulebook.specs.PaperNumbers.{startPanel, stepPanel, writePanel, readPanel, checkNumber, checkValues, checkPanel, checkMissing, refusalNumber, refusalMissing, voteNumber, certificateNumber, numberIn}
 use Rattle.rulebook.specs.Scripts.{equal, all}
@@ -69,5 +69,5 @@ shown =
     ∷ reads (missingText 2 (bytesOf "notar-fallback")) ", 2 more for notar-fallback" ∷ reads (missingText 0 (bytesOf "notar")) "" ∷ [])
 
 cases : T (all (numbers ∷ hex ∷ lines ∷ shown ∷ []))
-unfolding choose given startPanel stepPanel writePanel readPanel checkNumber checkValues checkMissing refusalNumber refusalMissing voteNumber certificateNumber numberIn family isLarge part glyph digitsOf decimal hexPair hexPairs hexText recordText recordsTo recordsText numberLine answerLine spaced startLine stepLine votesTo votesText trayLine packetLine messageLine missingLine fiveValues checkLine voteText shareText missingText
+unfolding choose whenever startPanel stepPanel writePanel readPanel checkNumber checkValues checkMissing refusalNumber refusalMissing voteNumber certificateNumber numberIn family isLarge part glyph digitsOf decimal hexPair hexPairs hexText recordText recordsTo recordsText numberLine answerLine spaced startLine stepLine votesTo votesText trayLine packetLine messageLine missingLine fiveValues checkLine voteText shareText missingText
 cases = tt

@@ -3,7 +3,7 @@ use mathlib.Core.List.{List, [], _∷_, _++_}
 use Prim.Native.Nat.{ℕ, zero, suc, _+_, _*_, _/_, _%_, min}
 use lib.Dec.{leb, eqb, ltb}
 use lib.ListN.{length, getD}
-use Rattle.rulebook.specs.Tools.{choose, given}
+use Rattle.rulebook.specs.Tools.{choose, whenever}
 
 -- A digit of base ten or sixteen: 0 to 9, then A to F.
 unfoldable pub glyph : ℕ → ℕ
@@ -12,7 +12,7 @@ glyph d = choose (ltb d 10) (48 + d) (55 + d)
 -- The digits of n, highest first, at most f of them before the last.
 unfoldable pub digitsOf : ℕ → ℕ → List ℕ
 digitsOf zero n = glyph n ∷ []
-digitsOf (suc f) n = given (leb 10 n) (glyph n ∷ []) (λ _. digitsOf f (n / 10) ++ (glyph (n % 10) ∷ []))
+digitsOf (suc f) n = whenever (leb 10 n) (λ _. digitsOf f (n / 10) ++ (glyph (n % 10) ∷ [])) (glyph n ∷ [])
 
 -- A number in decimal, without leading zeros; it has no more digits than it counts.
 unfoldable pub decimal : ℕ → List ℕ

@@ -10,7 +10,7 @@ use lib.Dec.{T, eqb, leb, eqb→eq, eqb-refl, leb→le, not-T}
 use Rattle.rulebook.specs.declared.Block.{Block}
 use Rattle.rulebook.specs.declared.Input.the-variants as input
 use Rattle.rulebook.specs.Certificates.{Certificate}
-use Rattle.rulebook.specs.Tools.{given, choose}
+use Rattle.rulebook.specs.Tools.{whenever, choose}
 use Rattle.rulebook.specs.PaperNumbers.{voteNumber, voteKind}
 use Rattle.rulebook.specs.Ledger.{Ledger}
 use Rattle.rulebook.specs.Rules.{Record}
@@ -91,13 +91,13 @@ gather-out q zero f t = absurd t
 gather-out q (suc n) f t =
     any-cases q (gather n f) (f n) t (λ u. let r = gather-out q n f u in (r .0, omega (arith, r .1), r .2)) (λ u. (n, omega arith, u))
 
-pub given-out : (q : Arrival → Bool) (b : Bool) (is : List Arrival) → T (anyIs q (given b [] (λ _. is))) → T b × T (anyIs q is)
-unfolding given anyIs
+pub given-out : (q : Arrival → Bool) (b : Bool) (is : List Arrival) → T (anyIs q (whenever b (λ _. is) [])) → T b × T (anyIs q is)
+unfolding whenever anyIs
 given-out q true is t = (tt, t)
 given-out q false is t = absurd t
 
-pub given-in : (q : Arrival → Bool) (b : Bool) (is : List Arrival) → T b → T (anyIs q is) → T (anyIs q (given b [] (λ _. is)))
-unfolding given
+pub given-in : (q : Arrival → Bool) (b : Bool) (is : List Arrival) → T b → T (anyIs q is) → T (anyIs q (whenever b (λ _. is) []))
+unfolding whenever
 given-in q true is t u = u
 given-in q false is t u = absurd t
 
@@ -224,7 +224,7 @@ unfolding asVotes
 votes-in n [] s v t = absurd t
 votes-in n (r ∷ rs) s v t =
     let q : Arrival → Bool = λ i. brings i s n v in
-    let here : List Arrival = given (tellsVote r) [] (λ _. ofInput (input.Vote (voteIn n r)) ∷ []) in
+    let here : List Arrival = whenever (tellsVote r) (λ _. ofInput (input.Vote (voteIn n r)) ∷ []) [] in
     or-T (sameRecord r (recordFor s v)) (among rs (recordFor s v)) t
     (λ u. any-left q here (asVotes n rs) (given-in q (tellsVote r) (ofInput (input.Vote (voteIn n r)) ∷ []) (record-tells r s v u) (one u)))
     (λ u. any-right q here (asVotes n rs) (votes-in n rs s v u))
@@ -238,7 +238,7 @@ votes-out n [] s m v t = absurd (alone-none (λ i. brings i s m v) t)
 votes-out n (r ∷ rs) s m v t =
     let q : Arrival → Bool = λ i. brings i s m v in
     let vote : Arrival = ofInput (input.Vote (voteIn n r)) in
-    any-cases q (given (tellsVote r) [] (λ _. vote ∷ [])) (asVotes n rs) t
+    any-cases q (whenever (tellsVote r) (λ _. vote ∷ []) []) (asVotes n rs) t
     (λ u. let a = given-out q (tellsVote r) (vote ∷ []) u in
     let b = and-T (eqb n m) (sameRecord r (recordFor s v)) (subst (λ (z : Bool). T z) (vote-brings n r s m v (a .0)) (alone-out q vote (a .1))) in
     (eqb→eq n m (b .0), T-left (sameRecord r (recordFor s v)) (among rs (recordFor s v)) (b .1)))
@@ -249,6 +249,6 @@ pub votes-only : (q : Arrival → Bool) (n : ℕ) (rs : List Record) → ((w : R
 unfolding asVotes
 votes-only q n [] f t = alone-none q t
 votes-only q n (r ∷ rs) f t =
-    any-cases q (given (tellsVote r) [] (λ _. ofInput (input.Vote (voteIn n r)) ∷ [])) (asVotes n rs) t
+    any-cases q (whenever (tellsVote r) (λ _. ofInput (input.Vote (voteIn n r)) ∷ []) []) (asVotes n rs) t
     (λ u. f r (alone-out q (ofInput (input.Vote (voteIn n r))) (given-out q (tellsVote r) (ofInput (input.Vote (voteIn n r)) ∷ []) u .1)))
     (λ u. votes-only q n rs f u)

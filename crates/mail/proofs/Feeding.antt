@@ -12,7 +12,7 @@ use lib.ListN.{length, getD-replicate}
 use Rattle.rulebook.specs.declared.Block.{Block}
 use Rattle.rulebook.specs.declared.Input.the-variants as input
 use Rattle.rulebook.specs.Certificates.{Certificate}
-use Rattle.rulebook.specs.Tools.{given}
+use Rattle.rulebook.specs.Tools.{whenever}
 use Rattle.rulebook.specs.PaperNumbers.{kindIn}
 use Rattle.rulebook.specs.Weights.{placesFor, lastSlot}
 use Rattle.rulebook.specs.Ledger.{Ledger, blankRow, noRow, fresh, cellAt, ownCell, noInitial, isWatcher, isArmed, blocksAt, keepsBlock}

@@ -6,7 +6,7 @@ use Prim.Native.Nat.{ℕ}
 use lib.Dec.{T, eqb, eqb→eq, eqb-refl}
 use Rattle.rulebook.specs.declared.Block.{Block}
 use Rattle.rulebook.specs.declared.Input.the-variants as input
-use Rattle.rulebook.specs.Tools.{given}
+use Rattle.rulebook.specs.Tools.{whenever}
 use Rattle.rulebook.specs.Ledger.{Ledger, none, blocksAt, someBlock, allBlocks, isFree, hasNumber, isBlock}
 use Rattle.rulebook.specs.Rules.{fallbackWeights}
 use Rattle.rulebook.specs.Taking.{Arrival, ofInput, ofPacket, served}
@@ -25,7 +25,7 @@ use Rattle.mail.proofs.Arrivals.{anyIs}
 -- Those of a list that the policy allows, each when its turn comes.
 unfoldable pub offered : Ledger → List Arrival → List Arrival
 offered l [] = []
-offered l (i ∷ is) = given (allowed l i) (offered l is) (λ _. i ∷ offered (served l i .ledger) is)
+offered l (i ∷ is) = whenever (allowed l i) (λ _. i ∷ offered (served l i .ledger) is) (offered l is)
 
 pub offered-policy : (l : Ledger) (is : List Arrival) → T (byPolicy l (offered l is))
 unfolding offered byPolicy

@@ -23,7 +23,7 @@ use Rattle.rulebook.specs.declared.Verdict.the-variants.{Fine, Refused}
 use Rattle.rulebook.specs.declared.ReadAnswer.{ReadAnswer}
 use Rattle.rulebook.specs.declared.ReadAnswer.the-variants as read
 use Rattle.rulebook.specs.declared.WriteAnswer.the-variants as write
-use Rattle.rulebook.specs.Tools.{given, choose}
+use Rattle.rulebook.specs.Tools.{whenever, choose}
 use Rattle.rulebook.specs.Weights.{slotOk, countFits}
 use Rattle.rulebook.specs.PaperNumbers.{voteKind, voteNumber}
 use Rattle.rulebook.specs.Ledger.{Ledger, cellAt}
@@ -80,8 +80,8 @@ unfolding readOn
 on-says Fine w v e = (refl, cc)
 on-says (Refused r) w v e = let z : _≡_ {A = ℕ} 0 1 = cc in absurd (omega arith)
 
-counted-says : (t : Bool) (f : Unit {0} → ReadAnswer) (v : Vote) → given t (read.Refused refusal.BadSizes) f ≡ read.Read v → (t ≡ true) × (f tt ≡ read.Read v)
-unfolding given
+counted-says : (t : Bool) (f : Unit {0} → ReadAnswer) (v : Vote) → whenever t f (read.Refused refusal.BadSizes) ≡ read.Read v → (t ≡ true) × (f tt ≡ read.Read v)
+unfolding whenever
 counted-says true f v e = (refl, e)
 counted-says false f v e = let z : _≡_ {A = ℕ} 0 1 = cc in absurd (omega arith)
 
@@ -149,7 +149,7 @@ read-whole count next end v l t = rw (vote-same v (t .kind), le-ltb next end l, 
 
 -- The bytes of a vote that passes its tests read back.
 read-back : (count : ℕ) (v : Vote) → v .block < 2 ^ 64 → countFits count ≡ true → Tested count v Fine → readVote count (messageBytes v) ≡ read.Read v
-unfolding readVote asRead given messageBytes
+unfolding readVote asRead whenever messageBytes
 read-back count v h c t =
     let k = numberBytes (voteNumber (v .kind)) in
     let m = numberBytes (v .node .0) in

@@ -11,7 +11,7 @@ use Rattle.rulebook.specs.declared.CertificateKind.the-variants as certificate
 use Rattle.rulebook.specs.declared.CheckAnswer.the-variants as check
 use Rattle.rulebook.specs.Certificates as found
 use Rattle.rulebook.specs.declared.WriteAnswer.the-variants as write
-use Rattle.rulebook.specs.Tools.{given, choose}
+use Rattle.rulebook.specs.Tools.{whenever, choose}
 use Rattle.rulebook.specs.declared.Verdict.the-variants.{Fine}
 use Rattle.rulebook.specs.Weights.{stakeIn, weight, totalTo, stakesFit, slotOk}
 use Rattle.rulebook.specs.PaperNumbers.{kindIn}
@@ -115,8 +115,9 @@ CertificateBack =
 -- The certificates of a proof, kind 1 preferred, and the kind of the first.
 unfoldable pub proofParts : Ledger → ℕ → ℕ → List Certificate
 proofParts l s b =
-    given (held l certificate.FastFinal s b) (certificateFor l certificate.Notar s b ∷ certificateFor l certificate.Final s 0 ∷ [])
+    whenever (held l certificate.FastFinal s b)
     (λ _. certificateFor l certificate.FastFinal s b ∷ [])
+    (certificateFor l certificate.Notar s b ∷ certificateFor l certificate.Final s 0 ∷ [])
 
 unfoldable pub proofKind : Ledger → ℕ → ℕ → CertificateKind
 proofKind l s b = choose (held l certificate.FastFinal s b) certificate.FastFinal certificate.Notar

@@ -20,7 +20,7 @@ use Rattle.rulebook.specs.declared.Verdict.{Verdict}
 use Rattle.rulebook.specs.declared.Verdict.the-variants as verdict
 use Rattle.rulebook.specs.Certificates.{Certificate, Found}
 use Rattle.rulebook.specs.Certificates as found
-use Rattle.rulebook.specs.Tools.{given}
+use Rattle.rulebook.specs.Tools.{whenever}
 use Rattle.rulebook.specs.Weights.{stakesFit}
 use Rattle.rulebook.specs.PaperNumbers.{kindIn, numberIn}
 use Rattle.rulebook.specs.Packets.{lastGroup, lastFits, above, numberFrom, placed, numberAt, aboveWord, wordThen, maskAt, wordsIn, andThen, certificateAt}
@@ -37,10 +37,10 @@ Uses n reading.Early = Unit
 Uses n reading.Malformed = Unit
 
 uses-last : (k b : ℕ) → Uses 1 (lastGroup k b)
-unfolding lastGroup given Uses
+unfolding lastGroup whenever Uses
 uses-last k b = go (lastFits k b)
   where
-    go : (t : Bool) → Uses 1 (given t reading.Malformed (λ _. reading.Number b 1))
+    go : (t : Bool) → Uses 1 (whenever t (λ _. reading.Number b 1) reading.Malformed)
     go true = omega arith
     go false = tt
 
@@ -58,37 +58,37 @@ uses-above n g reading.Malformed u = tt
 
 -- What is read of a number of which k bits are read, f groups to come after the next: no more than f + 1 bytes.
 uses-from : (f k : ℕ) (bs : List ℕ) → 7 * f + k ≡ 63 → Uses (f + 1) (numberFrom k bs)
-unfolding numberFrom given Uses
+unfolding numberFrom whenever Uses
 uses-from f k [] e = tt
 uses-from zero k (b ∷ bs) e = go (leb 128 b) (ltb k 63) refl
   where
     go : (t u : Bool) → ltb k 63 ≡ u
-        → Uses (zero + 1) (given t (lastGroup k b) (λ _. given u reading.Malformed (λ _. above (b % 128) (numberFrom (k + 7) bs))))
+        → Uses (zero + 1) (whenever t (λ _. whenever u (λ _. above (b % 128) (numberFrom (k + 7) bs)) reading.Malformed) (lastGroup k b))
     go false u q = uses-more 1 (zero + 1) (lastGroup k b) (omega arith) (uses-last k b)
     go true true q = absurd (omega (arith, ltb-true k 63 q))
     go true false q = tt
 uses-from (suc f) k (b ∷ bs) e = go (uses-from f (k + 7) bs (omega arith)) (leb 128 b) (ltb k 63)
   where
     go : Uses (f + 1) (numberFrom (k + 7) bs) → (t u : Bool)
-        → Uses (suc f + 1) (given t (lastGroup k b) (λ _. given u reading.Malformed (λ _. above (b % 128) (numberFrom (k + 7) bs))))
+        → Uses (suc f + 1) (whenever t (λ _. whenever u (λ _. above (b % 128) (numberFrom (k + 7) bs)) reading.Malformed) (lastGroup k b))
     go ih false u = uses-more 1 (suc f + 1) (lastGroup k b) (omega arith) (uses-last k b)
     go ih true true = uses-more (f + 1 + 1) (suc f + 1) (above (b % 128) (numberFrom (k + 7) bs)) (omega arith) (uses-above (f + 1) (b % 128) (numberFrom (k + 7) bs) ih)
     go ih true false = tt
 
 -- With as many bytes there, what follows them is not looked at.
 from-front : (f k : ℕ) (bs rest : List ℕ) → 7 * f + k ≡ 63 → f + 1 ≤ length bs → numberFrom k (bs ++ rest) ≡ numberFrom k bs
-unfolding numberFrom given
+unfolding numberFrom whenever
 from-front f k [] rest e h = absurd (omega arith)
 from-front zero k (b ∷ bs) rest e h = go (leb 128 b) (ltb k 63) refl
   where
     go : (t u : Bool) → ltb k 63 ≡ u
-        → given t (lastGroup k b) (λ _. given u reading.Malformed (λ _. above (b % 128) (numberFrom (k + 7) (bs ++ rest))))
-        ≡ given t (lastGroup k b) (λ _. given u reading.Malformed (λ _. above (b % 128) (numberFrom (k + 7) bs)))
+        → whenever t (λ _. whenever u (λ _. above (b % 128) (numberFrom (k + 7) (bs ++ rest))) reading.Malformed) (lastGroup k b)
+        ≡ whenever t (λ _. whenever u (λ _. above (b % 128) (numberFrom (k + 7) bs)) reading.Malformed) (lastGroup k b)
     go false u q = refl
     go true true q = absurd (omega (arith, ltb-true k 63 q))
     go true false q = refl
 from-front (suc f) k (b ∷ bs) rest e h =
-    ap (λ (r : Reading). given (leb 128 b) (lastGroup k b) (λ _. given (ltb k 63) reading.Malformed (λ _. above (b % 128) r)))
+    ap (λ (r : Reading). whenever (leb 128 b) (λ _. whenever (ltb k 63) (λ _. above (b % 128) r) reading.Malformed) (lastGroup k b))
     (from-front f (k + 7) bs rest (omega arith) (omega arith))
 
 -- At a place of a packet: the same with whatever follows ten bytes, and no more than ten are used.
@@ -230,13 +230,13 @@ module _ (stakes bs rest : List ℕ) (long : frontBytes ≤ length bs) where
   ended-front : (c : Certificate) (next : ℕ) → next ≤ 1340 → ended stakes (bs ++ rest) c next ≡ ended stakes bs c next
   unfolding ended
   ended-front c next h =
-      ap (λ (t : Bool). given (not t) (check.Refused refusal.BadLength) (λ _. check.Accepted (acceptedOf stakes c)))
+      ap (λ (t : Bool). whenever (not t) (λ _. check.Accepted (acceptedOf stakes c)) (check.Refused refusal.BadLength))
       (lt-ltb next (length (bs ++ rest)) (omega (arith, length-append bs rest)) ∙ sym (lt-ltb next (length bs) (omega arith)))
 
   second-front : (c : Certificate) (o : One) → Ends 1340 o → secondOf stakes (bs ++ rest) c o ≡ secondOf stakes bs c o
   unfolding secondOf Ends
   second-front c (good d next) h =
-      ap (λ (a : CheckAnswer). given (eqb (d .kind) (numberIn (length stakes) certificate.Final) && eqb (d .slot) (c .slot)) (check.Refused refusal.NotAProof) (λ _. a))
+      ap (λ (a : CheckAnswer). whenever (eqb (d .kind) (numberIn (length stakes) certificate.Final) && eqb (d .slot) (c .slot)) (λ _. a) (check.Refused refusal.NotAProof))
       (ended-front c next h)
   second-front c (bad r) h = refl
 
@@ -264,7 +264,7 @@ module _ (stakes bs rest : List ℕ) (long : frontBytes ≤ length bs) where
   check-front : checkProof stakes (bs ++ rest) ≡ checkProof stakes bs
   unfolding checkProof
   check-front =
-      ap (λ (a : CheckAnswer). given (stakesFit stakes (length stakes)) (check.Refused refusal.BadSizes) (λ _. a))
+      ap (λ (a : CheckAnswer). whenever (stakesFit stakes (length stakes)) (λ _. a) (check.Refused refusal.BadSizes))
       (ap (proofOf stakes (bs ++ rest)) (one-front 0 (omega arith))
       ∙ proof-of-front (oneAt stakes bs 0) (ends-more (0 + 670) 670 (oneAt stakes bs 0) (omega arith) (one-ends 0)))
 

@@ -6,7 +6,7 @@ use lib.ListN.{length}
 use Rattle.rulebook.specs.declared.CheckAnswer.{CheckAnswer}
 use Rattle.rulebook.specs.declared.CheckAnswer.the-variants as check
 use Rattle.rulebook.specs.declared.Refusal.the-variants as refusal
-use Rattle.rulebook.specs.Tools.{given}
+use Rattle.rulebook.specs.Tools.{whenever}
 use Rattle.rulebook.specs.Weights.{stakesFit}
 use Rattle.rulebook.specs.PaperNumbers.{Panel, refusalNumber}
 use Rattle.rulebook.specs.Checker.{checkProof}
@@ -21,12 +21,12 @@ pub data Taken : Type 0 where
 -- "The table is taken with the first call and stays until the end call"; "A table that is refused with 1 is refused at the first call and
 -- nothing is taken".
 unfoldable pub afterPiece : Taken → List ℕ → List ℕ → Taken
-afterPiece nothing stakes bytes = given (stakesFit stakes (length stakes)) nothing (λ _. since stakes bytes)
+afterPiece nothing stakes bytes = whenever (stakesFit stakes (length stakes)) (λ _. since stakes bytes) nothing
 afterPiece (since table bytes) stakes more = since table (bytes ++ more)
 
 -- "before it the answer is "more", whatever has been seen".
 unfoldable pub pieceAnswer : Taken → List ℕ → PieceAnswer
-pieceAnswer nothing stakes = given (stakesFit stakes (length stakes)) (answer.Refused refusal.BadSizes) (λ _. answer.More)
+pieceAnswer nothing stakes = whenever (stakesFit stakes (length stakes)) (λ _. answer.More) (answer.Refused refusal.BadSizes)
 pieceAnswer (since table bytes) stakes = answer.More
 
 -- "the end call gives the same answer as the whole packet would"; "An end call with no piece taken before it is 12".

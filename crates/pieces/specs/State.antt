@@ -10,7 +10,7 @@ use Rattle.rulebook.specs.declared.CheckAnswer.{CheckAnswer}
 use Rattle.rulebook.specs.declared.CheckAnswer.the-variants as check
 use Rattle.rulebook.specs.declared.Refusal.{Refusal}
 use Rattle.rulebook.specs.declared.Refusal.the-variants as refusal
-use Rattle.rulebook.specs.Tools.{given, choose, allTo}
+use Rattle.rulebook.specs.Tools.{whenever, choose, allTo}
 use Rattle.rulebook.specs.Weights.{stakesFit}
 use Rattle.rulebook.specs.Ledger.{none}
 use Rattle.rulebook.specs.Checker.{checkProof}
@@ -97,12 +97,13 @@ pieceTaken ws bs bytes = record { answer = answer.More; words = keptWords ws byt
 
 unfoldable pub firstLeaves : List ℕ → List ℕ → List ℕ → List ℕ → PieceLeft
 firstLeaves ws bs stakes bytes =
-    given (stakesFit stakes (length stakes)) (pieceRefused refusal.BadSizes ws bs) (λ _. pieceTaken (withTable ws stakes) bs bytes)
+    whenever (stakesFit stakes (length stakes)) (λ _. pieceTaken (withTable ws stakes) bs bytes) (pieceRefused refusal.BadSizes ws bs)
 
 unfoldable pub pieceLeaves : List ℕ → List ℕ → List ℕ → List ℕ → PieceLeft
 pieceLeaves ws bs stakes bytes =
-    given (isReady ws bs) (pieceRefused refusal.BadRecord ws bs)
-    (λ _. given (none (mark ws)) (pieceTaken ws bs bytes) (λ _. firstLeaves ws bs stakes bytes))
+    whenever (isReady ws bs)
+    (λ _. whenever (none (mark ws)) (λ _. firstLeaves ws bs stakes bytes) (pieceTaken ws bs bytes))
+    (pieceRefused refusal.BadRecord ws bs)
 
 -- The contract of a piece: its answer, and all words and bytes of the state afterwards.
 pub record PieceOf (ws bs stakes bytes : List ℕ) (r : PieceAnswer) (ws' bs' : List ℕ) : Type 0 where
@@ -126,8 +127,9 @@ endChecked ws bs = record { answer = checkProof (table ws) (front ws bs); words 
 
 unfoldable pub endLeaves : List ℕ → List ℕ → EndLeft
 endLeaves ws bs =
-    given (isWhole ws bs) (endRefused refusal.BadRecord ws bs)
-    (λ _. given (none (mark ws)) (endChecked ws bs) (λ _. endRefused refusal.BadLength ws bs))
+    whenever (isWhole ws bs)
+    (λ _. whenever (none (mark ws)) (λ _. endRefused refusal.BadLength ws bs) (endChecked ws bs))
+    (endRefused refusal.BadRecord ws bs)
 
 -- The contract of the end: its answer, and all words and bytes of the state afterwards.
 pub record EndOf (ws bs : List ℕ) (r : CheckAnswer) (ws' bs' : List ℕ) : Type 0 where

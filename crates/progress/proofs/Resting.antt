@@ -9,7 +9,7 @@ use Rattle.rulebook.specs.declared.Cell.{Cell}
 use Rattle.rulebook.specs.declared.Block.{Block}
 use Rattle.rulebook.specs.declared.Who.the-variants as who
 use Rattle.rulebook.specs.declared.CertificateKind.the-variants as certificate
-use Rattle.rulebook.specs.Tools.{given, allTo, someTo, anyOf, largest}
+use Rattle.rulebook.specs.Tools.{whenever, allTo, someTo, anyOf, largest}
 use Rattle.rulebook.specs.Weights.{lastSlot, weight, reaches, isFirst}
 use Rattle.rulebook.specs.Ledger.{Ledger, none, cellAt, isWatcher, ownCell, noInitial, isArmed, putArmed, someBlock, blocksAt, isFree, hasNumber, isBlock, keepsBlock}
 use Rattle.rulebook.specs.Pool.{hasFallback, counts, weigh, weighs, signersOf, fifthsOf, reached, keptAs, held, names, parentHeld, skippedBetween, ready, certifiable, parentNames, someReady}
@@ -29,8 +29,8 @@ use Rattle.progress.specs.Progress.{AtRest}
 use Rattle.progress.proofs.Grows.{grows-not, fallback-grows, skipFallback-grows}
 use Rattle.progress.proofs.Named.{among-any, vote-certifiable, largest-room}
 
-T-given : (b : Bool) (f : Unit {0} → Bool) → T b → T (f tt) → T (given b false f)
-unfolding given
+T-given : (b : Bool) (f : Unit {0} → Bool) → T b → T (f tt) → T (whenever b f false)
+unfolding whenever
 T-given true f x y = y
 T-given false f x y = absurd x
 
@@ -104,7 +104,7 @@ module _ (l : Ledger) where
     ready-holds : (s p x : ℕ) → p < s → BackedBy p x → ((t : ℕ) → p < t → t < s → Reach 3 (four t)) → T (ready l s p x)
     unfolding ready skippedBetween
     ready-holds s p x lt b between =
-        T-given (ltb p s) (λ _. given (parentHeld l p x) false (λ _. allTo (s - suc p) (λ i. held l certificate.Skip (suc p + i) 0))) (lt→ltb p s lt)
+        T-given (ltb p s) (λ _. whenever (parentHeld l p x) (λ _. allTo (s - suc p) (λ i. held l certificate.Skip (suc p + i) 0)) false) (lt→ltb p s lt)
         (T-given (parentHeld l p x) (λ _. allTo (s - suc p) (λ i. held l certificate.Skip (suc p + i) 0)) (parent-holds p x b)
         (true-T (allTo (s - suc p) (λ i. held l certificate.Skip (suc p + i) 0)) (all-each (s - suc p) (λ i. held l certificate.Skip (suc p + i) 0)
         (λ i h. T-true (held l certificate.Skip (suc p + i) 0) (four-held (suc p + i) (between (suc p + i) (omega arith) (omega arith)))))))
@@ -127,7 +127,7 @@ module _ (l : Ledger) where
     arm-grows rs s f na r =
         let o : State = stateOf l rs in
         rw (
-          given-on (isFirst s && not (isArmed l s)) o (λ _. given (someReady l s) o (λ _. report o (putArmed l s) 7 s 0)) (T-true (isFirst s && not (isArmed l s)) (T-and (isFirst s) (not (isArmed l s)) f na)),
+          given-on (isFirst s && not (isArmed l s)) o (λ _. whenever (someReady l s) (λ _. report o (putArmed l s) 7 s 0) o) (T-true (isFirst s && not (isArmed l s)) (T-and (isFirst s) (not (isArmed l s)) f na)),
           given-on (someReady l s) o (λ _. report o (putArmed l s) 7 s 0) (T-true (someReady l s) r),
         ) (omega arith)
 
@@ -190,7 +190,7 @@ module _ (l : Ledger) where
         unfolding fallsBack
         falls-holds s b nb may w g =
             let c = ownCell l s in
-            T-given (not (eqb (c .notar) b) && (windowOpen l s || mayFallback c b)) (λ _. given (fallbackWeights l s b) false (λ _. isGrounded l s b))
+            T-given (not (eqb (c .notar) b) && (windowOpen l s || mayFallback c b)) (λ _. whenever (fallbackWeights l s b) (λ _. isGrounded l s b) false)
             (T-and (not (eqb (c .notar) b)) (windowOpen l s || mayFallback c b) nb (T-right (windowOpen l s) (mayFallback c b) may))
             (T-given (fallbackWeights l s b) (λ _. isGrounded l s b) w g)
 
@@ -199,7 +199,7 @@ module _ (l : Ledger) where
         falls-casts s b t =
             let c = ownCell l s in
             and-T (not (eqb (c .notar) b)) (windowOpen l s || mayFallback c b)
-            (given-T (not (eqb (c .notar) b) && (windowOpen l s || mayFallback c b)) (λ _. given (fallbackWeights l s b) false (λ _. isGrounded l s b)) t .0) .1
+            (given-T (not (eqb (c .notar) b) && (windowOpen l s || mayFallback c b)) (λ _. whenever (fallbackWeights l s b) (λ _. isGrounded l s b) false) t .0) .1
 
         pub d-grows : (rs : List Record) (s b : ℕ) → T (not (noInitial (ownCell l s))) → Among b (names l s) → T (fallsBack l s b) → made (stateOf l rs) < made (ruleD (stateOf l rs) s)
         unfolding ruleD fallbackBlock names
@@ -274,7 +274,7 @@ module _ (l : Ledger) where
             let c = ownCell l s in
             let t : T (windowOpen l s || maySkipFallback c) = T-right (windowOpen l s) (maySkipFallback c) may in
             rw (
-              given-on (not (none (c .notar)) && (windowOpen l s || maySkipFallback c)) o (λ _. given (skipWeights l s) o (λ _. castSkipFallback o s))
+              given-on (not (none (c .notar)) && (windowOpen l s || maySkipFallback c)) o (λ _. whenever (skipWeights l s) (λ _. castSkipFallback o s) o)
                   (T-true (not (none (c .notar)) && (windowOpen l s || maySkipFallback c)) (T-and (not (none (c .notar))) (windowOpen l s || maySkipFallback c) v t)),
               given-on (skipWeights l s) o (λ _. castSkipFallback o s) (T-true (skipWeights l s) w),
             ) (skipFallback-grows o s t)

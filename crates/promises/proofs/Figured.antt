@@ -17,7 +17,7 @@ use Rattle.rulebook.specs.declared.Refusal.{Refusal}
 use Rattle.rulebook.specs.declared.Refusal.the-variants as refusal
 use Rattle.rulebook.specs.declared.Verdict.{Verdict}
 use Rattle.rulebook.specs.declared.Verdict.the-variants.{Fine, Refused}
-use Rattle.rulebook.specs.Tools.{choose, given}
+use Rattle.rulebook.specs.Tools.{choose, whenever}
 use Rattle.rulebook.specs.Weights.{reaches, totalTo, slotOk, stakesFit}
 use Rattle.rulebook.specs.PaperNumbers.{kindIn, numberIn, refusalNumber, refusalMissing, verdictNumber, checkNumber, checkMissing}
 use Rattle.rulebook.specs.Pool.{weigh, weighs, signersOf, fifthsOf, reached, keptAs, held, missingTo}
@@ -182,9 +182,9 @@ unfolding checkNumber checkMissing
 told-zero (check.Accepted x) ne = refl
 told-zero (check.Refused r) ne = no-figure r ne
 
-given-later : (t : Bool) (r : Refusal) (f : Unit {0} → CheckAnswer) → Other r → checkNumber (given t (check.Refused r) f) ≡ 15
-    → given t (check.Refused r) f ≡ f tt
-unfolding given checkNumber Other
+given-later : (t : Bool) (r : Refusal) (f : Unit {0} → CheckAnswer) → Other r → checkNumber (whenever t f (check.Refused r)) ≡ 15
+    → whenever t f (check.Refused r) ≡ f tt
+unfolding whenever checkNumber Other
 given-later true r f ne e = refl
 given-later false r f ne e = absurd (ne e)
 

@@ -17,7 +17,7 @@ use Rattle.rulebook.specs.declared.Refusal.the-variants as refusal
 use Rattle.rulebook.specs.declared.Verdict.{Verdict}
 use Rattle.rulebook.specs.declared.Verdict.the-variants.{Fine, Refused}
 use Rattle.rulebook.specs.declared.Vote.{Vote}
-use Rattle.rulebook.specs.Tools.{given}
+use Rattle.rulebook.specs.Tools.{whenever}
 use Rattle.rulebook.specs.PaperNumbers.{Panel, kindIn, verdictNumber, placeNumber, startPanel, stepPanel, writePanel, refusalNumber}
 use Rattle.rulebook.specs.Weights.{stakesFit}
 use Rattle.rulebook.specs.Ledger.{Ledger, tableOf, cellAt, certificatesAt}
@@ -72,9 +72,9 @@ room-tested room =
 
 -- 17, 9, and then what is due to what is given: an input or a packet.
 first-shown : (a b c : Bool) (ws out : List ℕ) (l : Ledger) (rest : Fed) (v : Verdict) (n : ℕ) → (b ≡ true → stepPanel (rest .answer) ≡ shown v (n ∷ []))
-    → stepPanel (given a (asFound refusal.BadRecord ws out) (λ _. asFed (given b (refusedWith l refusal.BadRecord) (λ _. given c (refusedWith l refusal.NoRoom) (λ _. rest))) out) .answer)
+    → stepPanel (whenever a (λ _. asFed (whenever b (λ _. whenever c (λ _. rest) (refusedWith l refusal.NoRoom)) (refusedWith l refusal.BadRecord)) out) (asFound refusal.BadRecord ws out) .answer)
     ≡ shown (refuseIf (not (a && b)) refusal.BadRecord (refuseIf (not c) refusal.NoRoom v)) (n ∷ [])
-unfolding given refuseIf refusedWith stepPanel shown besideIt verdictNumber
+unfolding whenever refuseIf refusedWith stepPanel shown besideIt verdictNumber
 first-shown false b c ws out l rest v n h = refl
 first-shown true false c ws out l rest v n h = refl
 first-shown true true false ws out l rest v n h = refl
@@ -138,9 +138,9 @@ module _ (l : Ledger) (packet : List ℕ) where
     kept-shown (Refused r) = refl
 
     after-shown : (t : Bool)
-        → stepPanel (given (not t) (refusedWith l refusal.BadLength) (λ _. taken l c) .answer)
-        ≡ shown (elseThen (refuseIf t refusal.BadLength Fine) kept) (length (given (not t) (refusedWith l refusal.BadLength) (λ _. taken l c) .records) ∷ [])
-    unfolding given refuseIf refusedWith stepPanel shown besideIt verdictNumber elseThen taken
+        → stepPanel (whenever (not t) (λ _. taken l c) (refusedWith l refusal.BadLength) .answer)
+        ≡ shown (elseThen (refuseIf t refusal.BadLength Fine) kept) (length (whenever (not t) (λ _. taken l c) (refusedWith l refusal.BadLength) .records) ∷ [])
+    unfolding whenever refuseIf refusedWith stepPanel shown besideIt verdictNumber elseThen taken
     after-shown true = refl
     after-shown false = kept-shown kept
 
@@ -183,8 +183,8 @@ take-shown ws out packet a ws' left h = ap stepPanel (h .answered) ∙ take-leav
 
 -- A test of a tray, and what is found after it.
 test-shown : (b : Bool) (l : Ledger) (r : Refusal) (n : ℕ) (f : Unit {0} → Tray) (v : Verdict) → stepPanel (f tt .answer) ≡ shown v (n ∷ [])
-    → stepPanel (given b (trayRefused l r) f .answer) ≡ shown (refuseIf (not b) r v) (n ∷ [])
-unfolding given refuseIf trayRefused stepPanel shown besideIt verdictNumber
+    → stepPanel (whenever b f (trayRefused l r) .answer) ≡ shown (refuseIf (not b) r v) (n ∷ [])
+unfolding whenever refuseIf trayRefused stepPanel shown besideIt verdictNumber
 test-shown true l r n f v e = e
 test-shown false l r n f v e = refl
 

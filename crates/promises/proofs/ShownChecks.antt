@@ -16,7 +16,7 @@ use Rattle.rulebook.specs.declared.Refusal.{Refusal}
 use Rattle.rulebook.specs.declared.Refusal.the-variants as refusal
 use Rattle.rulebook.specs.declared.Verdict.{Verdict}
 use Rattle.rulebook.specs.declared.Verdict.the-variants.{Fine, Refused}
-use Rattle.rulebook.specs.Tools.{given}
+use Rattle.rulebook.specs.Tools.{whenever}
 use Rattle.rulebook.specs.PaperNumbers.{kindIn, numberIn, verdictNumber, foundPanel, checkNumber, checkValues, checkPanel, refusalNumber}
 use Rattle.rulebook.specs.Weights.{stakesFit}
 use Rattle.rulebook.specs.Inputs.{refuseIf}
@@ -66,8 +66,8 @@ checkVerdict : CheckAnswer → Verdict
 checkVerdict (check.Accepted a) = Fine
 checkVerdict (check.Refused r) = Refused r
 
-tested : (t : Bool) (r : Refusal) (f : Unit {0} → CheckAnswer) → checkVerdict (given t (check.Refused r) f) ≡ refuseIf (not t) r (checkVerdict (f tt))
-unfolding given refuseIf checkVerdict
+tested : (t : Bool) (r : Refusal) (f : Unit {0} → CheckAnswer) → checkVerdict (whenever t f (check.Refused r)) ≡ refuseIf (not t) r (checkVerdict (f tt))
+unfolding whenever refuseIf checkVerdict
 tested true r f = refl
 tested false r f = refl
 

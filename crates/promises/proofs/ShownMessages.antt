@@ -11,7 +11,7 @@ use Rattle.rulebook.specs.declared.Reading.the-variants as reading
 use Rattle.rulebook.specs.declared.Refusal.the-variants as refusal
 use Rattle.rulebook.specs.declared.Verdict.{Verdict}
 use Rattle.rulebook.specs.declared.Verdict.the-variants.{Fine, Refused}
-use Rattle.rulebook.specs.Tools.{given}
+use Rattle.rulebook.specs.Tools.{whenever}
 use Rattle.rulebook.specs.PaperNumbers.{voteNumber, voteKind, verdictNumber, writePanel, readPanel, refusalNumber}
 use Rattle.rulebook.specs.Weights.{countFits}
 use Rattle.rulebook.specs.Inputs.{refuseIf}
@@ -62,8 +62,8 @@ four-told bytes =
 
 -- 1, before anything is read.
 count-shown : (t : Bool) (f : Unit {0} → ReadAnswer) (v : Verdict) (values : List ℕ) → length values ≡ 4 → readPanel (f tt) ≡ shown v values
-    → readPanel (given t (read.Refused refusal.BadSizes) f) ≡ shown (refuseIf (not t) refusal.BadSizes v) values
-unfolding given refuseIf readPanel shown besideIt verdictNumber
+    → readPanel (whenever t f (read.Refused refusal.BadSizes)) ≡ shown (refuseIf (not t) refusal.BadSizes v) values
+unfolding whenever refuseIf readPanel shown besideIt verdictNumber
 count-shown true f v values l h = h
 count-shown false f v values l h = ap (λ (n : ℕ). record { number = refusalNumber refusal.BadSizes; values = replicate n 0 }) (sym l)
 

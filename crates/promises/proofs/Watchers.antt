@@ -19,7 +19,7 @@ use Rattle.rulebook.specs.declared.StepAnswer.{StepAnswer}
 use Rattle.rulebook.specs.declared.Verdict.{Verdict}
 use Rattle.rulebook.specs.declared.Verdict.the-variants.{Fine, Refused}
 use Rattle.rulebook.specs.declared.Vote.{Vote}
-use Rattle.rulebook.specs.Tools.{given}
+use Rattle.rulebook.specs.Tools.{whenever}
 use Rattle.rulebook.specs.PaperNumbers.{Panel, kindIn, refusalNumber, verdictNumber, stepPanel}
 use Rattle.rulebook.specs.Weights.{placesFor, slotOk}
 use Rattle.rulebook.specs.Ledger.{Ledger, isWatcher, fresh, cellAt, certificatesAt}
@@ -143,8 +143,8 @@ face-never-six ws out kind node slot block number made ws' left w h e =
 -- ---- "a node that never votes"
 
 -- A record that tells of a vote would be among the votes that are told.
-none-told : (b : Bool) (x : Arrival) (ys : List Arrival) → given b [] (λ _. x ∷ []) ++ ys ≡ [] → (b ≡ false) × (ys ≡ [])
-unfolding given
+none-told : (b : Bool) (x : Arrival) (ys : List Arrival) → whenever b (λ _. x ∷ []) [] ++ ys ≡ [] → (b ≡ false) × (ys ≡ [])
+unfolding whenever
 none-told true x ys e = absurd (omega (arith, ap length e))
 none-told false x ys e = (refl, e)
 

@@ -5,7 +5,7 @@ use Prim.Native.Nat.{ℕ}
 use Rattle.rulebook.specs.declared.Cell.{Cell}
 use Rattle.rulebook.specs.declared.Refusal.{Refusal}
 use Rattle.rulebook.specs.declared.Refusal.the-variants as refusal
-use Rattle.rulebook.specs.Tools.{given, part}
+use Rattle.rulebook.specs.Tools.{whenever, part}
 use Rattle.rulebook.specs.Weights.{slotOk}
 use Rattle.rulebook.specs.Ledger.{rowAt, cellAt, isArmed}
 use Rattle.rulebook.specs.Inputs.{notInTable}
@@ -21,7 +21,7 @@ use Rattle.readers.specs.declared.VotesAnswer.the-variants as votes
 
 -- 17, then 3, then what is asked of the slot.
 unfoldable pub onSlot : {A : Type 0} → (Refusal → A) → List ℕ → ℕ → (Unit {0} → A) → A
-onSlot refused ws s asked = given (soundWords ws) (refused refusal.BadRecord) (λ _. given (slotOk s) (refused refusal.BadSlot) asked)
+onSlot refused ws s asked = whenever (soundWords ws) (λ _. whenever (slotOk s) asked (refused refusal.BadSlot)) (refused refusal.BadRecord)
 
 -- The block reported final in the slot, 0 where there is none.
 unfoldable pub finalOn : List ℕ → ℕ → FinalAnswer
@@ -34,7 +34,7 @@ armedOn ws s = onSlot armed.Refused ws s (λ _. armed.Armed (isArmed (ledgerOf w
 -- 2 behind 17 and 3, then what the pool keeps of the node in the slot.
 unfoldable pub votesOn : List ℕ → ℕ → ℕ → VotesAnswer
 votesOn ws s n =
-    onSlot votes.Refused ws s (λ _. given (not (notInTable (ledgerOf ws .count) n)) (votes.Refused refusal.BadNode) (λ _. votes.Votes (cellAt (ledgerOf ws) s n)))
+    onSlot votes.Refused ws s (λ _. whenever (not (notInTable (ledgerOf ws .count) n)) (λ _. votes.Votes (cellAt (ledgerOf ws) s n)) (votes.Refused refusal.BadNode))
 
 -- The number on the panel and the block beside it, 0 beside a refusal.
 unfoldable pub finalPanel : FinalAnswer → Panel

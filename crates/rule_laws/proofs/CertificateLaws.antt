@@ -12,7 +12,7 @@ use Rattle.rulebook.specs.declared.CertificateKind.{CertificateKind}
 use Rattle.rulebook.specs.declared.CertificateKind.the-variants as certificate
 use Rattle.rulebook.specs.declared.Refusal.the-variants as refusal
 use Rattle.rulebook.specs.declared.Verdict.the-variants.{Fine}
-use Rattle.rulebook.specs.Tools.{choose, given, allTo, someTo}
+use Rattle.rulebook.specs.Tools.{choose, whenever, allTo, someTo}
 use Rattle.rulebook.specs.Certificates.{Certificate, Kept}
 use Rattle.rulebook.specs.PaperNumbers.{certificateNumber, kindIn, numberIn}
 use Rattle.rulebook.specs.Weights.{lastSlot, family, slotOk, totalTo, reaches}
@@ -64,7 +64,7 @@ pub some-place : (p : ℕ → Kept → Bool) (i : ℕ) (qs : List Kept) → some
 unfolding someKept
 some-place p i [] e = let z : _≡_ {A = ℕ} 0 1 = cc in absurd (omega arith)
 some-place p i (q ∷ qs) e =
-    or-cases (given (isKept q) false (λ _. p i q)) (someKept p (suc i) qs) e
+    or-cases (whenever (isKept q) (λ _. p i q) false) (someKept p (suc i) qs) e
     (λ t. let a = given-both (isKept q) (λ _. p i q) t in (0, a .0, subst (λ (j : ℕ). p j q ≡ true) (omega arith) (a .1)))
     (λ t. let r = some-place p (suc i) qs t in (suc (r .0), r .1, subst (λ (j : ℕ). p j (getD qs (r .0) noKept) ≡ true) (omega arith) (r .2)))
 
@@ -72,10 +72,10 @@ pub place-some : (p : ℕ → Kept → Bool) (i : ℕ) (qs : List Kept) (n : ℕ
 unfolding someKept
 place-some p i [] n k e = let z : _≡_ {A = ℕ} 0 1 = cc in absurd (omega arith)
 place-some p i (q ∷ qs) zero k e =
-    or-left (given (isKept q) false (λ _. p i q)) (someKept p (suc i) qs)
+    or-left (whenever (isKept q) (λ _. p i q) false) (someKept p (suc i) qs)
     (given-on (isKept q) false (λ _. p i q) k ∙ subst (λ (j : ℕ). p j q ≡ true) (omega arith) e)
 place-some p i (q ∷ qs) (suc n) k e =
-    or-right (given (isKept q) false (λ _. p i q)) (someKept p (suc i) qs)
+    or-right (whenever (isKept q) (λ _. p i q) false) (someKept p (suc i) qs)
     (place-some p (suc i) qs n k (subst (λ (j : ℕ). p j (getD qs n noKept) ≡ true) (omega arith) e))
 
 -- What holds of every place holds of each.
@@ -111,7 +111,7 @@ unfolding certificatesApart
 apart-at i [] m n h e k s = let z : _≡_ {A = ℕ} 0 1 = cc in absurd (omega arith)
 apart-at i (q ∷ qs) m zero h e k s = absurd (omega arith)
 apart-at i (q ∷ qs) zero (suc n) h e k s =
-    let test : ℕ → Kept → Bool = λ j r. given (isKept r && sameKind (placeKind i) (placeKind j)) true (λ _. inTurn q r) in
+    let test : ℕ → Kept → Bool = λ j r. whenever (isKept r && sameKind (placeKind i) (placeKind j)) (λ _. inTurn q r) true in
     let a = and-both (eachKept test (suc i) qs) (certificatesApart (suc i) qs) e in
     let r = getD qs n noKept in
     let first : i + 0 ≡ i = omega arith in
@@ -120,7 +120,7 @@ apart-at i (q ∷ qs) zero (suc n) h e k s =
     sym (given-on (isKept r && sameKind (placeKind i) (placeKind (suc i + n))) true (λ _. inTurn q r) (both-and (isKept r) (sameKind (placeKind i) (placeKind (suc i + n))) k same))
     ∙ each-at test (suc i) qs n (kept-within qs n k) (a .0)
 apart-at i (q ∷ qs) (suc m) (suc n) h e k s =
-    let test : ℕ → Kept → Bool = λ j r. given (isKept r && sameKind (placeKind i) (placeKind j)) true (λ _. inTurn q r) in
+    let test : ℕ → Kept → Bool = λ j r. whenever (isKept r && sameKind (placeKind i) (placeKind j)) (λ _. inTurn q r) true in
     let first : i + suc m ≡ suc i + m = omega arith in
     let later : i + suc n ≡ suc i + n = omega arith in
     apart-at (suc i) qs m n (omega arith) (and-both (eachKept test (suc i) qs) (certificatesApart (suc i) qs) e .1) k
@@ -194,7 +194,7 @@ fill-each f k i p (q ∷ qs) h e =
 
 -- The test of two places of the record: those of one kind in turn.
 apart-test : ℕ → Kept → ℕ → Kept → Bool
-apart-test i q j r = given (isKept r && sameKind (placeKind i) (placeKind j)) true (λ _. inTurn q r)
+apart-test i q j r = whenever (isKept r && sameKind (placeKind i) (placeKind j)) (λ _. inTurn q r) true
 
 -- Behind a place that keeps nothing all of its kind keep nothing.
 empty-turn : (i j : ℕ) (p q r : Kept) → isKept q ≡ false → apart-test i q j r ≡ true → apart-test i p j r ≡ true
@@ -206,7 +206,7 @@ empty-turn i j p q r t e =
     (λ u. given-off both true (λ _. inTurn p r) u)
 
 -- The new one behind a place of its kind, which keeps another block.
-turn-new : (i j : ℕ) (k : CertificateKind) (q p : Kept) → isRoom k i q ≡ false → given (isKept q) false (λ _. isRepeat k (p .block) i q) ≡ false
+turn-new : (i j : ℕ) (k : CertificateKind) (q p : Kept) → isRoom k i q ≡ false → whenever (isKept q) (λ _. isRepeat k (p .block) i q) false ≡ false
     → sameKind (placeKind j) k ≡ true → apart-test i q j p ≡ true
 unfolding apart-test inTurn isRepeat
 turn-new i j k q p z n s =
@@ -220,7 +220,7 @@ turn-new i j k q p z n s =
     (λ full.
     both-and (isKept q) (not (eqb (q .block) (p .block))) full
     (ap not (by-test (eqb (q .block) (p .block))
-    (λ e. true-not-false (given (isKept q) false (λ _. isRepeat k (p .block) i q))
+    (λ e. true-not-false (whenever (isKept q) (λ _. isRepeat k (p .block) i q) false)
     (given-on (isKept q) false (λ _. isRepeat k (p .block) i q) full ∙ both-and (sameKind (placeKind i) k) (eqb (q .block) (p .block)) ik e) n)
     (λ e. e))))
     (λ hollow. true-not-false (isRoom k i q) (both-and (sameKind (placeKind i) k) (not (isKept q)) ik (ap not hollow)) z))
@@ -233,11 +233,11 @@ unfolding certificatesApart fillKept choose someKept apart-test
 fill-kept-apart k i p [] d e = refl
 fill-kept-apart k i p (q ∷ qs) d e =
     go (isRoom k i q) refl
-    (or-none (given (isKept q) false (λ _. isRepeat k (p .block) i q)) (someKept (isRepeat k (p .block)) (suc i) qs) d)
+    (or-none (whenever (isKept q) (λ _. isRepeat k (p .block) i q) false) (someKept (isRepeat k (p .block)) (suc i) qs) d)
     (and-both (eachKept (apart-test i q) (suc i) qs) (certificatesApart (suc i) qs) e) (fill-kept-apart k (suc i) p qs)
   where
     go : (z : Bool) → isRoom k i q ≡ z
-        → (given (isKept q) false (λ _. isRepeat k (p .block) i q) ≡ false) × (someKept (isRepeat k (p .block)) (suc i) qs ≡ false)
+        → (whenever (isKept q) (λ _. isRepeat k (p .block) i q) false ≡ false) × (someKept (isRepeat k (p .block)) (suc i) qs ≡ false)
         → (eachKept (apart-test i q) (suc i) qs ≡ true) × (certificatesApart (suc i) qs ≡ true)
         → (someKept (isRepeat k (p .block)) (suc i) qs ≡ false → certificatesApart (suc i) qs ≡ true → certificatesApart (suc i) (fillKept k (suc i) p qs) ≡ true)
         → certificatesApart i (choose z (p ∷ qs) (q ∷ fillKept k (suc i) p qs)) ≡ true

@@ -9,7 +9,7 @@ use lib.Dec.{eqb}
 use borrow.Author.Tests.{not-true}
 use Rattle.rulebook.specs.declared.CertificateKind.{CertificateKind}
 use Rattle.rulebook.specs.Certificates.{Kept}
-use Rattle.rulebook.specs.Tools.{choose, given, allTo, someTo}
+use Rattle.rulebook.specs.Tools.{choose, whenever, allTo, someTo}
 use Rattle.rulebook.specs.Ledger.{noKept, isKept}
 use Rattle.rulebook.specs.Pool.{placeKind, sameKind, someKept, named, keptNames}
 use Rattle.rulebook.specs.Taking.{isRoom, hasRoom, fillKept}
@@ -129,27 +129,27 @@ find-none j b qs f = find-past j b 0 qs (λ n h. subst (λ (m : ℕ). isAsked j 
 
 -- The test of places m and n, m before n.
 abbrev pub turnAt : List Kept → ℕ → ℕ → Bool
-turnAt qs m n = given (isKept (getD qs n noKept) && sameKind (placeKind m) (placeKind n)) true (λ _. inTurn (getD qs m noKept) (getD qs n noKept))
+turnAt qs m n = whenever (isKept (getD qs n noKept) && sameKind (placeKind m) (placeKind n)) (λ _. inTurn (getD qs m noKept) (getD qs n noKept)) true
 
 apart-all : (i : ℕ) (qs : List Kept)
     → ((m n : ℕ) → m < n → n < length qs
-    → given (isKept (getD qs n noKept) && sameKind (placeKind (i + m)) (placeKind (i + n))) true (λ _. inTurn (getD qs m noKept) (getD qs n noKept)) ≡ true)
+    → whenever (isKept (getD qs n noKept) && sameKind (placeKind (i + m)) (placeKind (i + n))) (λ _. inTurn (getD qs m noKept) (getD qs n noKept)) true ≡ true)
     → certificatesApart i qs ≡ true
 unfolding certificatesApart
 apart-all i [] f = refl
 apart-all i (q ∷ qs) f =
-    let test : ℕ → Kept → Bool = λ j r. given (isKept r && sameKind (placeKind i) (placeKind j)) true (λ _. inTurn q r) in
+    let test : ℕ → Kept → Bool = λ j r. whenever (isKept r && sameKind (placeKind i) (placeKind j)) (λ _. inTurn q r) true in
     both-and (eachKept test (suc i) qs) (certificatesApart (suc i) qs)
     (each-all test (suc i) qs (λ n h.
     let first : i + 0 ≡ i = omega arith in
     let later : i + suc n ≡ suc i + n = omega arith in
-    subst (λ (j : ℕ). given (isKept (getD qs n noKept) && sameKind (placeKind i) (placeKind j)) true (λ _. inTurn q (getD qs n noKept)) ≡ true) later
-    (subst (λ (j : ℕ). given (isKept (getD qs n noKept) && sameKind (placeKind j) (placeKind (i + suc n))) true (λ _. inTurn q (getD qs n noKept)) ≡ true) first (f 0 (suc n) (omega arith) (omega arith)))))
+    subst (λ (j : ℕ). whenever (isKept (getD qs n noKept) && sameKind (placeKind i) (placeKind j)) (λ _. inTurn q (getD qs n noKept)) true ≡ true) later
+    (subst (λ (j : ℕ). whenever (isKept (getD qs n noKept) && sameKind (placeKind j) (placeKind (i + suc n))) (λ _. inTurn q (getD qs n noKept)) true ≡ true) first (f 0 (suc n) (omega arith) (omega arith)))))
     (apart-all (suc i) qs (λ m n l h.
     let first : i + suc m ≡ suc i + m = omega arith in
     let later : i + suc n ≡ suc i + n = omega arith in
-    subst (λ (j : ℕ). given (isKept (getD qs n noKept) && sameKind (placeKind (suc i + m)) (placeKind j)) true (λ _. inTurn (getD qs m noKept) (getD qs n noKept)) ≡ true) later
-    (subst (λ (j : ℕ). given (isKept (getD qs n noKept) && sameKind (placeKind j) (placeKind (i + suc n))) true (λ _. inTurn (getD qs m noKept) (getD qs n noKept)) ≡ true) first (f (suc m) (suc n) (omega arith) (omega arith)))))
+    subst (λ (j : ℕ). whenever (isKept (getD qs n noKept) && sameKind (placeKind (suc i + m)) (placeKind j)) (λ _. inTurn (getD qs m noKept) (getD qs n noKept)) true ≡ true) later
+    (subst (λ (j : ℕ). whenever (isKept (getD qs n noKept) && sameKind (placeKind j) (placeKind (i + suc n))) (λ _. inTurn (getD qs m noKept) (getD qs n noKept)) true ≡ true) first (f (suc m) (suc n) (omega arith) (omega arith)))))
 
 pub apart-index : (qs : List Kept) → certificatesApart 0 qs ≡ allTo (length qs) (λ n. allTo n (λ m. turnAt qs m n))
 apart-index qs =
@@ -164,8 +164,8 @@ apart-index qs =
     (λ t. given-off both true (λ _. inTurn (getD qs m noKept) (getD qs n noKept)) t))))
     (λ e. apart-all 0 qs (λ m n l h.
     let t = all-at n m (λ m. turnAt qs m n) (all-at (length qs) n (λ n. allTo n (λ m. turnAt qs m n)) e h) l in
-    subst (λ (j : ℕ). given (isKept (getD qs n noKept) && sameKind (placeKind (0 + m)) (placeKind j)) true (λ _. inTurn (getD qs m noKept) (getD qs n noKept)) ≡ true) (sym (from-zero n))
-    (subst (λ (j : ℕ). given (isKept (getD qs n noKept) && sameKind (placeKind j) (placeKind n)) true (λ _. inTurn (getD qs m noKept) (getD qs n noKept)) ≡ true) (sym (from-zero m)) t)))
+    subst (λ (j : ℕ). whenever (isKept (getD qs n noKept) && sameKind (placeKind (0 + m)) (placeKind j)) (λ _. inTurn (getD qs m noKept) (getD qs n noKept)) true ≡ true) (sym (from-zero n))
+    (subst (λ (j : ℕ). whenever (isKept (getD qs n noKept) && sameKind (placeKind j) (placeKind n)) (λ _. inTurn (getD qs m noKept) (getD qs n noKept)) true ≡ true) (sym (from-zero m)) t)))
 
 -- ---- the blocks that they name, from the last place to the first
 

@@ -12,7 +12,7 @@ use Rattle.rulebook.specs.declared.Verdict.{Verdict}
 use Rattle.rulebook.specs.declared.Verdict.the-variants as verdict
 use Rattle.rulebook.specs.declared.ReadAnswer.{ReadAnswer}
 use Rattle.rulebook.specs.declared.ReadAnswer.the-variants as read
-use Rattle.rulebook.specs.Tools.{given}
+use Rattle.rulebook.specs.Tools.{whenever}
 use Rattle.rulebook.specs.Weights.{slotOk, countFits}
 use Rattle.rulebook.specs.PaperNumbers.{voteKind, voteNumber}
 use Rattle.rulebook.specs.Inputs.{refuseIf, isOther, notInTable, misfits}
@@ -50,11 +50,11 @@ readTo count v next end = readOn (voteTests count v (refuseIf (ltb next end) ref
 -- "Both take the node count"; one outside 1 to 2,048 "is 1, tested first".
 unfoldable pub readVote : ℕ → List ℕ → ReadAnswer
 readVote count bytes =
-    given (countFits count) (read.Refused refusal.BadSizes) (λ _.
+    whenever (countFits count) (λ _.
     asRead (numberAt bytes 0) (λ kind p.
     asRead (numberAt bytes p) (λ node q.
     asRead (numberAt bytes q) (λ slot r.
-    asRead (numberAt bytes r) (λ block next. readTo count (voteOf kind node slot block) next (length bytes))))))
+    asRead (numberAt bytes r) (λ block next. readTo count (voteOf kind node slot block) next (length bytes)))))) (read.Refused refusal.BadSizes)
 
 -- How a vote is written.
 unfoldable pub messageBytes : Vote → List ℕ

@@ -9,7 +9,7 @@ use Rattle.rulebook.specs.declared.Input.{Input}
 use Rattle.rulebook.specs.declared.Refusal.the-variants as refusal
 use Rattle.rulebook.specs.declared.Verdict.{Verdict}
 use Rattle.rulebook.specs.declared.Verdict.the-variants.{Fine, Refused}
-use Rattle.rulebook.specs.Tools.{given, choose}
+use Rattle.rulebook.specs.Tools.{whenever, choose}
 use Rattle.rulebook.specs.Certificates.{Certificate, Kept}
 use Rattle.rulebook.specs.PaperNumbers.{kindIn}
 use Rattle.rulebook.specs.Ledger.{Ledger, tableOf, certificatesAt, isKept, putCertificates}
@@ -60,7 +60,7 @@ taken l c = takenOn (keptVerdict (certificatesAt l (c .slot)) (kindIn (l .count)
 
 -- "leftover bytes last" of the checker's refusals, and before 7 and 8.
 unfoldable pub takenFrom : Ledger → List ℕ → One → Fed
-takenFrom l packet (good c next) = given (not (ltb next (length packet))) (refusedWith l refusal.BadLength) (λ _. taken l c)
+takenFrom l packet (good c next) = whenever (not (ltb next (length packet))) (λ _. taken l c) (refusedWith l refusal.BadLength)
 takenFrom l packet (bad r) = refusedWith l r
 
 -- "Take a certificate packet into the pool after a full check, with the checker's refusals."

@@ -12,7 +12,7 @@ use Rattle.rulebook.specs.declared.Refusal.the-variants as refusal
 use Rattle.rulebook.specs.declared.Verdict.{Verdict}
 use Rattle.rulebook.specs.declared.Verdict.the-variants as verdict
 use Rattle.rulebook.specs.Certificates.{Certificate, Kept}
-use Rattle.rulebook.specs.Tools.{given, allTo}
+use Rattle.rulebook.specs.Tools.{whenever, allTo}
 use Rattle.rulebook.specs.Weights.{placesFor, lastSlot, windows, stakeIn, stakesFit, totalTo}
 use Rattle.rulebook.specs.Ledger.{Ledger, none, places, tableOf, rowAt, cellAt, ownCell, mostBlocks, mostCertificates, blocksAt, allBlocks, isFree, noCard, certificatesAt, isKept}
 use Rattle.rulebook.specs.Pool.{placeKind, sameKind}
@@ -57,13 +57,14 @@ cellBlank c =
 
 -- "an unused place not zero": the cells past the last node are blank.
 unfoldable pub cellsFit : Ledger → ℕ → ℕ → Bool
-cellsFit l s used = allTo (places l) (λ n. given (ltb n used) (cellBlank (cellAt l s n)) (λ _. cellFits (cellAt l s n)))
+cellsFit l s used = allTo (places l) (λ n. whenever (ltb n used) (λ _. cellFits (cellAt l s n)) (cellBlank (cellAt l s n)))
 
 -- A kept block has a parent that 5 and 11 let pass; where none is kept its parent is 0 too.
 unfoldable pub keptFits : Ledger → ℕ → Block → Bool
 keptFits l s b =
-    given (not (isFree b)) (none (b .parentslot .0) && none (b .parent))
+    whenever (not (isFree b))
     (λ _. not (none (b .parent)) && not (badParent l s b))
+    (none (b .parentslot .0) && none (b .parent))
 
 -- Places filled from the front, and no number twice: "a record with one kept twice in a slot is 17".
 unfoldable pub blocksApart : List Block → Bool
@@ -99,7 +100,7 @@ eachKept p i (q ∷ qs) = p i q && eachKept p (suc i) qs
 
 -- "A record whose kept certificate the checker refuses .. is 17": judged as the kind of its place; where none is kept all is 0.
 unfoldable pub certificateFits : List ℕ → ℕ → ℕ → Kept → Bool
-certificateFits stakes s i q = given (isKept q) (none (q .block)) (λ _. isFine (judgeKind stakes (placeKind i) (keptIn s q)))
+certificateFits stakes s i q = whenever (isKept q) (λ _. isFine (judgeKind stakes (placeKind i) (keptIn s q))) (none (q .block))
 
 -- Two places of one kind: the later is filled only after the earlier, and not with the same block.
 unfoldable pub inTurn : Kept → Kept → Bool
@@ -113,7 +114,7 @@ isLater i j r = isKept r && sameKind (placeKind i) (placeKind j)
 unfoldable pub certificatesApart : ℕ → List Kept → Bool
 certificatesApart i [] = true
 certificatesApart i (q ∷ qs) =
-    eachKept (λ j r. given (isLater i j r) true (λ _. inTurn q r)) (suc i) qs && certificatesApart (suc i) qs
+    eachKept (λ j r. whenever (isLater i j r) (λ _. inTurn q r) true) (suc i) qs && certificatesApart (suc i) qs
 
 -- The kept certificates of a slot.
 unfoldable pub certificatesFit : List ℕ → ℕ → List Kept → Bool
@@ -157,8 +158,9 @@ headFits l =
 -- Not 17.
 unfoldable pub wellFormed : Ledger → Bool
 wellFormed l =
-    given (headFits l) false (λ _. given (rowBlank l) false (λ _. given (allTo lastSlot (λ i. rowFits l (suc i))) false
-    (λ _. allTo lastSlot (λ i. cardFits l (suc i)))))
+    whenever (headFits l) (λ _. whenever (rowBlank l) (λ _. whenever (allTo lastSlot (λ i. rowFits l (suc i)))
+    (λ _. allTo lastSlot (λ i. cardFits l (suc i)))
+    false) false) false
 
 -- "The outbox must now hold 160 records", "three a record".
 abbrev pub outboxWords : ℕ
@@ -167,11 +169,13 @@ outboxWords = 480
 -- "Votes: 17, 9, ..", "Blocks: 17, 9, ..", "Timeouts: 17, 9, ..", "Look: 17, 9": an input to a node whose outbox has so many words.
 unfoldable pub step : Ledger → ℕ → Input → Fed
 step l room i =
-    given (wellFormed l) (refusedWith l refusal.BadRecord)
-    (λ _. given (leb outboxWords room) (refusedWith l refusal.NoRoom) (λ _. feed l i))
+    whenever (wellFormed l)
+    (λ _. whenever (leb outboxWords room) (λ _. feed l i) (refusedWith l refusal.NoRoom))
+    (refusedWith l refusal.BadRecord)
 
 -- "Order: 17, 9, checker's, 7, 8": a certificate packet for such a node.
 unfoldable pub takeCertificate : Ledger → ℕ → List ℕ → Fed
 takeCertificate l room packet =
-    given (wellFormed l) (refusedWith l refusal.BadRecord)
-    (λ _. given (leb outboxWords room) (refusedWith l refusal.NoRoom) (λ _. takePacket l packet))
+    whenever (wellFormed l)
+    (λ _. whenever (leb outboxWords room) (λ _. takePacket l packet) (refusedWith l refusal.NoRoom))
+    (refusedWith l refusal.BadRecord)

@@ -17,7 +17,7 @@ use Rattle.rulebook.specs.declared.Refusal.the-variants as refusal
 use Rattle.rulebook.specs.declared.StepAnswer.the-variants as step
 use Rattle.rulebook.specs.declared.Verdict.the-variants.{Fine, Refused}
 use Rattle.rulebook.specs.Certificates.{Certificate}
-use Rattle.rulebook.specs.Tools.{given, sumTo, someTo}
+use Rattle.rulebook.specs.Tools.{whenever, sumTo, someTo}
 use Rattle.rulebook.specs.Weights.{placesFor, weight, totalTo, slotOk}
 use Rattle.rulebook.specs.PaperNumbers.{kindIn}
 use Rattle.rulebook.specs.Ledger.{Ledger, none, tableOf, fresh, cellAt, mostCertificates, certificatesAt, keptAt, isKept}
@@ -358,9 +358,9 @@ eight-says false true e = let z : _≡_ {A = ℕ} 0 1 = cc in absurd (omega arit
 eight-says false false e = (refl, refl)
 
 -- 17 and 9 are not 8.
-past-both : (a b : Bool) (l : Ledger) (packet : List ℕ) → given a (refusedWith l refusal.BadRecord) (λ _. given b (refusedWith l refusal.NoRoom) (λ _. takePacket l packet)) .answer ≡ step.Refused refusal.OtherStands
+past-both : (a b : Bool) (l : Ledger) (packet : List ℕ) → whenever a (λ _. whenever b (λ _. takePacket l packet) (refusedWith l refusal.NoRoom)) (refusedWith l refusal.BadRecord) .answer ≡ step.Refused refusal.OtherStands
     → (a ≡ true) × (takePacket l packet .answer ≡ step.Refused refusal.OtherStands)
-unfolding given refusedWith
+unfolding whenever refusedWith
 past-both false b l packet e = let z : _≡_ {A = ℕ} 0 1 = cc in absurd (omega arith)
 past-both true false l packet e = let z : _≡_ {A = ℕ} 0 1 = cc in absurd (omega arith)
 past-both true true l packet e = (refl, e)

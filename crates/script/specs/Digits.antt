@@ -3,7 +3,7 @@ use mathlib.Core.Bool.{Bool, _&&_}
 use mathlib.Core.List.{List, [], _∷_}
 use Prim.Native.Nat.{ℕ, _+_, _-_, _*_}
 use lib.Dec.{leb}
-use Rattle.rulebook.specs.Tools.{given}
+use Rattle.rulebook.specs.Tools.{whenever}
 use Rattle.script.specs.declared.Decimal.{Decimal}
 use Rattle.script.specs.declared.Decimal.the-variants as decimal
 
@@ -17,8 +17,9 @@ fits64 v = leb v 18446744073709551615
 unfoldable pub decimalFrom : ℕ → List ℕ → Decimal
 decimalFrom v [] = decimal.Value v
 decimalFrom v (b ∷ bs) =
-    given (isDigit b) decimal.Bad
-    (λ _. given (fits64 (10 * v + (b - 48))) decimal.Bad (λ _. decimalFrom (10 * v + (b - 48)) bs))
+    whenever (isDigit b)
+    (λ _. whenever (fits64 (10 * v + (b - 48))) (λ _. decimalFrom (10 * v + (b - 48)) bs) decimal.Bad)
+    decimal.Bad
 
 -- At least one digit, nothing but digits, at most 64 bits.
 unfoldable pub decimalOf : List ℕ → Decimal

@@ -5,7 +5,7 @@ use mathlib.Core.List.{List}
 use Prim.Native.Nat.{ℕ, zero, suc, _+_, _-_, min}
 use lib.Dec.{ltb}
 use lib.ListN.{length, set, take, drop}
-use Rattle.rulebook.specs.Tools.{given}
+use Rattle.rulebook.specs.Tools.{whenever}
 use Rattle.script.specs.declared.Decimal.{Decimal}
 use Rattle.script.specs.declared.Decimal.the-variants as decimal
 use Rattle.script.specs.declared.Numbers.{Numbers}
@@ -39,8 +39,9 @@ numbersFrom zero line at count out = read true count out
 numbersFrom (suc n) line at count out =
     let from = wordFrom line at in
     let to = wordTo line at in
-    given (ltb at (length line)) (read true count out) (λ _. given (ltb from to) (read true count out)
-    (λ _. onward (decimalOf (take (to - from) (drop from line))) (read false count out) (λ v. numbersFrom n line to (count + 1) (set out count v))))
+    whenever (ltb at (length line)) (λ _. whenever (ltb from to)
+    (λ _. onward (decimalOf (take (to - from) (drop from line))) (read false count out) (λ v. numbersFrom n line to (count + 1) (set out count v)))
+    (read true count out)) (read true count out)
 
 unfoldable pub numbersOf : List ℕ → ℕ → List ℕ → Read
 numbersOf line at out = numbersFrom (suc (length line)) line at 0 out

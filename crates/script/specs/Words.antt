@@ -5,7 +5,7 @@ use mathlib.Core.List.{List, [], _∷_}
 use Prim.Native.Nat.{ℕ, suc, _+_, _≤_, min}
 use lib.Dec.{eqb}
 use lib.ListN.{length, drop}
-use Rattle.rulebook.specs.Tools.{given}
+use Rattle.rulebook.specs.Tools.{whenever}
 use Rattle.script.specs.declared.Word.{Word}
 
 abbrev pub isSpace : ℕ → Bool
@@ -17,7 +17,7 @@ isInk b = not (eqb b 32)
 -- How many bytes at the front pass a test.
 unfoldable pub leading : (ℕ → Bool) → List ℕ → ℕ
 leading p [] = 0
-leading p (b ∷ bs) = given (p b) 0 (λ _. leading p bs + 1)
+leading p (b ∷ bs) = whenever (p b) (λ _. leading p bs + 1) 0
 
 -- The place r after the stretch of bytes that pass a test from a place on, and that it lies within the line.
 pub record Spanned (p : ℕ → Bool) (line : List ℕ) (at r : ℕ) : Type 0 where

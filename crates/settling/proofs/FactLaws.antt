@@ -8,7 +8,7 @@ use lib.Dec.{eqb, leb, ltb}
 use borrow.Author.Tests.{not-true, leb-true, le-leb, ltb-true, ltb-false, lt-ltb, le-ltb, eqb-true, eq-eqb}
 use Rattle.rulebook.specs.declared.Cell.{Cell}
 use Rattle.rulebook.specs.declared.Tally.{Tally}
-use Rattle.rulebook.specs.Tools.{given, allTo}
+use Rattle.rulebook.specs.Tools.{whenever, allTo}
 use Rattle.rulebook.specs.Weights.{mostNodes, placesFor, mostStake, lastSlot, windows, stakeIn, stakesFit, totalTo}
 use Rattle.rulebook.specs.Ledger.{Ledger, Row, none, noCell, places, tableOf, rowAt, cellAt}
 use Rattle.rulebook.specs.Cards.{sameCard, recount}
@@ -20,7 +20,7 @@ use Rattle.settling.specs.Facts.{CellFacts, RowFacts, HeadFacts, Formed}
 
 -- ---- two tests, the second only where the first passes
 
-pub both-given : (b : Bool) (f : Unit {0} → Bool) → b ≡ true → f tt ≡ true → given b false f ≡ true
+pub both-given : (b : Bool) (f : Unit {0} → Bool) → b ≡ true → f tt ≡ true → whenever b f false ≡ true
 both-given b f e d = given-on b false f e ∙ d
 
 -- ---- a cell
@@ -58,7 +58,7 @@ facts-cell c f =
 
 -- The test of a row, said of the row.
 abbrev cellOk : Row → ℕ → ℕ → Bool
-cellOk r used n = given (ltb n used) (cellBlank (getD (r .cells) n noCell)) (λ _. cellFits (getD (r .cells) n noCell))
+cellOk r used n = whenever (ltb n used) (λ _. cellFits (getD (r .cells) n noCell)) (cellBlank (getD (r .cells) n noCell))
 
 pub row-facts : (l : Ledger) (s : ℕ) → rowFits l s ≡ true → RowFacts l s (rowAt l s)
 unfolding rowFits cellsFit

@@ -13,7 +13,7 @@ use Rattle.rulebook.specs.declared.Block.{Block}
 use Rattle.rulebook.specs.declared.VoteKind.{VoteKind}
 use Rattle.rulebook.specs.declared.VoteKind.the-variants as vote
 use Rattle.rulebook.specs.declared.Place.the-variants.{Free}
-use Rattle.rulebook.specs.Tools.{given, allTo}
+use Rattle.rulebook.specs.Tools.{whenever, allTo}
 use Rattle.rulebook.specs.Weights.{lastSlot, windowOf}
 use Rattle.rulebook.specs.Ledger.{Ledger, Row, none, noCell, noInitial, places, tableOf, noCard, rowAt, cellAt, blocksAt, allBlocks, isFree, fillBlock, putRow, putBlocks, putCertificates, putTimedOut, putFinal, putClash, putArmed}
 use Rattle.rulebook.specs.Pool.{hasFallback}
@@ -179,7 +179,7 @@ blankOf p r =
     && ((none (r .timedOut) && (none (r .final) && none (r .clash)))
     && (sameCard (r .card) noCard
     && (eachKept (λ i q. keptBlank q) 0 (r .certificates)
-    && allTo p (λ n. given (ltb n 0) (cellBlank (getD (r .cells) n noCell)) (λ _. cellFits (getD (r .cells) n noCell))))))
+    && allTo p (λ n. whenever (ltb n 0) (λ _. cellFits (getD (r .cells) n noCell)) (cellBlank (getD (r .cells) n noCell))))))
 
 blank-is : (l : Ledger) → rowBlank l ≡ blankOf (places l) (rowAt l 0)
 unfolding rowBlank cellsFit

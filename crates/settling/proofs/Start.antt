@@ -9,7 +9,7 @@ use lib.Dec.{leb, ltb}
 use borrow.Author.Tests.{not-false, leb-true, leb-false, le-ltb}
 use Rattle.rulebook.specs.declared.Refusal.the-variants as refusal
 use Rattle.rulebook.specs.declared.Verdict.the-variants.{Fine}
-use Rattle.rulebook.specs.Tools.{given, allTo}
+use Rattle.rulebook.specs.Tools.{whenever, allTo}
 use Rattle.rulebook.specs.Weights.{mostNodes, placesFor, mostStake, lastSlot, windows, stakeIn, stakesFit, totalTo}
 use Rattle.rulebook.specs.Ledger.{Ledger, Row, none, noCell, noKept, noCard, mostBlocks, mostCertificates, blankRow, noRow, places, tableOf, rowAt, ownCell, allBlocks, fresh}
 use Rattle.rulebook.specs.Run.{mostRecords}
@@ -65,11 +65,11 @@ unfolding cellBlank
 no-cell-blank = refl
 
 blank-certificates : (stakes : List ℕ) (s : ℕ) → certificatesFit stakes s (replicate mostCertificates noKept) ≡ true
-unfolding certificatesFit eachKept certificateFits certificatesApart given
+unfolding certificatesFit eachKept certificateFits certificatesApart whenever
 blank-certificates stakes s = refl
 
 blank-facts : (l : Ledger) (s p : ℕ) → RowFacts l s (blankRow p)
-unfolding blankRow blocksFit allBlocks blocksApart keptFits given inOrder
+unfolding blankRow blocksFit allBlocks blocksApart keptFits whenever inOrder
 blank-facts l s p =
     record {
       blocks = refl;
@@ -89,7 +89,7 @@ row-zero : (l : Ledger) (p : ℕ) → rowAt l 0 ≡ blankRow p → rowBlank l �
 unfolding rowBlank cellsFit blankRow allBlocks blockBlank sameCard eachKept keptBlank
 row-zero l p e =
     rw e
-    (all-each (places l) (λ n. given (ltb n 0) (cellBlank (getD (blankRow p .cells) n noCell)) (λ _. cellFits (getD (blankRow p .cells) n noCell)))
+    (all-each (places l) (λ n. whenever (ltb n 0) (λ _. cellFits (getD (blankRow p .cells) n noCell)) (cellBlank (getD (blankRow p .cells) n noCell)))
     (λ n a. given-off (ltb n 0) (cellBlank (getD (blankRow p .cells) n noCell)) (λ _. cellFits (getD (blankRow p .cells) n noCell)) (le-ltb n 0 (omega arith)) ∙ ap cellBlank (blank-cell p n) ∙ no-cell-blank))
 
 -- ---- the stakes in their places

@@ -7,13 +7,13 @@ use lib.Dec.{eqb, ltb}
 use borrow.Author.Tests.{not-true, eqb-false, ltb-true}
 use lib.Arith.{lt-of-le-ne}
 use Rattle.rulebook.specs.declared.Block.{Block}
-use Rattle.rulebook.specs.Tools.{given}
+use Rattle.rulebook.specs.Tools.{whenever}
 use Rattle.rulebook.specs.Ledger.{none, rowAt, blocksAt}
 use Rattle.rulebook.specs.Rules.{State, tellFinal, findBlock, walkTo, walkStep, walkFor, ruleG}
 use Rattle.rule_laws.proofs.ToolLaws.{and-both}
 
-given-same : {A : Type 0} (b : Bool) (x : A) (f g : Unit {0} → A) → (b ≡ true → f tt ≡ g tt) → given b x f ≡ given b x g
-unfolding given
+given-same : {A : Type 0} (b : Bool) (x : A) (f g : Unit {0} → A) → (b ≡ true → f tt ≡ g tt) → whenever b f x ≡ whenever b g x
+unfolding whenever
 given-same true x f g e = e refl
 given-same false x f g e = refl
 

@@ -10,7 +10,7 @@ use lib.ListN.{length, getD, replicate, length-replicate, List·getD-eq-default,
 use lib.Dec.{leb, ltb}
 use borrow.Author.Tests.{not-true, not-false, ltb-true, ltb-false, leb-true, leb-false}
 use Rattle.rulebook.specs.declared.Cell.{Cell}
-use Rattle.rulebook.specs.Tools.{choose, given, part, sumTo, someTo}
+use Rattle.rulebook.specs.Tools.{choose, whenever, part, sumTo, someTo}
 use Rattle.rulebook.specs.Weights.{lastSlot, slotOk}
 use Rattle.rulebook.specs.Ledger.{Ledger, Row, none, blankRow, noRow, noCell, noBlock, mostBlocks, places, rowAt, cellAt, blocksAt, isBlock, keepsBlock}
 use Rattle.rulebook.specs.WellFormed.{cellBlank}
@@ -29,13 +29,13 @@ use Rattle.shown.specs.Shown.{ledgerIn, leadsAt, leadsTo, lowestSlot, fi
 -- ---- joint tests
 
 module _ {A : Type 0} (a b : Bool) (x : A) (f : Unit {0} → A) where
-  pub first-off : a ≡ false → x ≡ given (a && b) x f
+  pub first-off : a ≡ false → x ≡ whenever (a && b) f x
   first-off e = sym (given-off (a && b) x f (ap (λ (t : Bool). t && b) e))
 
-  pub second-off : b ≡ false → x ≡ given (a && b) x f
+  pub second-off : b ≡ false → x ≡ whenever (a && b) f x
   second-off e = by-test a (λ t. sym (given-off (a && b) x f (λ i. t i && e i))) first-off
 
-  pub both-on : a ≡ true → b ≡ true → f tt ≡ given (a && b) x f
+  pub both-on : a ≡ true → b ≡ true → f tt ≡ whenever (a && b) f x
   both-on d e = sym (given-on (a && b) x f (both-and a b d e))
 
 -- One of the slots 1 to 16 has a row.

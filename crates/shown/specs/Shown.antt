@@ -3,7 +3,7 @@ use mathlib.Core.Bool.{Bool, false, not, _&&_, _||_}
 use mathlib.Core.List.{List}
 use Prim.Native.Nat.{ℕ, zero, suc, _+_, _≤_}
 use lib.ListN.{getD}
-use Rattle.rulebook.specs.Tools.{choose, given, someTo}
+use Rattle.rulebook.specs.Tools.{choose, whenever, someTo}
 use Rattle.rulebook.specs.Weights.{mostNodes, lastSlot, slotOk}
 use Rattle.rulebook.specs.Ledger.{Ledger, none, noBlock, rowAt, cellAt, isWatcher, isArmed, blocksAt, firstBlock, isBlock, keepsBlock, certificatesAt}
 use Rattle.rulebook.specs.WellFormed.{cellBlank, eachKept, keptBlank}
@@ -14,15 +14,15 @@ use Rattle.pool.specs.Weighing.{Weighing}
 
 -- The ledger that the words hold; one with nothing in it where no record has so many words.
 unfoldable pub ledgerIn : List ℕ → Ledger
-ledgerIn ws = given (isSpelled ws) (noLedger 0) (λ _. ledgerOf ws)
+ledgerIn ws = whenever (isSpelled ws) (λ _. ledgerOf ws) (noLedger 0)
 
 -- The node is a watcher; none is where no record has so many words.
 unfoldable pub watcherShown : List ℕ → Bool
-watcherShown ws = given (isSpelled ws) false (λ _. isWatcher (ledgerOf ws))
+watcherShown ws = whenever (isSpelled ws) (λ _. isWatcher (ledgerOf ws)) false
 
 -- The slot's window is armed; none is where no record has so many words, or the slot is not one of 1 to 16.
 unfoldable pub armedShown : List ℕ → ℕ → Bool
-armedShown ws s = given (slotOk s && isSpelled ws) false (λ _. isArmed (ledgerOf ws) s)
+armedShown ws s = whenever (slotOk s && isSpelled ws) (λ _. isArmed (ledgerOf ws) s) false
 
 -- The block in place i of slot t is that slot's final block, with the parent (s, b).
 abbrev pub leadsAt : Ledger → ℕ → ℕ → ℕ → ℕ → Bool

@@ -4,7 +4,7 @@ use mathlib.Core.List.{List}
 use Prim.Native.Nat.{ℕ, _+_, _≤_}
 use lib.Dec.{eqb, ltb}
 use Rattle.rulebook.specs.declared.Cell.{Cell}
-use Rattle.rulebook.specs.Tools.{given, part, sumTo, lowest}
+use Rattle.rulebook.specs.Tools.{whenever, part, sumTo, lowest}
 use Rattle.rulebook.specs.Weights.{slotOk}
 use Rattle.rulebook.specs.Ledger.{Ledger, none, places, cellAt}
 use Rattle.rulebook.specs.Pool.{weighs, names}
@@ -25,7 +25,7 @@ heavyPast l s after b = ltb after b && isHeavy l s b
 -- record, or the slot is not one of 1 to 16.
 unfoldable pub heavyAfter : List ℕ → ℕ → ℕ → ℕ
 heavyAfter ws s after =
-    given (slotOk s && soundWords ws) 0 (λ _. lowest (heavyPast (ledgerOf ws) s after) (names (ledgerOf ws) s))
+    whenever (slotOk s && soundWords ws) (λ _. lowest (heavyPast (ledgerOf ws) s after) (names (ledgerOf ws) s)) 0
 
 -- There is a b other than one that was looked at, no node before n names it in slot s, and it is not heavy: 1, else 0.
 unfoldable pub lightName : Ledger → ℕ → ℕ → ℕ → ℕ → ℕ
@@ -46,7 +46,7 @@ lightTo l s n = sumTo n (λ i. lightNames l s i (cellAt l s i))
 -- How many the stored votes of slot s name; 0 where the words are no sound record, or the slot is not one of 1 to 16.
 unfoldable pub lightBlocks : List ℕ → ℕ → ℕ
 lightBlocks ws s =
-    given (slotOk s && soundWords ws) 0 (λ _. lightTo (ledgerOf ws) s (ledgerOf ws .count))
+    whenever (slotOk s && soundWords ws) (λ _. lightTo (ledgerOf ws) s (ledgerOf ws .count)) 0
 
 -- Likewise, and node n has a place.
 pub record CountingAt (ws : List ℕ) (s n : ℕ) : Type 0 where

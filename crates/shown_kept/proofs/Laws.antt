@@ -8,7 +8,7 @@ use lib.ListN.{length, List·getD-eq-default}
 use Rattle.rulebook.specs.declared.Accepted.{Accepted}
 use Rattle.rulebook.specs.declared.CertificateKind.{CertificateKind}
 use Rattle.rulebook.specs.Certificates.{Kept}
-use Rattle.rulebook.specs.Tools.{given}
+use Rattle.rulebook.specs.Tools.{whenever}
 use Rattle.rulebook.specs.Weights.{slotOk, weight}
 use Rattle.rulebook.specs.Packets.{joined, bit, countOf}
 use Rattle.rulebook.specs.Ledger.{Ledger, noKept, mostCertificates, places, tableOf, certificatesAt, keptAt, isKept}
@@ -36,7 +36,7 @@ module _ (ws : List ℕ) (s i : ℕ) where
   here = keptAt (ledgerOf ws) s i
 
   abbrev inside : Accepted
-  inside = given (isKept here) noneTold (λ _. toldOf (ledgerOf ws) s i)
+  inside = whenever (isKept here) (λ _. toldOf (ledgerOf ws) s i) noneTold
 
   pub past-places : slotOk s ≡ true → mostCertificates ≤ i → noneTold ≡ keptShown ws s i
   unfolding keptShown

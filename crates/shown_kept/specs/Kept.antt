@@ -5,7 +5,7 @@ use Prim.Native.Nat.{ℕ, _<_}
 use lib.ListN.{length}
 use Rattle.rulebook.specs.declared.Accepted.{Accepted}
 use Rattle.rulebook.specs.declared.CertificateKind.the-variants as certificate
-use Rattle.rulebook.specs.Tools.{given}
+use Rattle.rulebook.specs.Tools.{whenever}
 use Rattle.rulebook.specs.Weights.{slotOk}
 use Rattle.rulebook.specs.Packets.{countOf}
 use Rattle.rulebook.specs.Ledger.{Ledger, tableOf, mostCertificates, keptAt, isKept}
@@ -35,8 +35,9 @@ toldOf l s i =
 -- The certificate that place i of slot s keeps; none is where the words are no sound record, or the slot is not one of 1 to 16.
 unfoldable pub keptShown : List ℕ → ℕ → ℕ → Accepted
 keptShown ws s i =
-    given (slotOk s && soundWords ws) noneTold
-    (λ _. given (isKept (keptAt (ledgerOf ws) s i)) noneTold (λ _. toldOf (ledgerOf ws) s i))
+    whenever (slotOk s && soundWords ws)
+    (λ _. whenever (isKept (keptAt (ledgerOf ws) s i)) (λ _. toldOf (ledgerOf ws) s i) noneTold)
+    noneTold
 
 -- The record's certificates can be judged, and i is one of the slot's places for them.
 pub record Telling (ws : List ℕ) (s i : ℕ) : Type 0 where

@@ -3,7 +3,7 @@ use mathlib.Core.Bool.{Bool, not, _&&_}
 use mathlib.Core.List.{List}
 use Prim.Native.Nat.{ℕ, zero, suc, _+_, _-_}
 use Rattle.rulebook.specs.declared.Cell.{Cell}
-use Rattle.rulebook.specs.Tools.{choose, given, part, sumTo}
+use Rattle.rulebook.specs.Tools.{choose, whenever, part, sumTo}
 use Rattle.rulebook.specs.Weights.{slotOk, weight}
 use Rattle.rulebook.specs.Ledger.{Ledger, none, cellAt}
 use Rattle.record.specs.Layout.{ledgerOf}
@@ -39,4 +39,4 @@ storedIn l s =
 -- The same of any words; nothing where they are no sound record, or the slot is not one of 1 to 16.
 unfoldable pub storedShown : List ℕ → ℕ → Stored
 storedShown ws s =
-    given (slotOk s && soundWords ws) (record { votes = 0; nodes = 0; weight = record { 0 = 0 } }) (λ _. storedIn (ledgerOf ws) s)
+    whenever (slotOk s && soundWords ws) (λ _. storedIn (ledgerOf ws) s) (record { votes = 0; nodes = 0; weight = record { 0 = 0 } })

@@ -16,7 +16,7 @@ use Rattle.rulebook.specs.declared.VoteKind.the-variants as vote
 use Rattle.rulebook.specs.Certificates.{Certificate}
 use Rattle.rulebook.specs.PaperNumbers.{certificateNumber, numberIn}
 use Rattle.rulebook.specs.Weights.{family, isLarge}
-use Rattle.rulebook.specs.Tools.{given, part}
+use Rattle.rulebook.specs.Tools.{whenever, part}
 use Rattle.rulebook.specs.Ledger.{none}
 use Rattle.rulebook.specs.Packets.{bit, joined}
 use Rattle.rulebook.specs.Checker.{withoutB}
@@ -57,8 +57,8 @@ plain-put s m k here there h w =
 -- ---- a certificate
 
 -- A mask that does not name the firm passes.
-not-or : (a t : Bool) → (not a || t) ≡ given a true (λ _. t)
-unfolding given
+not-or : (a t : Bool) → (not a || t) ≡ whenever a (λ _. t) true
+unfolding whenever
 not-or true t = refl
 not-or false t = refl
 
@@ -124,8 +124,8 @@ pub signer-lacks : (x : Signer) (d : Cell) (k : CertificateKind) (c : Certificat
     → x .a ≡ bit (c .maska) m → x .b ≡ bit (c .maskb) m → lacks x d ≡ signerLacks k c m d
 unfolding lacksA lacksB signerLacks
 signer-lacks x d k c m ek es em eb ea ebb =
-    λ i. unless (given (ea i) true (λ _. has d (ballotA (ek i) (eb i)))) (lineOf (es i) (em i) (ballotA (ek i) (eb i)) (certificateNumber (ek i)))
-    ++ unless (given (not (withoutB (ek i)) && ebb i) true (λ _. has d (ballotB (ek i) (eb i)))) (lineOf (es i) (em i) (ballotB (ek i) (eb i)) (certificateNumber (ek i)))
+    λ i. unless (whenever (ea i) (λ _. has d (ballotA (ek i) (eb i))) true) (lineOf (es i) (em i) (ballotA (ek i) (eb i)) (certificateNumber (ek i)))
+    ++ unless (whenever (not (withoutB (ek i)) && ebb i) (λ _. has d (ballotB (ek i) (eb i))) true) (lineOf (es i) (em i) (ballotB (ek i) (eb i)) (certificateNumber (ek i)))
 
 pub signer-most : (k : CertificateKind) (c : Certificate) (m : ℕ) (d : Cell) → length (signerLacks k c m d) ≤ 2
 unfolding signerLacks

@@ -5,7 +5,7 @@ use Prim.Native.Nat.{ℕ}
 use Rattle.rulebook.specs.declared.Cell.{Cell}
 use Rattle.rulebook.specs.declared.VoteKind.{VoteKind}
 use Rattle.rulebook.specs.PaperNumbers.{certificateNumber}
-use Rattle.rulebook.specs.Tools.{given}
+use Rattle.rulebook.specs.Tools.{whenever}
 use Rattle.rulebook.specs.Ledger.{none}
 use Rattle.rulebook.specs.Checker.{withoutB}
 use Rattle.safety.specs.Slot.{notar, notarFallback}
@@ -33,11 +33,11 @@ plainLacks s m k here there = unless (noneOr here (λ _. not (none there))) (pla
 -- What a certificate counts a firm for by mask A, and by mask B, and the firm's cell lacks.
 unfoldable pub lacksA : Signer → Cell → List Line
 lacksA x d =
-    unless (given (x .a) true (λ _. has d (ballotA (x .kind) (x .block)))) (lineOf (x .slot .0) (x .node .0) (ballotA (x .kind) (x .block)) (certificateNumber (x .kind)))
+    unless (whenever (x .a) (λ _. has d (ballotA (x .kind) (x .block))) true) (lineOf (x .slot .0) (x .node .0) (ballotA (x .kind) (x .block)) (certificateNumber (x .kind)))
 
 unfoldable pub lacksB : Signer → Cell → List Line
 lacksB x d =
-    unless (given (not (withoutB (x .kind)) && x .b) true (λ _. has d (ballotB (x .kind) (x .block)))) (lineOf (x .slot .0) (x .node .0) (ballotB (x .kind) (x .block)) (certificateNumber (x .kind)))
+    unless (whenever (not (withoutB (x .kind)) && x .b) (λ _. has d (ballotB (x .kind) (x .block))) true) (lineOf (x .slot .0) (x .node .0) (ballotB (x .kind) (x .block)) (certificateNumber (x .kind)))
 
 abbrev pub lacks : Signer → Cell → List Line
 lacks x d = lacksA x d ++ lacksB x d

@@ -7,7 +7,7 @@ use native.Mathlib.Omega.{arith}
 use lib.ListN.{length, getD, take, List·getD-eq-default}
 use lib.Dec.{eqb, leb, ltb}
 use borrow.Author.Tests.{leb-true, eq-eqb, ne-eqb, lt-ltb, ltb-true, ltb-false}
-use Rattle.rulebook.specs.Tools.{given, allTo}
+use Rattle.rulebook.specs.Tools.{whenever, allTo}
 use Rattle.rulebook.specs.Weights.{mostNodes, mostStake, lastSlot, stakeIn, totalTo, stakesFit}
 use Rattle.rulebook.specs.declared.Block.{Block}
 use Rattle.rulebook.specs.declared.Cell.{Cell}
@@ -189,9 +189,9 @@ row-split l s =
     own-last (blocksFit l s (blocksAt l s)) (flag (rowAt l s .timedOut) && flag (rowAt l s .clash)) (certificatesFit (ledgers.tableOf l) s (certificatesAt l s)) (cellsFit l s (l .count)) (cardFits l s)
     (ownFits l s)
 
-rows-split : (l : Ledger) → given (allTo lastSlot (λ i. rowFits l (suc i))) false (λ _. allTo lastSlot (λ i. cardFits l (suc i))) ≡ (standing l && owned l)
+rows-split : (l : Ledger) → whenever (allTo lastSlot (λ i. rowFits l (suc i))) (λ _. allTo lastSlot (λ i. cardFits l (suc i))) false ≡ (standing l && owned l)
 rows-split l =
-    same-test (given (allTo lastSlot (λ i. rowFits l (suc i))) false (λ _. allTo lastSlot (λ i. cardFits l (suc i)))) (standing l && owned l)
+    same-test (whenever (allTo lastSlot (λ i. rowFits l (suc i))) (λ _. allTo lastSlot (λ i. cardFits l (suc i))) false) (standing l && owned l)
     (λ e.
     let p = given-both (allTo lastSlot (λ i. rowFits l (suc i))) _ e in
     let each : (i : ℕ) → i < lastSlot → (rowStands l (suc i) ≡ true) × (ownFits l (suc i) ≡ true) =
@@ -237,7 +237,7 @@ module _ (ws : List ℕ) (h : Standing ws) where
       (λ q.
       let m = ltb-true n (places ledger) q in
       sym (given-on (ltb n (ledger .count)) (cellBlank (cellAt ledger s n)) (λ _. cellFits (cellAt ledger s n)) (lt-ltb n (ledger .count) (omega (arith, m, h .headed .full))))
-      ∙ all-at (places ledger) n (λ i. given (ltb i (ledger .count)) (cellBlank (cellAt ledger s i)) (λ _. cellFits (cellAt ledger s i))) (stands s a b .0) m)
+      ∙ all-at (places ledger) n (λ i. whenever (ltb i (ledger .count)) (λ _. cellFits (cellAt ledger s i)) (cellBlank (cellAt ledger s i))) (stands s a b .0) m)
       (λ q. ap cellFits (sym (cell-past ws s n (record { long = h .headed .long; slot = omega arith }) (ltb-false n (places ledger) q))) ∙ no-cell-fits)
 
   -- So the own fallbacks can be asked of the cards.
@@ -254,7 +254,7 @@ pub short-unsound : (ws : List ℕ) → isSpelled ws ≡ false → false ≡ sou
 unfolding soundWords
 short-unsound ws e = rw e
 
-given-and : (a b : Bool) → given a false (λ _. b) ≡ (a && b)
+given-and : (a b : Bool) → whenever a (λ _. b) false ≡ (a && b)
 given-and true b = given-on true false _ refl
 given-and false b = given-off false false _ refl
 

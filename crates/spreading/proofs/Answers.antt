@@ -16,7 +16,7 @@ use Rattle.rulebook.specs.declared.StepAnswer.the-variants as step
 use Rattle.rulebook.specs.declared.Verdict.{Verdict}
 use Rattle.rulebook.specs.declared.Verdict.the-variants.{Fine, Refused}
 use Rattle.rulebook.specs.declared.Vote.{Vote}
-use Rattle.rulebook.specs.Tools.{given}
+use Rattle.rulebook.specs.Tools.{whenever}
 use Rattle.rulebook.specs.PaperNumbers.{refusalNumber, voteNumber}
 use Rattle.rulebook.specs.Weights.{lastSlot, slotOk}
 use Rattle.rulebook.specs.Ledger.{Ledger, none, fresh, noInitial, cellAt, blocksAt, someBlock, isFree, hasNumber, isBlock, keepsBlock}
@@ -59,9 +59,9 @@ unfolding refuseIf refusalNumber
 peel true r v n e = let p : r ≡ refusal.OtherStands = cc in absurd (n (ap refusalNumber p))
 peel false r v n e = (refl, e)
 
-past-both : (a b : Bool) (l : Ledger) (i : Input) → given a (refusedWith l refusal.BadRecord) (λ _. given b (refusedWith l refusal.NoRoom) (λ _. feed l i)) .answer ≡ step.Refused refusal.OtherStands
+past-both : (a b : Bool) (l : Ledger) (i : Input) → whenever a (λ _. whenever b (λ _. feed l i) (refusedWith l refusal.NoRoom)) (refusedWith l refusal.BadRecord) .answer ≡ step.Refused refusal.OtherStands
     → feed l i .answer ≡ step.Refused refusal.OtherStands
-unfolding given refusedWith
+unfolding whenever refusedWith
 past-both false b l i e = let z : _≡_ {A = ℕ} 0 1 = cc in absurd (omega arith)
 past-both true false l i e = let z : _≡_ {A = ℕ} 0 1 = cc in absurd (omega arith)
 past-both true true l i e = e

@@ -11,7 +11,7 @@ use Rattle.rulebook.specs.declared.Cell.{Cell}
 use Rattle.rulebook.specs.declared.Block.{Block}
 use Rattle.rulebook.specs.declared.CertificateKind.the-variants as certificate
 use Rattle.rulebook.specs.declared.Refusal.the-variants as refusal
-use Rattle.rulebook.specs.Tools.{given, someTo}
+use Rattle.rulebook.specs.Tools.{whenever, someTo}
 use Rattle.rulebook.specs.Weights.{lastSlot, isFirst}
 use Rattle.rulebook.specs.Ledger.{Ledger, none, noBlock, cellAt, ownCell, blocksAt, isFree, hasNumber}
 use Rattle.rulebook.specs.Pool.{held, ready}
@@ -74,7 +74,7 @@ module _ (l : Ledger) (s b : ℕ) where
 module _ (l : Ledger) (s : ℕ) (c : Cell) (e : c ≡ ownCell l s) where
   module _ (b : ℕ) where
     abbrev weights : Unit {0} → Bool
-    weights _ = given (fallbackWeights l s b) false (λ _. isGrounded l s b)
+    weights _ = whenever (fallbackWeights l s b) (λ _. isGrounded l s b) false
 
     pub fallback-same : notFor b c ≡ false → fallbackStands l s b ≡ false
     unfolding fallbackStands

@@ -5,7 +5,7 @@ use mathlib.Core.List.{List}
 use Prim.Native.Nat.{ℕ, suc, _+_, _≤_, _<_}
 use lib.ListN.{length}
 use Rattle.rulebook.specs.declared.Refusal.the-variants as refusal
-use Rattle.rulebook.specs.Tools.{given}
+use Rattle.rulebook.specs.Tools.{whenever}
 use Rattle.record.specs.Layout.{ledgerOf}
 use Rattle.candidates.specs.Judging.{Judging}
 use Rattle.soundness.specs.Sound.{soundWords}
@@ -17,7 +17,7 @@ use Rattle.inquest_lines.specs.Lent.{Told, refusedBy, listedIn, ToldIn, mostLin
 -- 17 for words that are no record; else the own votes that do not stand, or 9 with the number of lines.
 unfoldable pub standsOn : List ℕ → ℕ → Told
 standsOn ws room =
-    given (soundWords ws) (refusedBy (answer.Refused refusal.BadRecord)) (λ _. listedIn room (fallen (ledgerOf ws)))
+    whenever (soundWords ws) (λ _. listedIn room (fallen (ledgerOf ws))) (refusedBy (answer.Refused refusal.BadRecord))
 
 -- What is answered, and all words of the list afterwards.
 abbrev pub StandsOf : List ℕ → List ℕ → ListAnswer → List ℕ → Type 0

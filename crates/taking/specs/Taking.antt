@@ -9,7 +9,7 @@ use Rattle.rulebook.specs.declared.CheckAnswer.the-variants as check
 use Rattle.rulebook.specs.declared.Refusal.the-variants as refusal
 use Rattle.rulebook.specs.declared.StepAnswer.{StepAnswer}
 use Rattle.rulebook.specs.declared.Verdict.the-variants.{Fine}
-use Rattle.rulebook.specs.Tools.{given}
+use Rattle.rulebook.specs.Tools.{whenever}
 use Rattle.rulebook.specs.Certificates.{Certificate, Found}
 use Rattle.rulebook.specs.Certificates as found
 use Rattle.rulebook.specs.Ledger.{tableOf, certificatesAt}
@@ -25,7 +25,7 @@ use Rattle.node.specs.Stepping.{Leaves, asFound, asFed}
 -- 17 for words that spell no ledger; else the rule book's taking of a certificate packet on their ledger.
 unfoldable pub takeLeaves : List ℕ → List ℕ → List ℕ → Leaves
 takeLeaves ws out packet =
-    given (isSpelled ws) (asFound refusal.BadRecord ws out) (λ _. asFed (takeCertificate (ledgerOf ws) (length out) packet) out)
+    whenever (isSpelled ws) (λ _. asFed (takeCertificate (ledgerOf ws) (length out) packet) out) (asFound refusal.BadRecord ws out)
 
 -- What taking a packet answers, and all memory afterwards.
 pub record TakeOf (ws out packet : List ℕ) (r : StepAnswer) (ws' left : List ℕ) : Type 0 where

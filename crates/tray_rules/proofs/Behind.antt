@@ -11,7 +11,7 @@ use Rattle.rulebook.specs.declared.Cell.{Cell}
 use Rattle.rulebook.specs.declared.Block.{Block}
 use Rattle.rulebook.specs.declared.VoteKind.the-variants as vote
 use Rattle.rulebook.specs.declared.CertificateKind.the-variants as certificate
-use Rattle.rulebook.specs.Tools.{given, lowest}
+use Rattle.rulebook.specs.Tools.{whenever, lowest}
 use Rattle.rulebook.specs.Weights.{isFirst, firstOf, lastSlot}
 use Rattle.rulebook.specs.Ledger.{none, noInitial, rowAt, ownCell, blocksAt, firstBlock, isWatcher, isArmed}
 use Rattle.rulebook.specs.Pool.{held, certifiable, someReady}
@@ -25,8 +25,8 @@ module _ (rs : List Record) where
   behind o = stateOf (o .ledger) (o .records ++ rs)
 
   -- Both ways of a test.
-  given-behind : (t : Bool) (o p : State) (f g : Unit {0} → State) → p ≡ behind o → g tt ≡ behind (f tt) → given t p g ≡ behind (given t o f)
-  unfolding given
+  given-behind : (t : Bool) (o p : State) (f g : Unit {0} → State) → p ≡ behind o → g tt ≡ behind (f tt) → whenever t g p ≡ behind (whenever t f o)
+  unfolding whenever
   given-behind true o p f g e h = h
   given-behind false o p f g e h = e
 
@@ -67,11 +67,11 @@ module _ (rs : List Record) where
 
     -- What follows the skips.
     fallback-after : (p q : State) (b : ℕ) → q ≡ behind p
-        → given (mayFallback (ownCell (q .ledger) s) b) q (λ _. cast q s vote.NotarFallback b)
-        ≡ behind (given (mayFallback (ownCell (p .ledger) s) b) p (λ _. cast p s vote.NotarFallback b))
+        → whenever (mayFallback (ownCell (q .ledger) s) b) (λ _. cast q s vote.NotarFallback b) q
+        ≡ behind (whenever (mayFallback (ownCell (p .ledger) s) b) (λ _. cast p s vote.NotarFallback b) p)
     unfolding cast
     fallback-after p q b e =
-        ap (λ (x : State). given (mayFallback (ownCell (x .ledger) s) b) x (λ _. cast x s vote.NotarFallback b)) e
+        ap (λ (x : State). whenever (mayFallback (ownCell (x .ledger) s) b) (λ _. cast x s vote.NotarFallback b) x) e
         ∙ given-behind (mayFallback (ownCell (p .ledger) s) b) p (behind p) _ _ refl refl
 
     D-behind : (o : State) → ruleD (behind o) s ≡ behind (ruleD o s)
@@ -82,11 +82,11 @@ module _ (rs : List Record) where
         (given-behind (not (none b)) o (behind o) _ _ refl (fallback-after (castSkips o s) (castSkips (behind o) s) b (skips-behind o)))
 
     skipFallback-after : (p q : State) → q ≡ behind p
-        → given (maySkipFallback (ownCell (q .ledger) s)) q (λ _. cast q s vote.SkipFallback 0)
-        ≡ behind (given (maySkipFallback (ownCell (p .ledger) s)) p (λ _. cast p s vote.SkipFallback 0))
+        → whenever (maySkipFallback (ownCell (q .ledger) s)) (λ _. cast q s vote.SkipFallback 0) q
+        ≡ behind (whenever (maySkipFallback (ownCell (p .ledger) s)) (λ _. cast p s vote.SkipFallback 0) p)
     unfolding cast
     skipFallback-after p q e =
-        ap (λ (x : State). given (maySkipFallback (ownCell (x .ledger) s)) x (λ _. cast x s vote.SkipFallback 0)) e
+        ap (λ (x : State). whenever (maySkipFallback (ownCell (x .ledger) s)) (λ _. cast x s vote.SkipFallback 0) x) e
         ∙ given-behind (maySkipFallback (ownCell (p .ledger) s)) p (behind p) _ _ refl refl
 
     E-behind : (o : State) → ruleE (behind o) s ≡ behind (ruleE o s)
@@ -121,7 +121,7 @@ module _ (rs : List Record) where
       let p : ℕ = k .parentslot .0 in
       let q : State = tellFinal o p (k .parent) in
       given-behind (not (none p) && ltb p s) o (behind o) _ _ refl
-      (ap (λ (x : State). given (eqb (rowAt (x .ledger) p .final) (k .parent)) x (λ _. walkFor n x p)) (tell-behind p o (k .parent))
+      (ap (λ (x : State). whenever (eqb (rowAt (x .ledger) p .final) (k .parent)) (λ _. walkFor n x p) x) (tell-behind p o (k .parent))
       ∙ given-behind (eqb (rowAt (q .ledger) p .final) (k .parent)) q (behind q) _ _ refl (walk-behind n p q))
 
   module _ (s : ℕ) where
@@ -156,10 +156,10 @@ module _ (rs : List Record) where
 
   -- A search that goes on where nothing was made, by what comes of the next try.
   quiet-on : (o p p' : State) (f : State → State) → p' ≡ behind p → f (behind p) ≡ behind (f p)
-      → given (quiet (behind o) p') p' (λ _. f p') ≡ behind (given (quiet o p) p (λ _. f p))
+      → whenever (quiet (behind o) p') (λ _. f p') p' ≡ behind (whenever (quiet o p) (λ _. f p) p)
   quiet-on o p p' f e h =
-      ap (λ (x : State). given (quiet (behind o) x) x (λ _. f x)) e
-      ∙ ap (λ (t : Bool). given t (behind p) (λ _. f (behind p))) (quiet-behind o p)
+      ap (λ (x : State). whenever (quiet (behind o) x) (λ _. f x) x) e
+      ∙ ap (λ (t : Bool). whenever t (λ _. f (behind p)) (behind p)) (quiet-behind o p)
       ∙ given-behind (quiet o p) p (behind p) (λ _. f p) (λ _. f (behind p)) refl h
 
   rules-behind : (n r : ℕ) (o : State) (s : ℕ) → firstRule n r (behind o) s ≡ behind (firstRule n r o s)
@@ -180,10 +180,10 @@ module _ (rs : List Record) where
 
   -- The run goes on where something was made.
   loud-on : (o p p' : State) (f : State → State) → p' ≡ behind p → f (behind p) ≡ behind (f p)
-      → given (not (quiet (behind o) p')) p' (λ _. f p') ≡ behind (given (not (quiet o p)) p (λ _. f p))
+      → whenever (not (quiet (behind o) p')) (λ _. f p') p' ≡ behind (whenever (not (quiet o p)) (λ _. f p) p)
   loud-on o p p' f e h =
-      ap (λ (x : State). given (not (quiet (behind o) x)) x (λ _. f x)) e
-      ∙ ap (λ (t : Bool). given (not t) (behind p) (λ _. f (behind p))) (quiet-behind o p)
+      ap (λ (x : State). whenever (not (quiet (behind o) x)) (λ _. f x) x) e
+      ∙ ap (λ (t : Bool). whenever (not t) (λ _. f (behind p)) (behind p)) (quiet-behind o p)
       ∙ given-behind (not (quiet o p)) p (behind p) (λ _. f p) (λ _. f (behind p)) refl h
 
   runFor-behind : (n : ℕ) (o : State) → runFor n (behind o) ≡ behind (runFor n o)

@@ -10,7 +10,7 @@ use Rattle.rulebook.specs.declared.Refusal.{Refusal}
 use Rattle.rulebook.specs.declared.Refusal.the-variants as refusal
 use Rattle.rulebook.specs.declared.StepAnswer.{StepAnswer}
 use Rattle.rulebook.specs.declared.StepAnswer.the-variants as answer
-use Rattle.rulebook.specs.Tools.{given}
+use Rattle.rulebook.specs.Tools.{whenever}
 use Rattle.rulebook.specs.PaperNumbers.{stepPanel}
 use Rattle.rulebook.specs.Ledger.{Ledger}
 use Rattle.rulebook.specs.Rules.{Record}
@@ -64,9 +64,11 @@ trayServed t = record { answer = answer.Done (length (t .records)); served = t }
 -- of a vote at the end is 12": a tray for a node whose outbox has so many words and whose answer buffer so many places.
 unfoldable pub tray : Ledger → ℕ → ℕ → List ℕ → Tray
 tray l room places ws =
-    given (wellFormed l) (trayRefused l refusal.BadRecord)
-    (λ _. given (leb outboxWords room && leb (wholeVotes ws) places) (trayRefused l refusal.NoRoom)
-    (λ _. given (eqb (length ws % 4) 0) (trayRefused l refusal.BadLength) (λ _. trayServed (serve l (votesIn ws)))))
+    whenever (wellFormed l)
+    (λ _. whenever (leb outboxWords room && leb (wholeVotes ws) places)
+    (λ _. whenever (eqb (length ws % 4) 0) (λ _. trayServed (serve l (votesIn ws))) (trayRefused l refusal.BadLength))
+    (trayRefused l refusal.NoRoom))
+    (trayRefused l refusal.BadRecord)
 
 -- The same votes as so many single calls, each with its own tests of the record and of the outbox.
 unfoldable pub singly : Ledger → ℕ → List Vote → Served

@@ -10,7 +10,7 @@ use Rattle.rulebook.specs.declared.Refusal.{Refusal}
 use Rattle.rulebook.specs.declared.Refusal.the-variants as refusal
 use Rattle.rulebook.specs.declared.StepAnswer.{StepAnswer}
 use Rattle.rulebook.specs.declared.StepAnswer.the-variants as answer
-use Rattle.rulebook.specs.Tools.{given}
+use Rattle.rulebook.specs.Tools.{whenever}
 use Rattle.rulebook.specs.WellFormed.{wellFormed, outboxWords}
 use Rattle.rulebook.specs.Writers.{over}
 use Rattle.rule_laws.proofs.ToolLaws.{given-on, given-off, by-test, both-and}
@@ -73,7 +73,7 @@ module _ (ws out votes places : List ℕ) where
       (λ t. tray-of (asFound refusal.BadRecord ws out places) (leaves-none t) refl refl refl refl)
 
   module _ (s : soundWords ws ≡ true) where
-    formed-on : (f : Unit {0} → Tray) → given (wellFormed (ledgerOf ws)) (trayRefused (ledgerOf ws) refusal.BadRecord) f ≡ f tt
+    formed-on : (f : Unit {0} → Tray) → whenever (wellFormed (ledgerOf ws)) f (trayRefused (ledgerOf ws) refusal.BadRecord) ≡ f tt
     formed-on f = given-on (wellFormed (ledgerOf ws)) (trayRefused (ledgerOf ws) refusal.BadRecord) f (sound-formed ws s)
 
     cramped : (leb outboxWords (length out) && leb (wholeVotes votes) (length places)) ≡ false
@@ -94,7 +94,7 @@ module _ (ws out votes places : List ℕ) where
 
     module _ (room : outboxWords ≤ length out) (enough : wholeVotes votes ≤ length places) where
       room-on : (f : Unit {0} → Tray)
-          → given (leb outboxWords (length out) && leb (wholeVotes votes) (length places)) (trayRefused (ledgerOf ws) refusal.NoRoom) f ≡ f tt
+          → whenever (leb outboxWords (length out) && leb (wholeVotes votes) (length places)) f (trayRefused (ledgerOf ws) refusal.NoRoom) ≡ f tt
       room-on f =
           given-on (leb outboxWords (length out) && leb (wholeVotes votes) (length places)) (trayRefused (ledgerOf ws) refusal.NoRoom) f
           (both-and (leb outboxWords (length out)) (leb (wholeVotes votes) (length places)) (le-leb outboxWords (length out) room) (le-leb (wholeVotes votes) (length places) enough))

@@ -11,7 +11,7 @@ use Rattle.rulebook.specs.declared.Refusal.the-variants as refusal
 use Rattle.rulebook.specs.declared.StepAnswer.{StepAnswer}
 use Rattle.rulebook.specs.declared.StepAnswer.the-variants as answer
 use Rattle.rulebook.specs.declared.Verdict.the-variants.{Fine}
-use Rattle.rulebook.specs.Tools.{given}
+use Rattle.rulebook.specs.Tools.{whenever}
 use Rattle.rulebook.specs.PaperNumbers.{stepPanel}
 use Rattle.rulebook.specs.Rules.{Record, State, stateOf}
 use Rattle.rulebook.specs.Inputs.{Fed, voteVerdict, feed}
@@ -50,8 +50,9 @@ asServed t out places =
 -- 17 for words that spell no ledger; else the tray of the ledger that they hold.
 unfoldable pub trayLeaves : List ℕ → List ℕ → List ℕ → List ℕ → Leaves
 trayLeaves ws out votes places =
-    given (isSpelled ws) (asFound refusal.BadRecord ws out places)
+    whenever (isSpelled ws)
     (λ _. asServed (tray (ledgerOf ws) (length out) (length places) votes) out places)
+    (asFound refusal.BadRecord ws out places)
 
 -- What a tray answers, and all memory afterwards.
 pub record TrayOf (ws out votes places : List ℕ) (r : StepAnswer) (ws' out' places' : List ℕ) : Type 0 where

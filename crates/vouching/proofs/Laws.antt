@@ -10,7 +10,7 @@ use Rattle.rulebook.specs.declared.Cell.{Cell}
 use Rattle.rulebook.specs.declared.CertificateKind.the-variants as certificate
 use Rattle.rulebook.specs.declared.Refusal.the-variants as refusal
 use Rattle.rulebook.specs.Certificates.{Kept}
-use Rattle.rulebook.specs.Tools.{given}
+use Rattle.rulebook.specs.Tools.{whenever}
 use Rattle.rulebook.specs.Weights.{lastSlot}
 use Rattle.rulebook.specs.Ledger.{Ledger, noKept, mostCertificates, cellAt, ownCell, certificatesAt, isKept, isWatcher, places}
 use Rattle.rulebook.specs.Pool.{placeKind}
@@ -150,10 +150,10 @@ module _ (one two list : List ℕ) where
   lines _ = listedIn (length list) (lackingOf (ledgerOf one) (ledgerOf two))
 
   abbrev tables : Unit {0} → Told
-  tables _ = given (sameTables (ledgerOf one) (ledgerOf two)) (refusedBy (answer.Refused refusal.BadSizes)) lines
+  tables _ = whenever (sameTables (ledgerOf one) (ledgerOf two)) lines (refusedBy (answer.Refused refusal.BadSizes))
 
   abbrev second : Unit {0} → Told
-  second _ = given (soundWords two) (refusedBy (answer.BadRecord side.Second)) tables
+  second _ = whenever (soundWords two) tables (refusedBy (answer.BadRecord side.Second))
 
   pub first-bad : soundWords one ≡ false → VouchedOf one two list (answer.BadRecord side.First) list
   unfolding vouchedOn

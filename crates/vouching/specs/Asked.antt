@@ -5,7 +5,7 @@ use mathlib.Core.List.{List, []}
 use Prim.Native.Nat.{ℕ, _+_, _≤_, _<_}
 use lib.ListN.{length}
 use Rattle.rulebook.specs.declared.Refusal.the-variants as refusal
-use Rattle.rulebook.specs.Tools.{given}
+use Rattle.rulebook.specs.Tools.{whenever}
 use Rattle.rulebook.specs.Ledger.{Ledger, places, isWatcher}
 use Rattle.record.specs.Layout.{ledgerOf, InSlot, InKept}
 use Rattle.soundness.specs.Sound.{soundWords}
@@ -20,16 +20,19 @@ use Rattle.inquest_lines.specs.Lent.{Told, refusedBy, listedIn, ToldIn, mostLin
 
 -- The votes that the first ledger counts in the name of the second's firm and the second lacks. A watcher has no firm, and lacks nothing.
 unfoldable pub lackingOf : Ledger → Ledger → List Line
-lackingOf l r = given (not (isWatcher r)) [] (λ _. lacking l r)
+lackingOf l r = whenever (not (isWatcher r)) (λ _. lacking l r) []
 
 -- 17 with the side, the first where both are bad; then 1 where the two stake tables differ: the firms' numbers would not be the same
 -- firms'. Else the lines, or 9 with how many there are.
 unfoldable pub vouchedOn : List ℕ → List ℕ → ℕ → Told
 vouchedOn one two room =
-    given (soundWords one) (refusedBy (answer.BadRecord side.First))
-    (λ _. given (soundWords two) (refusedBy (answer.BadRecord side.Second))
-    (λ _. given (sameTables (ledgerOf one) (ledgerOf two)) (refusedBy (answer.Refused refusal.BadSizes))
-    (λ _. listedIn room (lackingOf (ledgerOf one) (ledgerOf two)))))
+    whenever (soundWords one)
+    (λ _. whenever (soundWords two)
+    (λ _. whenever (sameTables (ledgerOf one) (ledgerOf two))
+    (λ _. listedIn room (lackingOf (ledgerOf one) (ledgerOf two)))
+    (refusedBy (answer.Refused refusal.BadSizes)))
+    (refusedBy (answer.BadRecord side.Second)))
+    (refusedBy (answer.BadRecord side.First))
 
 -- What is answered, and all words of the list afterwards.
 abbrev pub VouchedOf : List ℕ → List ℕ → List ℕ → ListAnswer → List ℕ → Type 0

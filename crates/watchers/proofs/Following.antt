@@ -18,7 +18,7 @@ use Rattle.rulebook.specs.declared.Verdict.{Verdict}
 use Rattle.rulebook.specs.declared.Verdict.the-variants.{Fine, Refused}
 use Rattle.rulebook.specs.declared.Vote.{Vote}
 use Rattle.rulebook.specs.declared.VoteKind.{VoteKind}
-use Rattle.rulebook.specs.Tools.{given}
+use Rattle.rulebook.specs.Tools.{whenever}
 use Rattle.rulebook.specs.Weights.{lastSlot, slotOk}
 use Rattle.rulebook.specs.Certificates.{Certificate}
 use Rattle.rulebook.specs.PaperNumbers.{voteNumber, kindIn}
@@ -190,11 +190,11 @@ module _ (l m : Ledger) (g : Sound l) (b : Beside l m) where
   Served c f = ShownTo m (shownOf me c f) (f .ledger)
 
   refused-shown : (c : Arrival) (r : Refusal) → Served c (refusedWith l r)
-  unfolding shownOf isDone refusedWith given
+  unfolding shownOf isDone refusedWith whenever
   refused-shown c r = shown-none b
 
   done-shown : (c : Arrival) (o : State) → allTaken m (passedOn c) ≡ true → Following me (after m (passedOn c)) o → Served c (fedWith (run o))
-  unfolding shownOf isDone fedWith given
+  unfolding shownOf isDone fedWith whenever
   done-shown c o t h = shown-then m (passedOn c) _ _ t (run-keeps (Following me (after m (passedOn c))) (following-lawful me (after m (passedOn c))) o h .shown)
 
   input-shown : (i : Input) → verdict l i ≡ Fine → Served (ofInput i) (fedWith (run (intake l i)))

@@ -10,7 +10,7 @@ use Rattle.rulebook.specs.declared.Place.the-variants.{Free}
 use Rattle.rulebook.specs.declared.Vote.{Vote}
 use Rattle.rulebook.specs.declared.VoteKind.{VoteKind}
 use Rattle.rulebook.specs.declared.VoteKind.the-variants as vote
-use Rattle.rulebook.specs.Tools.{choose, given}
+use Rattle.rulebook.specs.Tools.{choose, whenever}
 use Rattle.rulebook.specs.PaperNumbers.{voteNumber, voteKind}
 use Rattle.rulebook.specs.Ledger.{Ledger, isWatcher}
 use Rattle.rulebook.specs.Votes.{placeOf}
@@ -58,7 +58,7 @@ pub votes-append : (n : ℕ) (rs ss : List Record) → asVotes n (rs ++ ss) ≡ 
 unfolding asVotes
 votes-append n [] ss = refl
 votes-append n (r ∷ rs) ss =
-    let here : List Arrival = given (tellsVote r) [] (λ _. ofInput (input.Vote (voteIn n r)) ∷ []) in
+    let here : List Arrival = whenever (tellsVote r) (λ _. ofInput (input.Vote (voteIn n r)) ∷ []) [] in
     ap (λ (x : List Arrival). here ++ x) (votes-append n rs ss) ∙ sym (append-assoc here (asVotes n rs) (asVotes n ss))
 
 module _ (n : ℕ) (r : Record) (rs : List Record) where

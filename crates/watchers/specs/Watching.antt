@@ -11,7 +11,7 @@ use Rattle.rulebook.specs.declared.StepAnswer.{StepAnswer}
 use Rattle.rulebook.specs.declared.StepAnswer.the-variants as step
 use Rattle.rulebook.specs.declared.Verdict.the-variants.{Fine}
 use Rattle.rulebook.specs.declared.Vote.{Vote}
-use Rattle.rulebook.specs.Tools.{given}
+use Rattle.rulebook.specs.Tools.{whenever}
 use Rattle.rulebook.specs.PaperNumbers.{voteKind}
 use Rattle.rulebook.specs.Ledger.{Ledger, rowAt, blocksAt, certificatesAt, fresh}
 use Rattle.rulebook.specs.Pool.{held}
@@ -33,7 +33,7 @@ voteIn n r = record { kind = voteKind (r .kind); node = record { 0 = n }; slot =
 -- The votes that node n's records tell of, in their order: "own votes included as ordinary ones".
 unfoldable pub asVotes : ℕ → List Record → List Arrival
 asVotes n [] = []
-asVotes n (r ∷ rs) = given (tellsVote r) [] (λ _. ofInput (input.Vote (voteIn n r)) ∷ []) ++ asVotes n rs
+asVotes n (r ∷ rs) = whenever (tellsVote r) (λ _. ofInput (input.Vote (voteIn n r)) ∷ []) [] ++ asVotes n rs
 
 -- What of an arrival is for the watcher too: "votes, blocks and certificates". A timeout and a look are the node's alone.
 unfoldable pub passedOn : Arrival → List Arrival
@@ -50,7 +50,7 @@ isDone (step.Refused r) = false
 
 -- Node n has served an arrival: where it is accepted the watcher is shown it, and then the votes that the node cast.
 unfoldable pub shownOf : ℕ → Arrival → Fed → List Arrival
-shownOf n c f = given (isDone (f .answer)) [] (λ _. passedOn c ++ asVotes n (f .records))
+shownOf n c f = whenever (isDone (f .answer)) (λ _. passedOn c ++ asVotes n (f .records)) []
 
 -- All that the watcher is shown of a node's life.
 unfoldable pub shown : Ledger → List Arrival → List Arrival

@@ -7,7 +7,7 @@ use lib.ListN.{length}
 use Rattle.rulebook.specs.declared.CertificateKind.{CertificateKind}
 use Rattle.rulebook.specs.declared.Refusal.the-variants as refusal
 use Rattle.rulebook.specs.declared.WriteAnswer.the-variants as write
-use Rattle.rulebook.specs.Tools.{given}
+use Rattle.rulebook.specs.Tools.{whenever}
 use Rattle.rulebook.specs.Weights.{slotOk}
 use Rattle.rulebook.specs.Certificates.{Certificate}
 use Rattle.rulebook.specs.Ledger.{Ledger, certificatesAt}
@@ -30,10 +30,10 @@ kindOn ws kind = kindIn (ledgerOf ws .count) kind
 
 -- "Writers: 17, 9, 4, 3, 5, 18, those that apply": words, a buffer of so many bytes, and what is asked for, the kind by its number.
 unfoldable pub certificateOn : List ℕ → ℕ → ℕ → ℕ → ℕ → Wrote
-certificateOn ws room kind s b = given (soundWords ws) unsound (λ _. writeCertificate (ledgerOf ws) room (kindOn ws kind) s b)
+certificateOn ws room kind s b = whenever (soundWords ws) (λ _. writeCertificate (ledgerOf ws) room (kindOn ws kind) s b) unsound
 
 unfoldable pub proofOn : List ℕ → ℕ → ℕ → ℕ → Wrote
-proofOn ws room s b = given (soundWords ws) unsound (λ _. writeProof (ledgerOf ws) room s b)
+proofOn ws room s b = whenever (soundWords ws) (λ _. writeProof (ledgerOf ws) room s b) unsound
 
 -- The certificate of a kind for slot s and block b with the kept masks that are taken for it.
 abbrev pub keptCertificate : Ledger → CertificateKind → ℕ → ℕ → Certificate

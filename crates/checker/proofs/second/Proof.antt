@@ -1,6 +1,6 @@
 -- By what was told of the second certificate.
 use Rattle.checker.specs.InPacket.{followed}
-use Rattle.rulebook.specs.Tools.{given}
+use Rattle.rulebook.specs.Tools.{whenever}
 use mathlib.Core.Path.{sym}
 use borrow.Author.Needs.{needs}
 use Rattle.checker.proofs.second.Statement.{statement}
@@ -28,12 +28,12 @@ returns c =
     simp (c .before .other .given .1)
 
 returns-2 : tie.Need-returns-2
-unfolding followed given
+unfolding followed whenever
 returns-2 c =
     simp (c .before .before .before .before .before .before .other2 .given .1, sym (c .before .before .is-final .ensures), c .before .if1 .taken) (c .finish .ensures)
 
 returns-3 : tie.Need-returns-3
-unfolding followed given
+unfolding followed whenever
 returns-3 c =
     simp (c .before .before .before .before .before .other2 .given .1, sym (c .before .is-final .ensures), c .if1 .left)
 

@@ -2,7 +2,7 @@
 use mathlib.Core.Path.{sym, _∙_}
 use borrow.Author.Needs.{needs}
 use borrow.Author.Tests.{not-true, not-false}
-use Rattle.rulebook.specs.Tools.{given}
+use Rattle.rulebook.specs.Tools.{whenever}
 use Rattle.rulebook.specs.Messages.{asRead, readTo, readVote}
 use Rattle.messages.proofs.Fell.{fell}
 use Rattle.messages.proofs.read_vote.Statement.{statement}
@@ -12,7 +12,7 @@ count-fits-requires : tie.Need-count-fits-requires
 count-fits-requires c κs = search needs
 
 returns : tie.Need-returns
-unfolding readVote given
+unfolding readVote whenever
 returns c = rw (sym (c .before .count-fits .ensures) ∙ not-true _ (c .if1 .taken))
 
 read-number-requires : tie.Need-read-number-requires
@@ -25,7 +25,7 @@ unread-requires : tie.Need-unread-requires
 unread-requires c κs = search needs
 
 returns-2 : tie.Need-returns-2
-unfolding readVote given asRead
+unfolding readVote whenever asRead
 returns-2 c =
     let r = c .before .before in
     let i = r .before in
@@ -42,7 +42,7 @@ unread-requires-2 : tie.Need-unread-requires-2
 unread-requires-2 c κs = search needs
 
 returns-3 : tie.Need-returns-3
-unfolding readVote given asRead
+unfolding readVote whenever asRead
 returns-3 c =
     let r = c .before .before in
     let k1 = r .before in
@@ -61,7 +61,7 @@ unread-requires-3 : tie.Need-unread-requires-3
 unread-requires-3 c κs = search needs
 
 returns-4 : tie.Need-returns-4
-unfolding readVote given asRead
+unfolding readVote whenever asRead
 returns-4 c =
     let r = c .before .before in
     let k2 = r .before in
@@ -81,7 +81,7 @@ unread-requires-4 : tie.Need-unread-requires-4
 unread-requires-4 c κs = search needs
 
 returns-5 : tie.Need-returns-5
-unfolding readVote given asRead
+unfolding readVote whenever asRead
 returns-5 c =
     let r = c .before .before in
     let k3 = r .before in
@@ -105,7 +105,7 @@ read-on-requires : tie.Need-read-on-requires
 read-on-requires c κs = search needs
 
 returns-6 : tie.Need-returns-6
-unfolding readVote given asRead readTo
+unfolding readVote whenever asRead readTo
 returns-6 c =
     let m = c .before in
     let o = m .before in
