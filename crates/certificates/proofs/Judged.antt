@@ -31,7 +31,7 @@ use Rattle.rule_laws.proofs.ToolLaws.{by-test}
 use Rattle.rule_laws.proofs.WeightLaws.{none-missing, some-missing}
 use Rattle.rule_laws.proofs.KindLaws.{table-words}
 use Rattle.certificate_numbers.specs.Told.{Masks, foundAs}
-use Rattle.stakes.specs.declared.StakeTable.{StakeTable}
+use Rattle.stakes.specs.declared.LentTable.{LentTable}
 use Rattle.stakes.specs.declared.Weighed.{Weighed}
 use Rattle.stakes.specs.Table.{Fit, weighed}
 use Rattle.certificates.specs.declared.Checked.{Checked}
@@ -69,7 +69,7 @@ unfolding weighed signed signedWeight
 weighed-signed ws c w e = e
 
 -- What was weighed lacks what the certificate lacks.
-pub lacks-same : (ws : List ℕ) (t : StakeTable) → Fit ws t → (k : CertificateKind) (c : Certificate) (w : Weighed)
+pub lacks-same : (ws : List ℕ) (t : LentTable) → Fit ws t → (k : CertificateKind) (c : Certificate) (w : Weighed)
     → w ≡ weighed ws (length ws) (λ n. bit (c .maska) n || bit (c .maskb) n) → (n : ℕ) → n ≡ fifthsOf k → (m : ℕ)
     → m ≡ missing n (t .total .0) (w .weight .0) → m ≡ lacking ws k c
 unfolding lacking
@@ -104,7 +104,7 @@ weighed-told ws k c e w q next r =
 -- ---- the tests in their order
 
 -- The kind by the table's count is the kind by the lent stakes.
-pub kind-heard : (ws : List ℕ) (t : StakeTable) → Fit ws t → (k : CertificateKind) (n : ℕ) → k ≡ kindIn (t .count) n → k ≡ kindIn (length ws) n
+pub kind-heard : (ws : List ℕ) (t : LentTable) → Fit ws t → (k : CertificateKind) (n : ℕ) → k ≡ kindIn (t .count) n → k ≡ kindIn (length ws) n
 kind-heard ws t f k n e = e ∙ ap (λ (x : ℕ). kindIn x n) (f .count)
 
 -- A kind that is none of the table's five.
@@ -134,7 +134,7 @@ unless-refused v x r e = rw e
 pub fault-same : (b d f y z w : Bool) → b ≡ y → d ≡ z → f ≡ w → (v : Verdict) → v ≡ faultOf (not b) d f → v ≡ faultOf (not y) z w
 fault-same b d f y z w q r s v e = e ∙ rw (q, r, s)
 
-pub judge-is : (ws : List ℕ) (t : StakeTable) → Fit ws t → (k : CertificateKind) (c : Certificate) (next : ℕ) → k ≡ kindIn (length ws) (c .kind) → isOtherKind k ≡ false
+pub judge-is : (ws : List ℕ) (t : LentTable) → Fit ws t → (k : CertificateKind) (c : Certificate) (next : ℕ) → k ≡ kindIn (length ws) (c .kind) → isOtherKind k ≡ false
     → (v : Verdict) → v ≡ faultOf (not (slotOk (c .slot))) (blockMisfits k (c .block)) (badSigners (t .count) k c)
     → toldOf ws c next ≡ unless v (weighedIn ws k c next)
 unfolding toldOf judge judgeKind refuseIf weighedIn
@@ -158,7 +158,7 @@ fine-weight ws k c m e =
     by-test (eqb m 0) (λ t. rw (t, lacks-none ws k c m e (eqb-true m 0 t))) (λ t. rw (t, lacks-some ws k c m e (eqb-false m 0 t)))
 
 -- By its kind, block and masks, then by its signers.
-module _ (ws : List ℕ) (t : StakeTable) (f : Fit ws t) (k : CertificateKind) (c : Certificate) (slot : slotOk (c .slot) ≡ true) (o m b : Bool)
+module _ (ws : List ℕ) (t : LentTable) (f : Fit ws t) (k : CertificateKind) (c : Certificate) (slot : slotOk (c .slot) ≡ true) (o m b : Bool)
     (other : o ≡ isOtherKind k) (misfits : m ≡ blockMisfits k (c .block)) (masks : b ≡ badSigners (t .count) k c) where
   masks-is : b ≡ badSigners (length ws) k c
   masks-is = masks ∙ ap (λ (n : ℕ). badSigners n k c) (f .count)
@@ -185,7 +185,7 @@ module _ (ws : List ℕ) (t : StakeTable) (f : Fit ws t) (k : CertificateKind) (
 -- ---- the masks' words
 
 -- Past 4 they are wide enough for the table.
-pub judge-wide : (ws : List ℕ) (t : StakeTable) → Fit ws t → (h : Heading) (a b : List ℕ) → Masks h a b → (k : CertificateKind) → k ≡ kindIn (length ws) (h .kind)
+pub judge-wide : (ws : List ℕ) (t : LentTable) → Fit ws t → (h : Heading) (a b : List ℕ) → Masks h a b → (k : CertificateKind) → k ≡ kindIn (length ws) (h .kind)
     → isOtherKind k ≡ false → (count : ℕ) → count ≡ length ws → Wide count a b
 judge-wide ws t f h a b m k e o count n =
     record {

@@ -14,7 +14,7 @@ use Rattle.rulebook.specs.Weights.{slotOk}
 use Rattle.rulebook.specs.PaperNumbers.{kindIn}
 use Rattle.rulebook.specs.Inputs.{refuseIf}
 use Rattle.rulebook.specs.Checker.{One, good, bad, judgeWeight, judge, acceptedOf, judged}
-use Rattle.stakes.specs.declared.StakeTable.{StakeTable}
+use Rattle.stakes.specs.declared.LentTable.{LentTable}
 use Rattle.stakes.specs.Table.{Fit}
 use Rattle.certificates.specs.declared.Checked.{Checked}
 use Rattle.certificates.specs.declared.Checked.the-variants as checked
@@ -25,18 +25,18 @@ pub record Wide (count : ℕ) (a b : List ℕ) : Type 0 where
   pub same : length b ≡ length a
 
 -- The table beside lent stakes is theirs, a certificate's kind is known, and its masks have words for every node.
-pub record Heard (stakes : List ℕ) (t : StakeTable) (k : CertificateKind) (c : Heading) (a b : List ℕ) : Type 0 where
+pub record Heard (stakes : List ℕ) (t : LentTable) (k : CertificateKind) (c : Heading) (a b : List ℕ) : Type 0 where
   pub fit : Fit stakes t
   pub kind : k ≡ kindIn (length stakes) (c .kind)
   pub wide : Wide (length stakes) a b
 
 -- The table beside lent stakes is theirs, and masks have words for every node.
-pub record Weighty (stakes : List ℕ) (t : StakeTable) (a b : List ℕ) : Type 0 where
+pub record Weighty (stakes : List ℕ) (t : LentTable) (a b : List ℕ) : Type 0 where
   pub fit : Fit stakes t
   pub wide : Wide (length stakes) a b
 
 -- Likewise, and the slot is one of 1 to 16: a certificate with these masks that a record keeps there can be judged.
-pub record Keepable (stakes : List ℕ) (t : StakeTable) (s : ℕ) (a b : List ℕ) : Type 0 where
+pub record Keepable (stakes : List ℕ) (t : LentTable) (s : ℕ) (a b : List ℕ) : Type 0 where
   pub weighty : Weighty stakes t a b
   pub slot : slotOk s ≡ true
 

@@ -22,7 +22,7 @@ use rulebook::Heading;
 use rulebook::Refusal;
 use rulebook::Slot;
 use rulebook::Verdict;
-use stakes::StakeTable;
+use stakes::LentTable;
 
 // One certificate of a packet: what is told of it with the place after it, or its refusal.
 pub enum Checked {
@@ -58,7 +58,7 @@ fn bad_signers(count: usize, k: CertificateKind, a: &[u64], b: &[u64]) -> bool
 // 15 with what is missing, or what is told of the certificate: the signers are weighed once.
 fn weigh_in(
     stakes: &[u64],
-    t: StakeTable,
+    t: LentTable,
     k: CertificateKind,
     c: Heading,
     a: &[u64],
@@ -106,7 +106,7 @@ fn first_fault(slot: bool, block: bool, masks: bool) -> Verdict
 }
 
 // 4, 3, 5, 14, 15, in this order, once the numbers are read; past 4 the masks have words for every node of the table.
-fn judge(stakes: &[u64], t: StakeTable, c: Heading, a: &[u64], b: &[u64], next: usize) -> Checked
+fn judge(stakes: &[u64], t: LentTable, c: Heading, a: &[u64], b: &[u64], next: usize) -> Checked
     requires { ⌜ (Fit (now stakes) t) × Masks c (now a) (now b) ⌝ }
     ensures { λ r. ⌜ r ≡ toldOf (now (stakes .entry)) (certificateOf c (now (a .entry)) (now (b .entry))) next ⌝ }
 {
@@ -125,7 +125,7 @@ fn judge(stakes: &[u64], t: StakeTable, c: Heading, a: &[u64], b: &[u64], next: 
 }
 
 // The certificate at a place of the packet, read and judged; its masks stand in words of which as many are lent on as its kind says.
-pub fn one_at(stakes: &[u64], t: StakeTable, packet: &[u8], at: usize) -> Checked
+pub fn one_at(stakes: &[u64], t: LentTable, packet: &[u8], at: usize) -> Checked
     requires { ⌜ Fit (now stakes) t ⌝ }
     ensures { λ r. ⌜ r ≡ told (now (stakes .entry)) (oneAt (now (stakes .entry)) (now (packet .entry)) at) ⌝ }
 {
@@ -143,7 +143,7 @@ pub fn one_at(stakes: &[u64], t: StakeTable, packet: &[u8], at: usize) -> Checke
 }
 
 // Whether the signers of two masks reach the threshold of a kind.
-fn weighs_enough(stakes: &[u64], t: StakeTable, k: CertificateKind, a: &[u64], b: &[u64]) -> bool
+fn weighs_enough(stakes: &[u64], t: LentTable, k: CertificateKind, a: &[u64], b: &[u64]) -> bool
     requires { ⌜ Weighty (now stakes) t (now a) (now b) ⌝ }
     ensures { λ r. ⌜ ((c : Heading) → r ≡ isFine (judgeWeight (now (stakes .entry)) k (certificateOf c (now (a .entry)) (now (b .entry))))) ⌝ }
 {
@@ -157,7 +157,7 @@ fn weighs_enough(stakes: &[u64], t: StakeTable, k: CertificateKind, a: &[u64], b
 // Whether the checker accepts a certificate of a kind that a record keeps in a slot, by its block and masks.
 pub fn accepts(
     stakes: &[u64],
-    t: StakeTable,
+    t: LentTable,
     k: CertificateKind,
     s: Slot,
     block: u64,

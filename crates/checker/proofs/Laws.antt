@@ -1,10 +1,11 @@
 -- Laws of a packet: whether a table is made from the lent stakes, and the answer from what is told of its certificates. Assumes nothing.
-use mathlib.Core.Path.{_≡_, refl, sym, ap, _∙_}
+use mathlib.Core.Path.{_≡_, refl, sym, ap, _∙_, subst}
 use mathlib.Core.Bool.{Bool, true, false}
 use mathlib.Core.List.{List}
 use Prim.Native.Nat.{ℕ, _+_, _-_}
 use native.Mathlib.Omega.{arith}
-use lib.ListN.{length}
+use lib.ListN.{length, take}
+use lib.Seq.{take-length}
 use lib.Dec.{eqb}
 use borrow.Author.Tests.{eq-eqb, ne-eqb, eqb-true, eqb-false}
 use Rattle.rulebook.specs.Certificates.{Certificate}
@@ -16,13 +17,15 @@ use Rattle.rulebook.specs.Tools.{choose}
 use Rattle.rulebook.specs.Weights.{stakesFit, family}
 use Rattle.rulebook.specs.PaperNumbers.{certificateKind, certificateNumber, kindIn, numberIn}
 use Rattle.rulebook.specs.Checker.{One, good, bad, acceptedOf, oneAt, ended, singleOf, secondOf, firstIn, proofOf, checkCertificate, checkProof}
-use Rattle.rule_laws.proofs.ToolLaws.{given-on, by-test}
+use Rattle.rule_laws.proofs.ToolLaws.{given-on, given-off, by-test}
 use Rattle.stakes.specs.declared.Made.{Made}
-use Rattle.stakes.specs.Table.{madeOf}
-use Rattle.stakes.proofs.Laws.{made-fits}
+use Rattle.stakes.specs.declared.LentTable.{LentTable}
+use Rattle.stakes.specs.Table.{madeOf, Fit, filled}
+use Rattle.stakes.proofs.Laws.{made-fits, made-fit}
+use Rattle.stakes.proofs.Filling.{filled-front}
 use Rattle.certificates.specs.declared.Checked.{Checked}
 use Rattle.certificates.specs.Told.{told}
-use Rattle.checker.specs.InPacket.{finished, alone, isFinalKind, followed, continued, proven}
+use Rattle.checker.specs.InPacket.{finished, alone, isFinalKind, followed, continued, proven, placedStakes, singleOn, provenOn}
 
 -- Of the numbers 1 to 5 it is 5.
 old-final : (n : ℕ) → isFinalKind (certificateKind n) ≡ eqb n 5
@@ -66,10 +69,6 @@ kind-final : (count n : ℕ) → isFinalKind (kindIn count n) ≡ eqb n (numberI
 unfolding kindIn numberIn certificateNumber
 kind-final count n = old-final (n - family count) ∙ above-final n (family count)
 
--- A table is made exactly where the stakes fit.
-pub made-test : (ws : List ℕ) (m : Made) → m ≡ madeOf ws → stakesFit ws (length ws) ≡ m .fits
-made-test ws m q = sym (made-fits ws) ∙ ap (λ (x : Made). x .fits) (sym q)
-
 -- A packet that is to be one certificate.
 pub alone-is : (ws packet : List ℕ) (o : One) → singleOf ws packet o ≡ alone (length packet) (told ws o)
 unfolding singleOf ended alone told finished
@@ -97,19 +96,61 @@ unfolding proofOf proven told acceptedOf
 proven-is ws packet (good c next) = first-is ws packet (kindIn (length ws) (c .kind)) c next
 proven-is ws packet (bad r) = refl
 
--- ---- the whole answer, from what is told of the first certificate
+-- ---- the answer on stakes that fit, from what is told of the first certificate
 
-module _ (ws packet : List ℕ) (m : Made) (q : m ≡ madeOf ws) (f : m .fits ≡ true) (o : Checked) (e : o ≡ told ws (oneAt ws packet 0)) where
-  pub single-answer : checkCertificate ws packet ≡ alone (length packet) o
+module _ (ws packet : List ℕ) (o : Checked) (e : o ≡ told ws (oneAt ws packet 0)) where
+  pub single-answer : singleOn ws packet ≡ alone (length packet) o
+  unfolding singleOn
+  single-answer = alone-is ws packet (oneAt ws packet 0) ∙ ap (alone (length packet)) (sym e)
+
+  pub proof-answer : provenOn ws packet ≡ proven ws packet o
+  unfolding provenOn
+  proof-answer = proven-is ws packet (oneAt ws packet 0) ∙ ap (proven ws packet) (sym e)
+
+-- ---- the whole answer, by whether they fit
+
+module _ (ws packet : List ℕ) (t : Bool) (e : stakesFit ws (length ws) ≡ t) where
+  pub single-bad : t ≡ false → check.Refused refusal.BadSizes ≡ checkCertificate ws packet
   unfolding checkCertificate
-  single-answer =
-      given-on (stakesFit ws (length ws)) (check.Refused refusal.BadSizes) (λ _. singleOf ws packet (oneAt ws packet 0)) (made-test ws m q ∙ f)
-      ∙ alone-is ws packet (oneAt ws packet 0)
-      ∙ ap (alone (length packet)) (sym e)
+  single-bad f = sym (given-off (stakesFit ws (length ws)) (check.Refused refusal.BadSizes) (λ _. singleOf ws packet (oneAt ws packet 0)) (e ∙ f))
 
-  pub proof-answer : checkProof ws packet ≡ proven ws packet o
+  pub proof-bad : t ≡ false → check.Refused refusal.BadSizes ≡ checkProof ws packet
   unfolding checkProof
-  proof-answer =
-      given-on (stakesFit ws (length ws)) (check.Refused refusal.BadSizes) (λ _. proofOf ws packet (oneAt ws packet 0)) (made-test ws m q ∙ f)
-      ∙ proven-is ws packet (oneAt ws packet 0)
-      ∙ ap (proven ws packet) (sym e)
+  proof-bad f = sym (given-off (stakesFit ws (length ws)) (check.Refused refusal.BadSizes) (λ _. proofOf ws packet (oneAt ws packet 0)) (e ∙ f))
+
+  pub single-on : t ≡ true → (xs : List ℕ) → xs ≡ ws → singleOn xs packet ≡ checkCertificate ws packet
+  unfolding checkCertificate singleOn
+  single-on f xs q =
+      ap (λ (x : List ℕ). singleOf x packet (oneAt x packet 0)) q
+      ∙ sym (given-on (stakesFit ws (length ws)) (check.Refused refusal.BadSizes) (λ _. singleOf ws packet (oneAt ws packet 0)) (e ∙ f))
+
+  pub proof-on : t ≡ true → (xs : List ℕ) → xs ≡ ws → provenOn xs packet ≡ checkProof ws packet
+  unfolding checkProof provenOn
+  proof-on f xs q =
+      ap (λ (x : List ℕ). proofOf x packet (oneAt x packet 0)) q
+      ∙ sym (given-on (stakesFit ws (length ws)) (check.Refused refusal.BadSizes) (λ _. proofOf ws packet (oneAt ws packet 0)) (e ∙ f))
+
+-- ---- lent stakes
+
+-- A table is made exactly where the stakes fit.
+pub made-test : (ws : List ℕ) (m : Made) → m ≡ madeOf ws → stakesFit ws (length ws) ≡ m .fits
+made-test ws m q = sym (made-fits ws) ∙ ap (λ (x : Made). x .fits) (sym q)
+
+-- All places of lent stakes are its.
+pub lent-all : (ws : List ℕ) (t : LentTable) → Fit ws t → placedStakes ws t ≡ ws
+lent-all ws t f = ap (λ (n : ℕ). take n ws) (f .count) ∙ take-length ws
+
+pub lent-fit : (ws : List ℕ) (t : LentTable) → Fit ws t → Fit (placedStakes ws t) t
+lent-fit ws t f = subst (λ (xs : List ℕ). Fit xs t) (sym (lent-all ws t f)) f
+
+-- ---- the stake table
+
+module _ (places ws left : List ℕ) (m : Made) (q : m ≡ madeOf ws) (e : m .fits ≡ true) (f : left ≡ filled ws places) where
+  -- The lent stakes stand in its first places,
+  pub filled-all : placedStakes left (m .table) ≡ ws
+  filled-all =
+      ap (λ (xs : List ℕ). take (m .table .count) xs) f ∙ filled-front places ws (m .table .count) (made-fit ws m q e .count)
+
+  -- and the count and the total are theirs.
+  pub filled-fit : Fit (placedStakes left (m .table)) (m .table)
+  filled-fit = subst (λ (xs : List ℕ). Fit xs (m .table)) (sym filled-all) (made-fit ws m q e)

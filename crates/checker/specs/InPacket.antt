@@ -2,7 +2,7 @@
 use mathlib.Core.Bool.{Bool, true, false, not, _&&_}
 use mathlib.Core.List.{List}
 use Prim.Native.Nat.{ℕ}
-use lib.ListN.{length}
+use lib.ListN.{length, take}
 use lib.Dec.{eqb, ltb}
 use Rattle.rulebook.specs.declared.Accepted.{Accepted}
 use Rattle.rulebook.specs.declared.CertificateKind.{CertificateKind}
@@ -11,7 +11,8 @@ use Rattle.rulebook.specs.declared.CheckAnswer.{CheckAnswer}
 use Rattle.rulebook.specs.declared.CheckAnswer.the-variants as check
 use Rattle.rulebook.specs.declared.Refusal.the-variants as refusal
 use Rattle.rulebook.specs.Tools.{given}
-use Rattle.rulebook.specs.Checker.{oneAt}
+use Rattle.rulebook.specs.Checker.{oneAt, singleOf, proofOf}
+use Rattle.stakes.specs.declared.LentTable.{LentTable}
 use Rattle.certificates.specs.Told.{told}
 use Rattle.certificates.specs.declared.Checked.{Checked}
 use Rattle.certificates.specs.declared.Checked.the-variants as checked
@@ -52,3 +53,16 @@ continued stakes packet certificate.Other a next = check.Refused refusal.NotAPro
 unfoldable pub proven : List ℕ → List ℕ → Checked → CheckAnswer
 proven stakes packet (checked.Good a next) = continued stakes packet (a .kind) a next
 proven stakes packet (checked.Bad r) = check.Refused r
+
+-- ---- the table
+
+-- The stakes of a table in the places that hold them.
+abbrev pub placedStakes : List ℕ → LentTable → List ℕ
+placedStakes places t = take (t .count) places
+
+-- A packet on stakes that fit.
+unfoldable pub singleOn : List ℕ → List ℕ → CheckAnswer
+singleOn stakes packet = singleOf stakes packet (oneAt stakes packet 0)
+
+unfoldable pub provenOn : List ℕ → List ℕ → CheckAnswer
+provenOn stakes packet = proofOf stakes packet (oneAt stakes packet 0)

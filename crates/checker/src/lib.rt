@@ -2,14 +2,17 @@
 ghost use mathlib.Core.Path.{_≡_};
 ghost use Rattle.rulebook.specs.Checker.{checkCertificate, checkProof};
 ghost use Rattle.stakes.specs.Table.{Fit};
-ghost use Rattle.checker.specs.InPacket.{finished, isFinalKind, followed, continued};
+ghost use Rattle.checker.specs.InPacket.{finished, isFinalKind, followed, continued, placedStakes, singleOn, provenOn};
 use certificates::Checked;
 use certificates::one_at;
 use rulebook::Accepted;
 use rulebook::CertificateKind;
 use rulebook::CheckAnswer;
 use rulebook::Refusal;
+use rulebook::Weight;
+use stakes::LentTable;
 use stakes::StakeTable;
+use stakes::TABLE_NODES;
 
 // Leftover bytes last.
 fn finish(a: Accepted, next: usize, length: usize) -> CheckAnswer
@@ -55,13 +58,7 @@ fn second(a: Accepted, other: Checked, length: usize) -> CheckAnswer
 }
 
 // What follows the first certificate of a proof, told as a: 16 unless its kind is 1 or 2.
-fn after_first(
-    stakes: &[u64],
-    t: StakeTable,
-    packet: &[u8],
-    a: Accepted,
-    next: usize,
-) -> CheckAnswer
+fn after_first(stakes: &[u64], t: LentTable, packet: &[u8], a: Accepted, next: usize) -> CheckAnswer
     requires { ⌜ Fit (now stakes) t ⌝ }
     ensures { λ r. ⌜ r ≡ continued (now (stakes .entry)) (now (packet .entry)) (a .kind) a next ⌝ }
 {
@@ -76,7 +73,33 @@ fn after_first(
     }
 }
 
-// Checks a packet that is to be one certificate.
+// A packet that is to be one certificate, on the stakes in the first places, which fit.
+fn certificate_on(places: &[u64], t: LentTable, packet: &[u8]) -> CheckAnswer
+    requires { ⌜ Fit (placedStakes (now places) t) t ⌝ }
+    ensures { λ r. ⌜ r ≡ singleOn (placedStakes (now (places .entry)) t) (now (packet .entry)) ⌝ }
+{
+    let count = t.count;
+    let one = one_at(&places[..count], t, packet, 0);
+    match one {
+        Checked::Bad(r) => CheckAnswer::Refused(r),
+        Checked::Good(a, next) => finish(a, next, packet.len()),
+    }
+}
+
+// A packet that is to be a finality proof, on such stakes: kind 1, or kind 2 and then kind 5 of the same slot.
+fn proof_on(places: &[u64], t: LentTable, packet: &[u8]) -> CheckAnswer
+    requires { ⌜ Fit (placedStakes (now places) t) t ⌝ }
+    ensures { λ r. ⌜ r ≡ provenOn (placedStakes (now (places .entry)) t) (now (packet .entry)) ⌝ }
+{
+    let count = t.count;
+    let first = one_at(&places[..count], t, packet, 0);
+    match first {
+        Checked::Bad(r) => CheckAnswer::Refused(r),
+        Checked::Good(a, next) => after_first(&places[..count], t, packet, a, next),
+    }
+}
+
+// Checks a packet that is to be one certificate: up to 64 nodes on the stake table, above that on the lent words.
 pub fn check_certificate(stakes: &[u64], packet: &[u8]) -> CheckAnswer
     ensures { λ r. ⌜ r ≡ checkCertificate (now (stakes .entry)) (now (packet .entry)) ⌝ }
 {
@@ -84,15 +107,26 @@ pub fn check_certificate(stakes: &[u64], packet: &[u8]) -> CheckAnswer
     if !made.fits {
         return CheckAnswer::Refused(Refusal::BadSizes);
     }
-    let t = made.table;
-    let one = one_at(stakes, t, packet, 0);
-    match one {
-        Checked::Bad(r) => CheckAnswer::Refused(r),
-        Checked::Good(a, next) => finish(a, next, packet.len()),
+    let lent = made.table;
+    if TABLE_NODES < lent.count {
+        return certificate_on(stakes, lent, packet);
     }
+    let places = [0u64; TABLE_NODES];
+    let total = lent.total;
+    let mut t = StakeTable {
+        stakes: places,
+        count: lent.count,
+        total,
+    };
+    stakes::fill_table(&mut t.stakes, stakes);
+    let sums = LentTable {
+        count: t.count,
+        total: Weight(t.total.0),
+    };
+    certificate_on(&t.stakes, sums, packet)
 }
 
-// Checks a packet that is to be a finality proof: kind 1, or kind 2 and then kind 5 of the same slot.
+// Checks a packet that is to be a finality proof, on the same tables.
 pub fn check_proof(stakes: &[u64], packet: &[u8]) -> CheckAnswer
     ensures { λ r. ⌜ r ≡ checkProof (now (stakes .entry)) (now (packet .entry)) ⌝ }
 {
@@ -100,10 +134,21 @@ pub fn check_proof(stakes: &[u64], packet: &[u8]) -> CheckAnswer
     if !made.fits {
         return CheckAnswer::Refused(Refusal::BadSizes);
     }
-    let t = made.table;
-    let first = one_at(stakes, t, packet, 0);
-    match first {
-        Checked::Bad(r) => CheckAnswer::Refused(r),
-        Checked::Good(a, next) => after_first(stakes, t, packet, a, next),
+    let lent = made.table;
+    if TABLE_NODES < lent.count {
+        return proof_on(stakes, lent, packet);
     }
+    let places = [0u64; TABLE_NODES];
+    let total = lent.total;
+    let mut t = StakeTable {
+        stakes: places,
+        count: lent.count,
+        total,
+    };
+    stakes::fill_table(&mut t.stakes, stakes);
+    let sums = LentTable {
+        count: t.count,
+        total: Weight(t.total.0),
+    };
+    proof_on(&t.stakes, sums, packet)
 }

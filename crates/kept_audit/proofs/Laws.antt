@@ -25,7 +25,7 @@ use Rattle.record.specs.Layout.{maskWords, ledgerOf}
 use Rattle.record.specs.Tabled.{Tabled}
 use Rattle.record.proofs.Places.{by-size}
 use Rattle.record.proofs.BlockPlaces.{all-and}
-use Rattle.stakes.specs.declared.StakeTable.{StakeTable}
+use Rattle.stakes.specs.declared.LentTable.{LentTable}
 use Rattle.stakes.specs.Table.{Fit}
 use Rattle.certificates.specs.Told.{Keepable, headed}
 use Rattle.kept_audit.specs.Judging.{Judging, filledTo}
@@ -81,7 +81,7 @@ module _ (xs : List ℕ) (m : ℕ) (h : m ≤ length xs) where
       ∙ sum-same m (λ n. stakeIn (take m xs) n) (λ n. stakeIn xs n) (λ i l. front-stake i l)
 
 -- Count and total of a record are the table of its stakes.
-pub record-table : (l : Ledger) → Tabled l → l .count ≤ mostNodes → (t : StakeTable) → t .count ≡ l .count → t .total .0 ≡ l .total → Fit (tableOf l) t
+pub record-table : (l : Ledger) → Tabled l → l .count ≤ mostNodes → (t : LentTable) → t .count ≡ l .count → t .total .0 ≡ l .total → Fit (tableOf l) t
 record-table l k few t c w =
     let long = front-long (l .stakes) (l .count) (k .few) in
     let sum = front-total (l .stakes) (l .count) (k .few) ∙ k .sum in
@@ -96,7 +96,7 @@ unfolding slotOk
 slot-fine s a b = both-and (leb 1 s) (leb s lastSlot) (le-leb 1 s a) (le-leb s lastSlot (omega arith))
 
 -- Masks of the record's width can be judged with its stakes.
-pub kept-judgeable : (ws : List ℕ) (s : ℕ) → Judging ws s → (t : StakeTable) → Fit (tableOf (ledgerOf ws)) t → (stakes a b : List ℕ) → stakes ≡ tableOf (ledgerOf ws)
+pub kept-judgeable : (ws : List ℕ) (s : ℕ) → Judging ws s → (t : LentTable) → Fit (tableOf (ledgerOf ws)) t → (stakes a b : List ℕ) → stakes ≡ tableOf (ledgerOf ws)
     → length a ≡ maskWords (places (ledgerOf ws)) → length b ≡ maskWords (places (ledgerOf ws)) → Keepable stakes t s a b
 kept-judgeable ws s j t f stakes a b e x y =
     let l = ledgerOf ws in

@@ -9,7 +9,7 @@ use Rattle.rulebook.specs.Certificates.{Kept}
 use Rattle.rulebook.specs.Tools.{allTo}
 use Rattle.rulebook.specs.Weights.{mostNodes, lastSlot}
 use Rattle.rulebook.specs.Ledger.{noKept, places, tableOf, mostCertificates, certificatesAt, isKept, keptAt}
-use Rattle.stakes.specs.declared.StakeTable.{StakeTable}
+use Rattle.stakes.specs.declared.LentTable.{LentTable}
 use Rattle.stakes.specs.Table.{Fit}
 use Rattle.record.specs.Layout.{Long, InKept, ledgerOf}
 use Rattle.record.specs.Tabled.{Tabled}
@@ -25,7 +25,7 @@ pub record Judging (ws : List ℕ) (s : ℕ) : Type 0 where
   pub full : places (ledgerOf ws) ≡ ledgerOf ws .count
 
 -- Likewise, the table is that of the record's stakes, and kept says whether place n of the slot's places for certificates keeps one.
-pub record JudgingPlace (ws : List ℕ) (t : StakeTable) (s n : ℕ) (kept : Bool) : Type 0 where
+pub record JudgingPlace (ws : List ℕ) (t : LentTable) (s n : ℕ) (kept : Bool) : Type 0 where
   pub judging : Judging ws s
   pub fit : Fit (tableOf (ledgerOf ws)) t
   pub place : n < mostCertificates

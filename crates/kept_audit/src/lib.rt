@@ -20,7 +20,7 @@ use record::stakes_of;
 use record::total;
 use rulebook::CertificateKind;
 use rulebook::Slot;
-use stakes::StakeTable;
+use stakes::LentTable;
 
 // The kind of one of a slot's places: 1, 2, 4, 5, then 3.
 fn place_kind(n: usize) -> CertificateKind
@@ -42,7 +42,7 @@ fn place_kind(n: usize) -> CertificateKind
 }
 
 // What one of a slot's places keeps, judged as the kind of the place; where nothing is kept its block is 0.
-fn certificate_fits(rec: &[u64], t: StakeTable, s: Slot, n: usize, kept: bool) -> bool
+fn certificate_fits(rec: &[u64], t: LentTable, s: Slot, n: usize, kept: bool) -> bool
     requires { ⌜ JudgingPlace (now rec) t (s .0) n kept ⌝ }
     ensures { λ r. ⌜ r ≡ certificateFits (tableOf (ledgerOf (now (rec .entry)))) (s .0) n (keptAt (ledgerOf (now (rec .entry))) (s .0) n) ⌝ }
 {
@@ -82,7 +82,7 @@ pub fn certificates_fit(rec: &[u64], s: Slot) -> bool
     if nothing_kept(rec, s) {
         return true;
     }
-    let t = StakeTable {
+    let t = LentTable {
         count: count(rec),
         total: total(rec),
     };

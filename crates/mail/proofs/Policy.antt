@@ -42,7 +42,7 @@ pub weights-stay : (l m : Ledger) → SameTable l m → Grow l m → (s b : ℕ)
 weights-stay l m table grow s b nb t = weights-back m s b (weights-grow l m table grow s b (fallback-weights l s b nb t))
 
 -- A block with a number that is kept is kept with a parent.
-number-kept : (l : Ledger) (s b : ℕ) → T (not (none b)) → T (someBlock (hasNumber b) (blocksAt l s)) → (q : ℕ) × (y : ℕ) × T (keepsBlock l s b q y)
+pub number-kept : (l : Ledger) (s b : ℕ) → T (not (none b)) → T (someBlock (hasNumber b) (blocksAt l s)) → (q : ℕ) × (y : ℕ) × T (keepsBlock l s b q y)
 unfolding keepsBlock
 number-kept l s b nb t =
     let h = some-block-at (hasNumber b) (blocksAt l s) t in

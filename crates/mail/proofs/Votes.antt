@@ -38,7 +38,7 @@ use Rattle.mail.specs.Mail.{FedIsEnough, WatcherFedIsEnough}
 
 -- ---- kinds
 
-kind-is : (k : VoteKind) (v : Ballot) → T (eqb (voteNumber k) (voteNumber (kindOf v))) → k ≡ kindOf v
+pub kind-is : (k : VoteKind) (v : Ballot) → T (eqb (voteNumber k) (voteNumber (kindOf v))) → k ≡ kindOf v
 unfolding voteNumber
 kind-is vote.Notar (notar b) t = refl
 kind-is vote.Notar (notarFallback b) t = absurd t
@@ -79,7 +79,7 @@ not-other skip = tt
 not-other skipFallback = tt
 not-other final = tt
 
-fits : (c : Cell) (v : Ballot) → T (has c v) → T (not (misfits (kindOf v) (blockOf v)))
+pub fits : (c : Cell) (v : Ballot) → T (has c v) → T (not (misfits (kindOf v) (blockOf v)))
 unfolding misfits
 fits c (notar b) t = and-T (not (none b)) (eqb (c .notar) b) t .0
 fits c (notarFallback b) t = and-T (not (none b)) (hasFallback b c) t .0
@@ -170,7 +170,7 @@ module _ (c o : Cell) (nc : Neat c) (neat : Neat o) (all : (w : Ballot) → T (h
       (other (c .fallback1) h1) (other (c .fallback2) h2) (other (c .fallback3) h3) (p .second y .1) (p .third z .1) (p .third z .2)))
 
   -- So a vote that the own cell has, and the pool has not, finds its place free.
-  room-of : (v : Ballot) → T (has o v) → ¬ T (has c v) → T (roomFor c v)
+  pub room-of : (v : Ballot) → T (has o v) → ¬ T (has c v) → T (roomFor c v)
   room-of (notar b) t nh =
       T-and (not (none b)) (noInitial c) (notar-is o b t .0)
       (by-test (noInitial c) (λ u. u)
@@ -196,7 +196,7 @@ place-fine true b t u = absurd t
 place-fine false true t u = refl
 place-fine false false t u = absurd u
 
-free-room : (c : Cell) (v : Ballot) → T (not (misfits (kindOf v) (blockOf v))) → T (roomFor c v) → ¬ T (has c v) → placeVerdict (placeOf c (kindOf v) (blockOf v)) ≡ Fine
+pub free-room : (c : Cell) (v : Ballot) → T (not (misfits (kindOf v) (blockOf v))) → T (roomFor c v) → ¬ T (has c v) → placeVerdict (placeOf c (kindOf v) (blockOf v)) ≡ Fine
 unfolding placeOf misfits
 free-room c (notar b) m r nh = place-fine (eqb (c .notar) b) (noInitial c) (not-T (eqb (c .notar) b) (λ u. nh (is-notar c b m u))) (and-T (not (none b)) (noInitial c) r .1)
 free-room c (notarFallback b) m r nh =

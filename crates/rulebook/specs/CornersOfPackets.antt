@@ -6,7 +6,8 @@ use lib.ListN.{length, replicate}
 use lib.Dec.{T}
 use Rattle.rulebook.specs.PaperNumbers.{certificateNumber, readingPanel, foundPanel, checkPanel, checkNumber}
 use Rattle.rulebook.specs.declared.CertificateKind.the-variants as certificate
-use Rattle.rulebook.specs.Packets.{numberBytes, numberFrom, certificateAt, maskAt, maskBytes, joined}
+use Rattle.rulebook.specs.declared.Heading.{Heading}
+use Rattle.rulebook.specs.Packets.{numberBytes, numberFrom, certificateAt, maskAt, maskBytes, joined, certificateOf}
 use Rattle.rulebook.specs.Checker.{checkCertificate, checkProof}
 use Rattle.rulebook.specs.Scripts.{equal, all}
 use Rattle.rulebook.specs.Bench.{shown}
@@ -100,6 +101,13 @@ twoWords =
     ∷ equal (reads (5 ∷ [])) (12 ∷ 0 ∷ 0 ∷ []) ∷ equal (reads (5 ∷ 128 ∷ 0 ∷ [])) (13 ∷ 0 ∷ 0 ∷ [])
     ∷ equal (joined (5 ∷ 2 ∷ []) ∷ []) ((2 ^ 65 + 5) ∷ []) ∷ [])
 
-cornersOfPackets : T (all (checkOrder ∷ blockOfKind ∷ masks ∷ weights ∷ readWhole ∷ proofOrder ∷ counted ∷ tenBytes ∷ twoWords ∷ []))
+-- A certificate by its heading and the words of its masks: which number is which.
+abbrev ofParts : Bool
+ofParts =
+    let h : Heading = record { kind = 13; slot = record { 0 = 2 }; block = 7 } in
+    let c = certificateOf h (6 ∷ 5 ∷ []) (1 ∷ 4 ∷ []) in
+    equal (c .kind ∷ c .slot ∷ c .block ∷ c .maska ∷ c .maskb ∷ []) (13 ∷ 2 ∷ 7 ∷ (5 * 2 ^ 64 + 6) ∷ (4 * 2 ^ 64 + 1) ∷ [])
+
+cornersOfPackets : T (all (checkOrder ∷ blockOfKind ∷ masks ∷ weights ∷ readWhole ∷ proofOrder ∷ counted ∷ tenBytes ∷ twoWords ∷ ofParts ∷ []))
 unfolding rules
 cornersOfPackets = tt

@@ -34,7 +34,8 @@ keptBy lives n s j = keptAt (ledgerIn (lives n)) s j
 
 -- The stake table, the genesis that each node was started with, which nodes are honest, and what is seen of each node's life.
 module _ (stakes : List ℕ) (genesis : ℕ → ℕ) (honest : Test) (lives : Lives) where
-  -- All other stake is strictly under one fifth; what is seen of every honest node is a life with this table under its own number.
+  -- All other stake is strictly under one fifth; what is seen of every honest node is a life with this table under its own number. Any of these lives may
+  -- have ended: nothing is asked of how far one goes, so that honest nodes that have stopped count as honest here, however many they are.
   pub record Nodes : Type 0 where
     pub few : FewOthers stakes honest
     pub lived : (n : ℕ) → T (honest n) → NodeSeen stakes n (genesis n) (lives n)

@@ -18,7 +18,7 @@ use Rattle.rule_laws.proofs.ToolLaws.{by-test, given-on, given-off, both-and}
 use Rattle.rule_laws.proofs.PlaceLaws.{placed-each}
 use Rattle.record.specs.Layout.{maskWords, ledgerOf}
 use Rattle.record.proofs.Reading.{ledger-shaped}
-use Rattle.stakes.specs.declared.StakeTable.{StakeTable}
+use Rattle.stakes.specs.declared.LentTable.{LentTable}
 use Rattle.stakes.specs.declared.Weighed.{Weighed}
 use Rattle.stakes.specs.Masks.{Signed}
 use Rattle.stakes.specs.Table.{weighed}
@@ -78,7 +78,7 @@ pub weighable : (ws : List ℕ) (s : ℕ) → Judging ws s → (stakes a b : Lis
     → length a ≡ maskWords (places (ledgerOf ws)) → length b ≡ maskWords (places (ledgerOf ws)) → Signed stakes a b
 weighable ws s j stakes a b e x y =
     let l = ledgerOf ws in
-    let t : StakeTable = record { count = l .count; total = record { 0 = l .total } } in
+    let t : LentTable = record { count = l .count; total = record { 0 = l .total } } in
     let k = kept-judgeable ws s j t (record-table l (j .table) (j .few) t refl refl) stakes a b e x y in
     record { lent = k .weighty .fit .lent; long = k .weighty .wide .long; same = k .weighty .wide .same }
 

@@ -19,7 +19,7 @@ use Rattle.rulebook.specs.WellFormed.{flag, inOrder, cellFits, cellBlank, cells
 use Rattle.rule_laws.proofs.ToolLaws.{given-on, given-off, given-both, and-both, both-and, by-test, true-not-false, same-test, all-at, all-each, all-more, all-same}
 use Rattle.rule_laws.proofs.PlaceLaws.{placed-each}
 use Rattle.recounting.proofs.Using.{same-card}
-use Rattle.stakes.specs.declared.StakeTable.{StakeTable}
+use Rattle.stakes.specs.declared.LentTable.{LentTable}
 use Rattle.stakes.specs.declared.Made.{Made}
 use Rattle.stakes.specs.Table.{tableOf, madeOf}
 use Rattle.stakes.proofs.Laws.{made-fits, made-table}
@@ -92,7 +92,7 @@ stakes-judged l made sum kept h e s k =
     (λ t.
     let u : madeOf (take (l .count) (l .stakes)) .fits ≡ true = ap (λ (x : Made). x .fits) (sym e) ∙ t in
     let a : sum ≡ totalTo (l .stakes) (l .count) =
-    s ∙ ap (λ (x : Made). x .table .total .0) e ∙ ap (λ (x : StakeTable). x .total .0) (made-table (take (l .count) (l .stakes)) u)
+    s ∙ ap (λ (x : Made). x .table .total .0) e ∙ ap (λ (x : LentTable). x .total .0) (made-table (take (l .count) (l .stakes)) u)
     ∙ table-sum (take (l .count) (l .stakes)) ∙ front-total (l .stakes) (l .count) h in
     λ i. f i && eqb (a i) (k i))
     (λ t. rw (t, sym f ∙ t))

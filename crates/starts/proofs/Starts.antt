@@ -19,7 +19,7 @@ use Rattle.rulebook.specs.Weights.{mostNodes, placesFor, stakesFit, totalTo}
 use Rattle.rulebook.specs.Ledger.{Ledger, none, fresh}
 use Rattle.rulebook.specs.Inputs.{refuseIf, startVerdict, watchVerdict}
 use Rattle.rule_laws.proofs.ToolLaws.{or-none}
-use Rattle.stakes.specs.declared.StakeTable.{StakeTable}
+use Rattle.stakes.specs.declared.LentTable.{LentTable}
 use Rattle.stakes.specs.declared.Made.{Made}
 use Rattle.stakes.specs.Table.{madeOf}
 use Rattle.stakes.proofs.Laws.{made-fits, made-table, fit-few}
@@ -178,7 +178,7 @@ begun-ready ws stakes made rest e t long =
     record {
       long = long;
       few = fit-few stakes g;
-      sum = ap (λ (x : Made). x .table .total .0) e ∙ ap (λ (x : StakeTable). x .total .0) (made-table stakes f) ∙ table-sum stakes;
+      sum = ap (λ (x : Made). x .table .total .0) e ∙ ap (λ (x : LentTable). x .total .0) (made-table stakes f) ∙ table-sum stakes;
     }
 
 -- Two results that start allows are equal.

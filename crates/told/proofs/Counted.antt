@@ -1,11 +1,11 @@
 -- A vote that was stored stands in its cell, in that slot alone, and stays.
 use mathlib.Core.Path.{_≡_, refl, sym, ap, _∙_, subst}
-use mathlib.Core.Bool.{Bool, true, false, not, _&&_, _||_}
+use mathlib.Core.Bool.{true, false, not}
 use mathlib.Core.List.{List, [], _∷_}
-use Prim.Native.Nat.{ℕ, _<_, _≤_}
+use Prim.Native.Nat.{ℕ}
 use native.Mathlib.Omega.{arith}
 use lib.Dec.{T, eqb, leb, eqb→eq}
-use lib.ListN.{length, getD, set}
+use lib.ListN.{length, getD}
 use lib.Seq.{getD-set-same}
 use borrow.Author.Tests.{eq-eqb, leb-true, leb-false}
 use Rattle.rulebook.specs.declared.Cell.{Cell}
@@ -16,11 +16,9 @@ use Rattle.rulebook.specs.declared.Verdict.{Verdict}
 use Rattle.rulebook.specs.declared.Verdict.the-variants.{Fine, Refused}
 use Rattle.rulebook.specs.declared.Vote.{Vote}
 use Rattle.rulebook.specs.declared.VoteKind.{VoteKind}
-use Rattle.rulebook.specs.declared.VoteKind.the-variants as vote
 use Rattle.rulebook.specs.declared.Who.{Who}
 use Rattle.rulebook.specs.declared.Who.the-variants as who
 use Rattle.rulebook.specs.Tools.{choose}
-use Rattle.rulebook.specs.Weights.{lastSlot}
 use Rattle.rulebook.specs.PaperNumbers.{voteNumber, voteKind, stepPanel, refusalNumber}
 use Rattle.rulebook.specs.Messages.{voteOf}
 use Rattle.rulebook.specs.Ledger.{Ledger, Row, noCell, rowAt, cellAt, fresh}
@@ -28,7 +26,6 @@ use Rattle.rulebook.specs.Pool.{hasFallback, counts}
 use Rattle.rulebook.specs.declared.Place.the-variants.{Free}
 use Rattle.rulebook.specs.Votes.{placeOf, withVote, storeVote}
 use Rattle.rulebook.specs.Rules.{State, stateOf, cast}
-use Rattle.rulebook.specs.Run.{run}
 use Rattle.rulebook.specs.Inputs.{Fed, misfits, verdict, intake, fedWith, refusedWith, fedOn, feed}
 use Rattle.rulebook.specs.Taking.{ofInput, served}
 use Rattle.rulebook.specs.WellFormed.{outboxWords, step}

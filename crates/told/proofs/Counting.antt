@@ -1,6 +1,6 @@
 -- Records that are counted by a mark of the ledger: where every way of making a record adds to the count what it adds to the mark, the count of a
 -- life is what the mark has grown by.
-use mathlib.Core.Path.{_≡_, refl, sym, ap, _∙_}
+use mathlib.Core.Path.{_≡_, refl}
 use mathlib.Core.Bool.{Bool, true, false}
 use mathlib.Core.List.{List, [], _∷_, _++_, reverse, reverseAux}
 use Prim.Native.Nat.{ℕ, _+_, _<_, _≤_}
@@ -23,7 +23,7 @@ use Rattle.rulebook.specs.Rules.{Record, State, stateOf, recordOf, cast, castSk
 use Rattle.rulebook.specs.Run.{run}
 use Rattle.rulebook.specs.Inputs.{Fed, misfits, keepBlock, verdict, timeOut, intake, fedWith, refusedWith, fedOn, feed}
 use Rattle.rulebook.specs.Checker.{judge}
-use Rattle.rulebook.specs.Taking.{keptVerdict, keepCertificate, takenOn, taken, takePacket, Arrival, ofInput, ofPacket, served}
+use Rattle.rulebook.specs.Taking.{keptVerdict, keepCertificate, takenOn, taken, Arrival, ofInput, ofPacket, served}
 use Rattle.rule_laws.proofs.AcceptedLaws.{packet-cases}
 use Rattle.rule_laws.proofs.ToolLaws.{given-keeps}
 use Rattle.settling.specs.Facts.{Sound}

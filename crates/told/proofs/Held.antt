@@ -1,26 +1,23 @@
 -- A certificate that was taken, or was kept already, stands in its place to the end of the life.
 use mathlib.Core.Path.{_≡_, refl, sym, ap, _∙_, subst}
 use mathlib.Core.Bool.{Bool, true, false, not, _&&_, _||_}
-use mathlib.Core.List.{List, [], _∷_, _++_}
+use mathlib.Core.List.{List, [], _∷_}
 use mathlib.Core.Logic.{_⊎_, inl, inr, ⊎-elim}
-use Prim.Native.Nat.{ℕ, suc, _+_, _*_, _<_, _≤_}
+use Prim.Native.Nat.{ℕ, suc, _+_, _*_, _≤_}
 use native.Mathlib.Omega.{arith}
 use lib.ListN.{length, getD}
-use lib.Dec.{T, eqb, leb, ltb}
-use borrow.Author.Tests.{eqb-true, eq-eqb, leb-true, leb-false, le-leb, le-ltb, not-false}
+use lib.Dec.{eqb, leb, ltb}
+use borrow.Author.Tests.{eqb-true, eq-eqb, leb-true, leb-false, le-ltb, not-false}
 use Rattle.rulebook.specs.declared.Accepted.{Accepted}
 use Rattle.rulebook.specs.declared.CertificateKind.{CertificateKind}
-use Rattle.rulebook.specs.declared.CheckAnswer.the-variants as check
 use Rattle.rulebook.specs.declared.Refusal.the-variants as refusal
-use Rattle.rulebook.specs.declared.StepAnswer.{StepAnswer}
 use Rattle.rulebook.specs.declared.Verdict.{Verdict}
 use Rattle.rulebook.specs.declared.Verdict.the-variants.{Fine}
-use Rattle.rulebook.specs.Tools.{given, choose}
+use Rattle.rulebook.specs.Tools.{choose}
 use Rattle.rulebook.specs.Weights.{lastSlot, slotOk, weight, totalTo, reaches}
 use Rattle.rulebook.specs.PaperNumbers.{kindIn, stepPanel, refusalNumber}
 use Rattle.rulebook.specs.Certificates.{Certificate, Kept, Found}
-use Rattle.rulebook.specs.Certificates as found
-use Rattle.rulebook.specs.Packets.{certificateAt, bit}
+use Rattle.rulebook.specs.Packets.{bit}
 use Rattle.rulebook.specs.Ledger.{Ledger, Row, noKept, tableOf, rowAt, certificatesAt, keptAt, isKept, putRow, fresh}
 use Rattle.rulebook.specs.declared.CertificateKind.the-variants as certificate
 use Rattle.rulebook.specs.Pool.{reached, fifthsOf, placeKind, sameKind, servesAs, someKept, isFor, keptAs, held}
@@ -29,13 +26,13 @@ use Rattle.rulebook.specs.Rules.{State, stateOf, cast}
 use Rattle.rulebook.specs.Run.{run}
 use Rattle.rulebook.specs.Inputs.{Fed, refuseIf, fedWith, refusedWith}
 use Rattle.rulebook.specs.Checker.{isOtherKind, blockMisfits, badSigners, acceptedOf, signed, signedWeight, judgeWeight, judgeKind, judge, judged, oneOf, oneAt, checkCertificate}
-use Rattle.rulebook.specs.Taking.{isRoom, hasRoom, fillKept, isRepeat, keptVerdict, keptOf, keepCertificate, takenOn, taken, takenFrom, takePacket, Arrival, ofPacket, served}
+use Rattle.rulebook.specs.Taking.{isRoom, hasRoom, fillKept, isRepeat, keptVerdict, keptOf, keepCertificate, takenOn, taken, takenFrom, takePacket, ofPacket, served}
 use Rattle.rulebook.specs.WellFormed.{outboxWords, takeCertificate}
 use Rattle.rule_laws.proofs.RuleLaws.{refuse-fine}
-use Rattle.rule_laws.proofs.ToolLaws.{by-test, true-not-false, and-both, both-and, or-right, given-on, given-off}
+use Rattle.rule_laws.proofs.ToolLaws.{by-test, true-not-false, and-both, both-and, or-right, given-on}
 use Rattle.rule_laws.proofs.MaskLaws.{zero-bit}
 use Rattle.rule_laws.proofs.WeightLaws.{weight-none}
-use Rattle.rule_laws.proofs.CertificateLaws.{same-kind, kind-same, some-place, place-some}
+use Rattle.rule_laws.proofs.CertificateLaws.{some-place, place-some}
 use Rattle.rule_laws.proofs.AcceptedLaws.{Single, accepted-single}
 use Rattle.settling.specs.Facts.{Sound}
 use Rattle.settling.specs.Steps.{Lawful, kindFor}
@@ -116,7 +113,7 @@ fill-there k i p [] e = true-not-false false e refl
 fill-there k i p (q ∷ qs) e = fill-go (isRoom k i q) k i p q qs refl e (λ x. fill-there k (suc i) p qs x)
 
 -- What the checker accepts has a signer.
-some-fifths : (k : CertificateKind) (t : ℕ) → 1 ≤ t → 1 ≤ fifthsOf k * t
+pub some-fifths : (k : CertificateKind) (t : ℕ) → 1 ≤ t → 1 ≤ fifthsOf k * t
 unfolding fifthsOf
 some-fifths certificate.FastFinal t h = omega arith
 some-fifths certificate.Notar t h = omega arith

@@ -4,3 +4,4 @@ pub mod Once
 pub mod Told
 pub mod Held
 pub mod Counted
+pub mod All

@@ -6,7 +6,7 @@ use Prim.Native.Nat.{ℕ, zero, suc, _+_, _<_, _≤_}
 use native.Mathlib.Omega.{arith}
 use lib.ListN.{length, getD, set, replicate}
 use lib.Seq.{getD-set-same, getD-set-other}
-use lib.Dec.{T, eqb, eqb-refl, T-not}
+use lib.Dec.{T, eqb}
 use borrow.Author.Tests.{eqb-true, eqb-false, eq-eqb, ne-eqb, not-false}
 use Rattle.rulebook.specs.declared.Cell.{Cell}
 use Rattle.rulebook.specs.declared.VoteKind.{VoteKind}
@@ -15,7 +15,7 @@ use Rattle.rulebook.specs.declared.Place.the-variants.{Free, Taken}
 use Rattle.rulebook.specs.Tools.{part}
 use Rattle.rulebook.specs.Weights.{placesFor, lastSlot, windows, windowOf}
 use Rattle.rulebook.specs.PaperNumbers.{voteNumber}
-use Rattle.rulebook.specs.Ledger.{Ledger, Row, none, noCell, noInitial, noRow, blankRow, places, isWatcher, isArmed, rowAt, cellAt, ownCell, putRow, putArmed, putFinal, putClash, fresh}
+use Rattle.rulebook.specs.Ledger.{Ledger, Row, none, noCell, noInitial, noRow, blankRow, places, isWatcher, isArmed, rowAt, ownCell, putRow, putArmed, putFinal, putClash, fresh}
 use Rattle.rulebook.specs.Pool.{hasFallback}
 use Rattle.rulebook.specs.Votes.{placeOf, withVote, fillFallback, storeVote}
 use Rattle.rulebook.specs.Rules.{Record, recordOf}
@@ -32,9 +32,8 @@ use Rattle.safety.specs.Moves.{roomFor}
 use Rattle.safety.proofs.Tests.{T-true, true-T, T-and}
 use Rattle.safety.proofs.Cells.{stored-has, stored-only, kept-stored, kept-has}
 use Rattle.safety.proofs.Along.{same-ballot}
-use Rattle.safety.proofs.Lives.{fresh-has}
 use Rattle.told.specs.Told.{tells, arms, opens}
-use Rattle.told.proofs.Counting.{Same, Counts}
+use Rattle.told.proofs.Counting.{Counts}
 
 -- ---- tests
 

@@ -4,7 +4,7 @@ use mathlib.Core.Bool.{Bool, true, false, not, _&&_, _||_}
 use mathlib.Core.List.{List, [], _∷_}
 use Prim.Native.Nat.{ℕ, _+_, _≤_}
 use native.Mathlib.Omega.{arith}
-use lib.Dec.{T, eqb}
+use lib.Dec.{eqb}
 use lib.ListN.{length, getD}
 use borrow.Author.Tests.{eqb-false, ne-eqb}
 use Rattle.rulebook.specs.Tools.{part}
@@ -18,11 +18,10 @@ use Rattle.settling.proofs.Start.{fresh-sound, watching-sound}
 use Rattle.settling.proofs.Life.{life-within}
 use Rattle.safety.specs.Slot.{Ballot}
 use Rattle.safety.specs.Ballots.{has, recordFor, sameRecord, among}
-use Rattle.safety.specs.Ring.{afterAll}
 use Rattle.safety.proofs.Tests.{true-T}
-use Rattle.safety.proofs.Lives.{fresh-cell, fresh-has}
+use Rattle.safety.proofs.Lives.{Sized, start-sized, watch-sized, fresh-cell, fresh-has}
 use Rattle.seen.specs.Seen.{Seen, ledgerIn, LifeSeen, Alive, node, watcher}
-use Rattle.told.specs.Told.{countOf, tells, arms, opens, Once, ToldOnce, Marked, MarksAreTold, ToldFew}
+use Rattle.told.specs.Told.{countOf, tells, arms, opens, Once, ToldOnce, MarksAreTold, ToldFew}
 use Rattle.told.proofs.Counting.{Counts, life-counts}
 use Rattle.told.proofs.Once.{finalOn, final-counts, finalIs, block-counts, anotherOn, another-counts, armedOn, armed-counts, openIn, initial-counts, vote-counts, fresh-final, fresh-clash, fresh-armed}
 
@@ -31,12 +30,13 @@ use Rattle.told.proofs.Once.{finalOn, final-counts, finalIs, block-coun
 -- What a node's life and a watcher's began with.
 pub record Began (stakes : List ℕ) (genesis : ℕ) (v : Seen) : Type 0 where
   pub own : ℕ
+  pub size : Sized stakes own
   pub sound : Sound (fresh stakes own genesis)
   pub lived : LifeSeen (fresh stakes own genesis) v
 
 pub alive-began : {stakes : List ℕ} {genesis : ℕ} {v : Seen} → Alive stakes genesis v → Began stakes genesis v
-alive-began {stakes} {genesis} (node own h) = record { own = own; sound = fresh-sound stakes own genesis (h .started); lived = h .lived }
-alive-began {stakes} {genesis} (watcher h) = record { own = length stakes; sound = watching-sound stakes genesis (h .started); lived = h .lived }
+alive-began {stakes} {genesis} (node own h) = record { own = own; size = start-sized stakes own genesis (h .started); sound = fresh-sound stakes own genesis (h .started); lived = h .lived }
+alive-began {stakes} {genesis} (watcher h) = record { own = length stakes; size = watch-sized stakes genesis (h .started); sound = watching-sound stakes genesis (h .started); lived = h .lived }
 
 -- ---- counted
 
@@ -116,6 +116,10 @@ marks-are-told stakes genesis v alive =
           (seen-counts (λ r. sameRecord r (recordOf 6 s b)) (finalIs s b) (block-counts s b) stakes genesis v a (fresh-is s b (a .own)))
           ∙ sym (among-counts (v .told) (recordOf 6 s b));
       another = λ s. one-on (not (none (rowAt (ledgerIn v) s .clash))) (countOf (tells 8 s) (v .told)) (another-told stakes genesis v a s);
+      armed = λ w. one-on (not (none (getD (ledgerIn v .armed) w 0))) (countOf (arms w) (v .told)) (armed-told stakes genesis v a w);
+      vote = λ s b.
+          one-on (has (ownCell (ledgerIn v) s) b) (countOf (λ r. sameRecord r (recordFor s b)) (v .told)) (vote-told stakes genesis v a s b)
+          ∙ sym (among-counts (v .told) (recordFor s b));
     }
   where
     no-final : (b x : ℕ) → x ≡ 0 → (not (none b) && eqb x b) ≡ false

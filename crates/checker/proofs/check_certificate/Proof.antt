@@ -1,50 +1,49 @@
--- The table is made once; then by what is told of the certificate.
-use Rattle.stakes.proofs.Laws.{made-fit}
-use Rattle.checker.proofs.Laws.{made-test, single-answer}
-use Rattle.checker.specs.InPacket.{alone}
-use Rattle.rulebook.specs.Checker.{checkCertificate}
-use Rattle.rulebook.specs.Tools.{given}
+-- Up to 64 nodes the lent stakes stand at the front of the stake table, above that they are the table.
+use mathlib.Core.Path.{refl, _∙_}
+use native.Mathlib.Omega.{arith}
 use borrow.Author.Tests.{not-true, not-false}
-use mathlib.Core.Path.{sym, ap, _∙_}
+use Rattle.stakes.proofs.Laws.{made-fit}
+use Rattle.checker.proofs.Laws.{single-bad, single-on, made-test, lent-all, lent-fit, filled-all, filled-fit}
 use borrow.Author.Needs.{needs}
 use Rattle.checker.proofs.check_certificate.Statement.{statement}
 use Rattle.checker.proofs.check_certificate.Tie as tie
-use Rattle.checker.proofs.check_certificate.Reads as reads
-use Rattle.checker.proofs.check_certificate.Lts as lts
-use Rattle.checker.proofs.finish.Reads as finish-reads
-use Rattle.certificates.proofs.one_at.Reads as one-at-reads
-use Rattle.stakes.proofs.make_table.Reads as make-table-reads
 
 make-table-requires : tie.Need-make-table-requires
 make-table-requires c κs = search needs
 
 returns : tie.Need-returns
-unfolding checkCertificate given
 returns c =
-    simp (made-test _ _ (c .before .before .make-table .ensures) ∙ not-true _ (c .if1 .taken))
+    single-bad _ _ _ (made-test _ _ (c .before .before .make-table .ensures)) (not-true _ (c .if1 .taken))
 
-one-at-requires : tie.Need-one-at-requires
-one-at-requires c κs =
-    made-fit _ _ (c .before .before .before .make-table .ensures) (not-false _ (c .before .if1 .left))
-
-enum-known-one : tie.Need-enum-known-one
-enum-known-one c = search needs
-
-enum-known-one-2 : tie.Need-enum-known-one-2
-enum-known-one-2 c = search needs
-
-finish-requires : tie.Need-finish-requires
-finish-requires c κs = search needs
+certificate-on-requires : tie.Need-certificate-on-requires
+certificate-on-requires c κs =
+    let made = c .before .before .before .before .before .make-table .ensures in
+    let fits = not-false _ (c .before .before .before .if1 .left) in
+    lent-fit _ _ (made-fit _ _ made fits)
 
 returns-2 : tie.Need-returns-2
-unfolding alone
 returns-2 c =
-    sym (single-answer _ _ _ (c .before .before .before .before .before .before .before .make-table .ensures) (not-false _ (c .before .before .before .before .before .if1 .left)) _ (c .before .before .before .one-at .ensures) ∙ ap (alone _) (c .before .one .given .1))
+    let made = c .before .before .before .before .before .before .make-table .ensures in
+    let fits = not-false _ (c .before .before .before .before .if1 .left) in
+    c .certificate-on .ensures ∙ single-on _ _ _ (made-test _ _ made) fits _ (lent-all _ _ (made-fit _ _ made fits))
+
+fill-table-requires : tie.Need-fill-table-requires
+fill-table-requires c κs =
+    let made = c .before .before .before .before .before .before .before .make-table .ensures in
+    let fits = not-false _ (c .before .before .before .before .before .if1 .left) in
+    record { room = refl; few = omega (arith, made-fit _ _ made fits .count, c .before .before .if2 .left) }
+
+certificate-on-requires-2 : tie.Need-certificate-on-requires-2
+certificate-on-requires-2 c κs =
+    let made = c .before .before .before .before .before .before .before .before .before .before .before .make-table .ensures in
+    let fits = not-false _ (c .before .before .before .before .before .before .before .before .before .if1 .left) in
+    filled-fit _ _ _ _ made fits (c .before .before .before .fill-table .ensures)
 
 returns-3 : tie.Need-returns-3
-unfolding alone
 returns-3 c =
-    c .finish .ensures ∙ sym (single-answer _ _ _ (c .before .before .before .before .before .before .before .before .make-table .ensures) (not-false _ (c .before .before .before .before .before .before .if1 .left)) _ (c .before .before .before .before .one-at .ensures) ∙ ap (alone _) (c .before .before .one2 .given .1))
+    let made = c .before .before .before .before .before .before .before .before .before .before .before .before .make-table .ensures in
+    let fits = not-false _ (c .before .before .before .before .before .before .before .before .before .before .if1 .left) in
+    c .certificate-on2 .ensures ∙ single-on _ _ _ (made-test _ _ made) fits _ (filled-all _ _ _ _ made fits (c .before .before .before .before .fill-table .ensures))
 
 pub check-certificate-spec : {M : Type 1} → statement M
 check-certificate-spec =
@@ -52,9 +51,8 @@ check-certificate-spec =
     (tie.spec
     make-table-requires
     returns
-    one-at-requires
-    enum-known-one
-    enum-known-one-2
-    finish-requires
+    certificate-on-requires
     returns-2
+    fill-table-requires
+    certificate-on-requires-2
     returns-3)
