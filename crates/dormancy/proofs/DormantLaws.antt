@@ -2,30 +2,26 @@
 use mathlib.Core.Path.{_≡_, refl, sym, ap, _∙_}
 use mathlib.Core.Bool.{Bool, true, false, not, _&&_, _||_}
 use mathlib.Core.List.{List, [], _∷_}
-use Prim.Native.Nat.{ℕ, zero, suc, _+_, _-_, _≤_, _<_}
+use Prim.Native.Nat.{ℕ, zero, suc, _+_, _-_, _≤_}
 use native.Mathlib.Omega.{arith}
-use native.Mathlib.Numerals.{add-one}
 use lib.ListN.{length, getD}
 use lib.Dec.{eqb}
 use borrow.Author.Tests.{eqb-true, eqb-false, eq-eqb, ne-eqb, not-true, not-false}
 use Rattle.rulebook.specs.declared.Block.{Block}
-use Rattle.rulebook.specs.declared.Cell.{Cell}
 use Rattle.rulebook.specs.declared.CertificateKind.{CertificateKind}
 use Rattle.rulebook.specs.declared.CertificateKind.the-variants as certificate
 use Rattle.rulebook.specs.declared.Tally.{Tally}
-use Rattle.rulebook.specs.declared.Who.{Who}
-use Rattle.rulebook.specs.declared.Who.the-variants as who
 use Rattle.rulebook.specs.Tools.{someTo, anyOf, lower, lowest}
 use Rattle.rulebook.specs.Weights.{isFirst, reaches}
 use Rattle.rulebook.specs.Certificates.{Kept}
-use Rattle.rulebook.specs.Ledger.{Ledger, none, noBlock, noKept, rowAt, cellAt, ownCell, noInitial, isArmed, blocksAt, firstBlock, allBlocks, isFree, hasNumber, certificatesAt, keptAt, isKept}
-use Rattle.rulebook.specs.Pool.{counts, weigh, weighs, signersOf, fifthsOf, reached, placeKind, servesAs, isFor, keptAs, held, named, namesTo, names, keptNames, certifiable, someReady}
+use Rattle.rulebook.specs.Ledger.{Ledger, none, noBlock, noKept, rowAt, ownCell, noInitial, isArmed, blocksAt, firstBlock, allBlocks, isFree, hasNumber, certificatesAt}
+use Rattle.rulebook.specs.Pool.{reached, placeKind, servesAs, isFor, keptAs, held, named, keptNames, certifiable, someReady}
 use Rattle.rulebook.specs.Rules.{State, ruleA, ruleG, isFinal, isNewcomer, findBlock}
 use Rattle.rulebook.specs.Cards.{leader, most, recount}
 use Rattle.rulebook.specs.Run.{firstRule}
-use Rattle.rulebook.specs.WellFormed.{inOrder, keptFits, blocksApart, blocksFit, eachKept, keptBlank}
-use Rattle.rule_laws.proofs.ToolLaws.{choose-off, and-both, both-and, or-cases, or-none, by-test, true-not-false, all-at, some-more, some-at, some-each, some-find}
-use Rattle.rule_laws.proofs.WeightLaws.{weight-none, reaches-nothing, reaches-fewer}
+use Rattle.rulebook.specs.WellFormed.{inOrder, keptFits, blocksApart, blocksFit}
+use Rattle.rule_laws.proofs.ToolLaws.{choose-off, and-both, both-and, or-cases, or-none, by-test, true-not-false, some-each, some-find}
+use Rattle.rule_laws.proofs.WeightLaws.{reaches-fewer}
 use Rattle.rule_laws.proofs.LowestLaws.{named-off, lower-off, lowest-none, lowest-skip, lowest-take}
 use Rattle.rule_laws.proofs.CertificateLaws.{some-place, kept-name}
 use Rattle.pool.specs.Weighing.{namedHolds}
@@ -34,13 +30,10 @@ use Rattle.parents.proofs.AnyLaws.{certifiable-named}
 use Rattle.parents.proofs.FewLaws.{few-held}
 use Rattle.parents.proofs.ReadyLaws.{any-later, none-more, cut-ready}
 use Rattle.recounting.proofs.Using.{reached-one, reached-two, newcomer-lead}
-use Rattle.recounting.proofs.Scanning.{weigh-some, leader-voted}
 use Rattle.record.specs.Tabled.{Tabled}
 use Rattle.looks.specs.Looks.{Bounds, isShort}
 use Rattle.looks.proofs.Beside.{short-names}
 use Rattle.record.proofs.BlockPlaces.{some-first}
-use Rattle.kept_certificates.proofs.ByPlace.{each-places}
-use Rattle.kept_places.proofs.Laws.{skip-serves}
 use Rattle.finality.proofs.FinalLaws.{F-off, G-halts}
 use Rattle.rules.proofs.RuleLaws.{A-off, A-none}
 use Rattle.dormancy.specs.Dormant.{isIdle, seeksParent, isBare, namesKept, leadsAnew, isDormant}
@@ -58,7 +51,7 @@ kept-nameless (q ∷ qs) bs e =
     named-off (q .block) (keptNames qs bs) (not-false (none (q .block)) (h .0)) ∙ kept-nameless qs bs (h .1)
 
 -- Nor does one of them hold anything.
-kept-unheld : (p : ℕ → Bool) (qs : List Kept) → someTo (length qs) (λ n. not (none (getD qs n noKept .block))) ≡ false → someKeptHolds p qs ≡ false
+pub kept-unheld : (p : ℕ → Bool) (qs : List Kept) → someTo (length qs) (λ n. not (none (getD qs n noKept .block))) ≡ false → someKeptHolds p qs ≡ false
 unfolding someKeptHolds namedHolds
 kept-unheld p qs e =
     let f : ℕ → Bool = λ n. not (none (getD qs n noKept .block)) && p (getD qs n noKept .block) in
@@ -70,7 +63,7 @@ kept-unheld p qs e =
     (λ t. t)
 
 module _ (l : Ledger) (q : ℕ) (looks : List ℕ) (b : Bounds l looks) (e : isIdle l looks q ≡ true) where
-  idle-parts : (isShort l looks q ≡ true) × (namesKept l q ≡ false) × (held l certificate.Skip q 0 ≡ false)
+  pub idle-parts : (isShort l looks q ≡ true) × (namesKept l q ≡ false) × (held l certificate.Skip q 0 ≡ false)
   unfolding isIdle
   idle-parts =
       let h = and-both (isShort l looks q) (not (namesKept l q) && not (held l certificate.Skip q 0)) e in
@@ -83,7 +76,7 @@ module _ (l : Ledger) (q : ℕ) (looks : List ℕ) (b : Bounds l looks) (e : isI
       let k = kept-unheld (held l certificate.NotarFallback q) (certificatesAt l q) (idle-parts .1) in
       certifiable-named l q (held l certificate.NotarFallback q) k ∙ few-held l q k (short-names l q looks b (idle-parts .0))
 
-  unready : (s : ℕ) → 1 ≤ q → s ≡ q + 1 → someReady l s ≡ false
+  pub unready : (s : ℕ) → 1 ≤ q → s ≡ q + 1 → someReady l s ≡ false
   unready s low t =
       cut-ready l s q (omega arith)
       (none-more l s q (omega arith) (λ i a b. absurd (omega arith)) (any-later l q low ∙ no-blocks) (λ i a b. absurd (omega arith)))

@@ -1,14 +1,14 @@
 -- Computed cases of slots that are passed over, and of what keeps a slot from it.
-use mathlib.Core.Bool.{Bool, not}
+use mathlib.Core.Bool.{Bool, true, false, not}
 use mathlib.Core.List.{List, [], _∷_}
 use Prim.Native.Nat.{ℕ}
 use lib.ListN.{set}
-use lib.Dec.{T}
+use lib.Dec.{T, eqb}
 use Rattle.rulebook.specs.Ledger.{Ledger, certificatesAt, putCertificates, putFinal, putArmed, fresh}
 use Rattle.rulebook.specs.Scripts.{vote, block, stored, cell, withVotes, allArmed, all}
 use Rattle.rulebook.specs.Computes.{rules}
 use Rattle.looks.specs.Looks.{isShort}
-use Rattle.dormancy.specs.Dormant.{isIdle, seeksParent, isBare, namesKept, leadsAnew, isDormant}
+use Rattle.dormancy.specs.Dormant.{isIdle, seeksParent, isStranded, firstAsked, isBare, namesKept, leadsAnew, isDormant}
 
 -- Node 1 has 80 percent, the own node and node 2 ten each.
 abbrev untouched : Ledger
@@ -53,6 +53,14 @@ toArm =
     ∷ not (isDormant (putCertificates first 4 (set (certificatesAt first 4) 12 (record { block = 7; maska = 2; maskb = 0 }))) (mind 1) 5)
     ∷ dormant (stored first (vote 2 2 4 7 ∷ [])) 6 ∷ [])
 
-cornersOfDormancy : T (all (passedOver ∷ looked ∷ toArm ∷ []))
-unfolding rules isShort isIdle seeksParent isBare namesKept leadsAnew isDormant
+-- A window's first slot with a block kept is not passed over, and A and B are not asked of it where the slot before makes no parent ready; in
+-- slot 1, in a later slot of a window, and where nothing is kept in mind or 60 percent are, all are.
+abbrev behind : Bool
+behind =
+    let first = stored (putArmed untouched 1) (block 5 51 4 41 ∷ block 6 61 5 51 ∷ []) in
+    all (not (isDormant first (mind 5) 5) ∷ isStranded first (mind 5) 5 ∷ not (isStranded first (mind 6) 5) ∷ not (isStranded first [] 5)
+    ∷ not (isStranded first (mind 5) 6) ∷ not (isStranded first (5 ∷ 5 ∷ []) 1) ∷ eqb (firstAsked true) 2 ∷ eqb (firstAsked false) 0 ∷ [])
+
+cornersOfDormancy : T (all (passedOver ∷ looked ∷ toArm ∷ behind ∷ []))
+unfolding rules isShort isIdle seeksParent isStranded firstAsked isBare namesKept leadsAnew isDormant
 cornersOfDormancy = tt

@@ -1,6 +1,6 @@
 -- Slots in which no rule applies, as far as a look tells that weighs nothing. What a tray keeps in mind of who names blocks helps it;
 -- without, it has no word for any slot.
-use mathlib.Core.Bool.{Bool, not, _&&_, _||_}
+use mathlib.Core.Bool.{Bool, true, false, not, _&&_, _||_}
 use mathlib.Core.List.{List}
 use Prim.Native.Nat.{ℕ, _+_, _-_, _*_}
 use lib.ListN.{length}
@@ -25,6 +25,15 @@ isIdle l looks s = isShort l looks s && (not (namesKept l s) && not (held l cert
 -- A has a window to arm; and it is slot 1, whose parent is genesis, or the slot before may make one ready.
 unfoldable pub seeksParent : Ledger → List ℕ → ℕ → Bool
 seeksParent l looks s = (isFirst s && not (isArmed l s)) && (eqb s 1 || not (isIdle l looks (s - 1)))
+
+-- Slot s is a window's first behind a slot that cannot make a parent ready: neither A nor B applies in it.
+unfoldable pub isStranded : Ledger → List ℕ → ℕ → Bool
+isStranded l looks s = (isFirst s && not (eqb s 1)) && isIdle l looks (s - 1)
+
+-- The rule from which on a slot is asked, counted from A: C where it is so, else A.
+unfoldable pub firstAsked : Bool → ℕ
+firstAsked true = 2
+firstAsked false = 0
 
 -- Nothing for B to E and for G: no own initial vote, which C, D and E ask for, and nothing in the first place for a kept block, which is
 -- filled before the others: B asks for a kept block, and G walks by one.

@@ -5,10 +5,11 @@ ghost use lib.ListN.{length};
 ghost use Rattle.rulebook.specs.Ledger.{mostCertificates};
 ghost use Rattle.record.specs.Layout.{InSlot, ledgerOf};
 ghost use Rattle.pool.specs.Weighing.{Carded};
-ghost use Rattle.dormancy.specs.Dormant.{isIdle, seeksParent, isBare, namesFrom, namesKept, leadsAnew, isDormant};
+ghost use Rattle.dormancy.specs.Dormant.{isIdle, seeksParent, isStranded, firstAsked, isBare, namesFrom, namesKept, leadsAnew, isDormant};
 use looks::is_short;
 use parents::leader_held;
 use pool::held;
+use pool::is_first;
 use record::MOST_CERTIFICATES;
 use record::final_block;
 use record::kept_start;
@@ -54,6 +55,32 @@ fn seeks_parent(rec: &[u64], looks: &[u64], s: Slot) -> bool
     }
     let before = s.0 - 1;
     !is_idle(rec, looks, Slot(before))
+}
+
+// Whether a slot is a window's first behind one that cannot make a parent ready.
+fn is_stranded(rec: &[u64], looks: &[u64], s: Slot) -> bool
+    requires { ⌜ Carded (now rec) (s .0) ⌝ }
+    ensures { λ r. ⌜ r ≡ isStranded (ledgerOf (now (rec .entry))) (now (looks .entry)) (s .0) ⌝ }
+{
+    if !is_first(s) {
+        return false;
+    }
+    if s.0 == 1 {
+        return false;
+    }
+    let before = s.0 - 1;
+    is_idle(rec, looks, Slot(before))
+}
+
+// The rule from which on a slot is asked: neither A nor B applies where no parent can be ready.
+pub fn first_asked(rec: &[u64], looks: &[u64], s: Slot) -> usize
+    requires { ⌜ Carded (now rec) (s .0) ⌝ }
+    ensures { λ r. ⌜ r ≡ firstAsked (isStranded (ledgerOf (now (rec .entry))) (now (looks .entry)) (s .0)) ⌝ }
+{
+    if is_stranded(rec, looks, s) {
+        return 2;
+    }
+    0
 }
 
 // Whether a slot has no own initial vote and keeps no block: places are filled from the front.

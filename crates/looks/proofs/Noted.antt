@@ -1,5 +1,5 @@
 -- A vote stored: what those weigh who name a block grows by its node's stake in its slot, where it names one, and nowhere else. Assumes nothing.
-use mathlib.Core.Path.{_≡_, refl, sym, ap, _∙_, subst}
+use mathlib.Core.Path.{_≡_, refl, sym, ap, _∙_}
 use mathlib.Core.Bool.{Bool, true, false, _||_}
 use mathlib.Core.List.{List}
 use Prim.Native.Nat.{ℕ, zero, suc, _+_, _≤_, _<_}
@@ -16,7 +16,7 @@ use Rattle.rulebook.specs.declared.VoteKind.the-variants as vote
 use Rattle.rulebook.specs.Weights.{lastSlot, weight, stakeIn}
 use Rattle.rulebook.specs.Ledger.{Ledger, places, cellAt}
 use Rattle.rulebook.specs.Votes.{placeOf, withVote, storeVote}
-use Rattle.rule_laws.proofs.ToolLaws.{by-test, or-cases, or-left, or-right, true-not-false, part-on, part-off}
+use Rattle.rule_laws.proofs.ToolLaws.{by-test, or-left, or-right, true-not-false, part-on, part-off}
 use Rattle.rule_laws.proofs.WeightLaws.{weight-none, weight-mono, weight-total, weight-cover, weight-more}
 use Rattle.record.specs.Tabled.{Tabled}
 use Rattle.settling.specs.Facts.{Sound}

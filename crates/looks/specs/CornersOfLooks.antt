@@ -1,7 +1,6 @@
 -- Computed cases of who names a block in a slot, the own node with them, and of a word that stays short of 60 percent.
 use mathlib.Core.Bool.{Bool, not}
-use mathlib.Core.List.{List, [], _∷_}
-use Prim.Native.Nat.{ℕ}
+use mathlib.Core.List.{[], _∷_}
 use lib.Dec.{T, eqb}
 use Rattle.rulebook.specs.declared.VoteKind.the-variants as kind
 use Rattle.rulebook.specs.Ledger.{Ledger, fresh}

@@ -7,6 +7,7 @@ ghost use Rattle.record.specs.Layout.{Long, InWindow, ledgerOf};
 ghost use Rattle.record.specs.Tabled.{Tabled};
 ghost use Rattle.pool.specs.Weighing.{Weighing};
 ghost use Rattle.looks.specs.Looks.{isBeside, namedBeside, Bounds, isShort, namesBlock, Noting, Noted};
+use kept_certificates::nothing_kept;
 use parents::names_some;
 use record::count;
 use record::is_armed;
@@ -59,12 +60,12 @@ fn named_beside(rec: &[u64], s: Slot) -> Weight
     Weight(sum)
 }
 
-// A word for a slot, whose window's successor is armed or not: where it is, nobody asks, and the total will do.
+// A word for the slot before a window. Where that is armed nobody asks, and where a certificate is kept other things answer: the total will do.
 fn look_before(rec: &[u64], s: Slot, next: Slot) -> Weight
     requires { ⌜ Weighing (now rec) (s .0) × InWindow (now rec) (next .0) ⌝ }
     ensures { λ r. ⌜ namedBeside (ledgerOf (now (rec .entry))) (s .0) ≤ r .0 ⌝ }
 {
-    if is_armed(rec, next) {
+    if is_armed(rec, next) | !nothing_kept(rec, s) {
         return total(rec);
     }
     named_beside(rec, s)

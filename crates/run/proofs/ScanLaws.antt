@@ -31,9 +31,10 @@ use Rattle.finality.specs.Telling.{walkBegins}
 use Rattle.finality.proofs.FinalLaws.{walk-off}
 use Rattle.looks.specs.Looks.{Bounds}
 use Rattle.looks.proofs.Staying.{bounds-scan, bounds-run}
-use Rattle.dormancy.specs.Dormant.{isDormant}
+use Rattle.dormancy.specs.Dormant.{isDormant, isStranded, firstAsked}
 use Rattle.dormancy.proofs.SlotLaws.{rules-on, rules-off, pass, one-rule, only-G}
 use Rattle.dormancy.proofs.DormantLaws.{dormant-quiet}
+use Rattle.dormancy.proofs.Stranded.{unasked-quiet}
 use Rattle.run.specs.Tried.{TriedBelow}
 
 -- The stakes stay a table.
@@ -99,10 +100,6 @@ pub record Going (ws out : List ℕ) (at : ℕ) (ws' left : List ℕ) (now s n r
   pub held : Onward ws out at ws' left now (stateIn ws out at)
   pub ends : firstRule n r (stateIn ws out at) s ≡ q
 
--- The search begins.
-pub going-start : {ws out : List ℕ} {at : ℕ} (s n r : ℕ) → Live ws out at → Going ws out at ws out at s n r (firstRule n r (stateIn ws out at) s)
-going-start s n r v = record { still = refl; held = onward-none v refl; ends = refl }
-
 -- ---- the first k of them are tried
 
 module _ {ws out ws' out' ws'' out'' : List ℕ} {at now now' : ℕ} {q : State} (s k n r : ℕ) (h : Going ws out at ws' out' now s (k + n) r q)
@@ -135,9 +132,6 @@ pub record Trying (ws out : List ℕ) (at : ℕ) (ws' left : List ℕ) (now s r 
   pub kept : length left ≡ length out
   pub going : Going ws out at ws' left now s (7 - r) r (firstRule 7 0 (stateIn ws out at) s)
 
-pub trying-start : {ws out : List ℕ} {at : ℕ} (s : ℕ) → Live ws out at → Trying ws out at ws out at s 0
-trying-start s v = record { few = omega arith; kept = refl; going = going-start s 7 0 v }
-
 -- ---- rule r is tried
 
 module _ {ws out ws' out' ws'' out'' : List ℕ} {at now now' s r : ℕ} (h : Trying ws out at ws' out' now s r) (b : r < 7)
@@ -167,6 +161,12 @@ pub dormant-passes : {ws out : List ℕ} {at s : ℕ} → UnderWayAt ws out at s
 dormant-passes {ws = ws} {out = out} {at = at} {s = s} v looks b d e t =
     onward-none (v .live .live)
     (sym (dormant-quiet (stateIn ws out at) looks b s (v .live .low) (v .table) (formed (ledgerOf ws) (v .live .live .sound .formed) .rows s (v .live .low) (v .live .high) .blocks) (sym e ∙ t)))
+
+-- Of the others the rules from the first asked on are left: those before it do not apply.
+pub trying-asked : {ws out : List ℕ} {at s : ℕ} → UnderWayAt ws out at s → (looks : List ℕ) → Bounds (ledgerOf ws) looks → (r : ℕ) → r ≡ firstAsked (isStranded (ledgerOf ws) looks s) → Trying ws out at ws out at s r
+trying-asked {ws = ws} {out = out} {at = at} {s = s} v looks b r e =
+    let h = unasked-quiet (stateIn ws out at) looks b s (v .live .low) (formed (ledgerOf ws) (v .live .live .sound .formed) .rows s (v .live .low) (v .live .high) .blocks) r e in
+    record { few = h .0; kept = refl; going = record { still = refl; held = onward-none (v .live .live) refl; ends = h .1 } }
 
 -- ---- what is kept in mind
 

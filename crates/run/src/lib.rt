@@ -8,6 +8,7 @@ ghost use Rattle.voter.specs.Outbox.{stateIn};
 ghost use Rattle.voter.specs.Voting.{Onward};
 ghost use Rattle.fallbacks.specs.UnderWay.{UnderWay};
 ghost use Rattle.run.specs.Tried.{TriedBelow};
+use dormancy::first_asked;
 use dormancy::is_dormant;
 use fallbacks::rule_d;
 use fallbacks::rule_e;
@@ -63,7 +64,7 @@ fn scan_slots(rec: &mut [u64], outbox: &mut [u64], at: usize, looks: &[u64]) -> 
         if is_dormant(rec, looks, Slot(s)) {
             continue;
         }
-        for r in 0..7 {
+        for r in first_asked(rec, looks, Slot(s))..7 {
             made = rule(rec, outbox, made, Slot(s), r);
             if made != at {
                 break 'scan;
