@@ -19,6 +19,8 @@ use Rattle.cards.specs.declared.CardAnswer.{CardAnswer}
 use Rattle.cards.specs.Asked.{cardPanel}
 use Rattle.differences.specs.declared.DifferAnswer.{DifferAnswer}
 use Rattle.differences.specs.Lent.{DifferOf, differPanel}
+use Rattle.inquest_lines.specs.declared.ListAnswer.{ListAnswer}
+use Rattle.inquest_lines.specs.Lent.{Told, ToldIn, listPanel}
 use Rattle.pieces.specs.declared.PieceAnswer.{PieceAnswer}
 use Rattle.pieces.specs.Pieces.{piecePanel}
 use Rattle.pieces.specs.State.{nodes, PieceOf, EndOf, endLeaves}
@@ -26,7 +28,7 @@ use Rattle.readers.specs.declared.FinalAnswer.{FinalAnswer}
 use Rattle.readers.specs.declared.ArmedAnswer.{ArmedAnswer}
 use Rattle.readers.specs.declared.VotesAnswer.{VotesAnswer}
 use Rattle.readers.specs.Asked.{finalPanel, armedPanel, votesPanel}
-use Rattle.answers.specs.Face.{Beside, Started, Watched, Stepped, Taken, Trayed, Wrote, MessageRead, CardRead, FinalRead, ArmedRead, VotesRead, Checked, Compared, Pieced, Ended}
+use Rattle.answers.specs.Face.{Beside, Started, Watched, Stepped, Taken, Trayed, Wrote, MessageRead, CardRead, FinalRead, ArmedRead, VotesRead, Checked, Compared, LinesRead, Pieced, Ended}
 
 pub started : (ws stakes : List ℕ) (own genesis : ℕ) (a : StartAnswer) (n : ℕ) (left : List ℕ) → StartOf ws stakes own genesis a left
     → n ≡ startPanel a .number → Started ws stakes own genesis n left
@@ -132,6 +134,15 @@ compared one two list a n k left s e d =
     record {
       numbered = e ∙ ap (λ (x : DifferAnswer). differPanel x .number) (s .answered);
       counted = d ∙ ap (λ (x : DifferAnswer). differPanel x .values) (s .answered);
+      lines = s .listed;
+    }
+
+pub lines-read : (told : Told) (list : List ℕ) (a : ListAnswer) (n k : ℕ) (left : List ℕ) → ToldIn list told a left
+    → n ≡ listPanel a .number → Beside k (listPanel a .values) → LinesRead told list n k left
+lines-read told list a n k left s e d =
+    record {
+      numbered = e ∙ ap (λ (x : ListAnswer). listPanel x .number) (s .answered);
+      counted = d ∙ ap (λ (x : ListAnswer). listPanel x .values) (s .answered);
       lines = s .listed;
     }
 

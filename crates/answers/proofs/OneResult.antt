@@ -11,7 +11,8 @@ use Rattle.cards.specs.declared.CardAnswer.{CardAnswer}
 use Rattle.readers.specs.declared.FinalAnswer.{FinalAnswer}
 use Rattle.readers.specs.declared.ArmedAnswer.{ArmedAnswer}
 use Rattle.readers.specs.declared.VotesAnswer.{VotesAnswer}
-use Rattle.answers.specs.Face.{Beside, Started, Watched, Stepped, Taken, Trayed, Wrote, MessageRead, CardRead, FinalRead, ArmedRead, VotesRead, Checked, Compared, Pieced, Ended}
+use Rattle.inquest_lines.specs.Lent.{Told}
+use Rattle.answers.specs.Face.{Beside, Started, Watched, Stepped, Taken, Trayed, Wrote, MessageRead, CardRead, FinalRead, ArmedRead, VotesRead, Checked, Compared, LinesRead, Pieced, Ended}
 
 -- One value beside one number.
 beside-one : {v v' : ℕ} {values : List ℕ} → Beside v values → Beside v' values → v ≡ v'
@@ -84,6 +85,11 @@ checked-one a b = (a .numbered ∙ sym (b .numbered), a .valued ∙ sym (b .valu
 pub compared-one : {one two list left left' : List ℕ} {n n' beside beside' : ℕ} → Compared one two list n beside left → Compared one two list n' beside' left'
     → (n ≡ n') × (beside ≡ beside') × (left ≡ left')
 compared-one a b = (a .numbered ∙ sym (b .numbered), beside-one (a .counted) (b .counted), a .lines ∙ sym (b .lines))
+
+-- qr_stands.
+pub lines-read-one : {told : Told} {list left left' : List ℕ} {n n' beside beside' : ℕ} → LinesRead told list n beside left → LinesRead told list n' beside' left'
+    → (n ≡ n') × (beside ≡ beside') × (left ≡ left')
+lines-read-one a b = (a .numbered ∙ sym (b .numbered), beside-one (a .counted) (b .counted), a .lines ∙ sym (b .lines))
 
 -- qr_piece.
 pub pieced-one : {ws bs stakes bytes left left' front front' : List ℕ} {n n' : ℕ} → Pieced ws bs stakes bytes n left front → Pieced ws bs stakes bytes n' left' front'

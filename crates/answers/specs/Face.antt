@@ -19,6 +19,8 @@ use Rattle.cards.specs.declared.CardAnswer.{CardAnswer}
 use Rattle.cards.specs.Asked.{cardPanel}
 use Rattle.difference_lines.specs.Lines.{spellLines}
 use Rattle.differences.specs.Lent.{differ, differPanel}
+use Rattle.inquest_lines.specs.Lent.{Told, listPanel}
+use Rattle.inquest_lines.specs.Lent as inquest
 use Rattle.starts.specs.Starting.{startJudged, startAnswer, startLeft, watchJudged}
 use Rattle.pieces.specs.Pieces.{piecePanel}
 use Rattle.pieces.specs.State.{nodes, pieceLeaves, endLeaves}
@@ -117,6 +119,12 @@ pub record Compared (one two list : List ℕ) (number beside : ℕ) (left : List
   pub numbered : number ≡ differPanel (differ one two (length list) .answer) .number
   pub counted : Beside beside (differPanel (differ one two (length list) .answer) .values)
   pub lines : left ≡ over (spellLines (differ one two (length list) .lines)) list
+
+-- A list of the inquest: its number, how many lines, beside 17 of two records the side and beside 9 the lines needed, and all words of the list.
+pub record LinesRead (told : Told) (list : List ℕ) (number beside : ℕ) (left : List ℕ) : Type 0 where
+  pub numbered : number ≡ listPanel (told .answer) .number
+  pub counted : Beside beside (listPanel (told .answer) .values)
+  pub lines : left ≡ over (inquest.spellLines (told .lines)) list
 
 -- A piece of a proof: its number, and all words and bytes of the state.
 pub record Pieced (ws bs stakes bytes : List ℕ) (number : ℕ) (ws' bs' : List ℕ) : Type 0 where

@@ -4,12 +4,14 @@ ghost use Rattle.rulebook.specs.Tools.{part};
 ghost use Rattle.rulebook.specs.PaperNumbers.{startPanel, stepPanel, writePanel, readPanel, checkNumber, checkValues, checkMissing};
 ghost use Rattle.cards.specs.Asked.{cardValues, cardPanel};
 ghost use Rattle.differences.specs.Lent.{differPanel};
+ghost use Rattle.inquest_lines.specs.Lent.{listPanel};
 ghost use Rattle.pieces.specs.Pieces.{piecePanel};
 ghost use Rattle.readers.specs.Asked.{finalPanel, armedPanel, cellValues, votesPanel};
 ghost use Rattle.answers.specs.Face.{Beside, voteValues, acceptedValues};
 use cards::CardAnswer;
 use differences::DifferAnswer;
 use differences::side_number;
+use inquest_lines::ListAnswer;
 use kinds::number_in;
 use kinds::refusal_missing;
 use kinds::refusal_number;
@@ -179,6 +181,30 @@ pub fn differ_value(a: DifferAnswer) -> usize
         DifferAnswer::Listed(n) => n,
         DifferAnswer::BadRecord(s) => side_number(s) as usize,
         DifferAnswer::NoRoom(n) => n,
+    }
+}
+
+// What a question of the inquest answers, as a number.
+pub fn list_number(a: ListAnswer) -> u64
+    ensures { λ r. ⌜ r ≡ listPanel a .number ⌝ }
+{
+    match a {
+        ListAnswer::Listed(_) => 0,
+        ListAnswer::BadRecord(_) => refusal_number(Refusal::BadRecord),
+        ListAnswer::Refused(r) => refusal_number(r),
+        ListAnswer::NoRoom(_) => refusal_number(Refusal::NoRoom),
+    }
+}
+
+// How many lines there are, beside 17 of two records the side, beside 9 how many lines are needed, beside another refusal 0.
+pub fn list_value(a: ListAnswer) -> usize
+    ensures { λ r. ⌜ Beside r (listPanel a .values) ⌝ }
+{
+    match a {
+        ListAnswer::Listed(n) => n,
+        ListAnswer::BadRecord(s) => side_number(s) as usize,
+        ListAnswer::Refused(_) => 0,
+        ListAnswer::NoRoom(n) => n,
     }
 }
 

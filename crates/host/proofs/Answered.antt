@@ -16,10 +16,12 @@ use Rattle.readers.specs.declared.VotesAnswer.{VotesAnswer}
 use Rattle.readers.specs.Asked.{finalPanel, armedPanel, votesPanel}
 use Rattle.differences.specs.declared.DifferAnswer.{DifferAnswer}
 use Rattle.differences.specs.Lent.{differPanel, DifferOf}
+use Rattle.inquest_lines.specs.declared.ListAnswer.{ListAnswer}
+use Rattle.inquest_lines.specs.Lent.{Told, ToldIn, listPanel}
 use Rattle.pieces.specs.declared.PieceAnswer.{PieceAnswer}
 use Rattle.pieces.specs.Pieces.{piecePanel}
 use Rattle.pieces.specs.State.{nodes, PieceOf, EndOf}
-use Rattle.host.specs.Answered.{WroteWith, CheckedWith, CardWith, FinalWith, ArmedWith, VotesWith, MessageWith, ComparedWith, PiecedWith, EndedWith}
+use Rattle.host.specs.Answered.{WroteWith, CheckedWith, CardWith, FinalWith, ArmedWith, VotesWith, MessageWith, ComparedWith, LinesWith, PiecedWith, EndedWith}
 
 pub wrote-with : (w : written.Wrote) (buffer : List ℕ) (r : WriteAnswer) (after : List ℕ) → Writes w buffer r after → WroteWith w buffer r after
 wrote-with w buffer r after x count b =
@@ -52,6 +54,14 @@ compared-with one two list r left x beside b =
     record {
       numbered = ap (λ (a : DifferAnswer). differPanel a .number) (x .answered);
       counted = b ∙ ap (λ (a : DifferAnswer). differPanel a .values) (x .answered);
+      lines = x .listed;
+    }
+
+pub lines-with : (told : Told) (list : List ℕ) (r : ListAnswer) (left : List ℕ) → ToldIn list told r left → LinesWith told list r left
+lines-with told list r left x beside b =
+    record {
+      numbered = ap (λ (a : ListAnswer). listPanel a .number) (x .answered);
+      counted = b ∙ ap (λ (a : ListAnswer). listPanel a .values) (x .answered);
       lines = x .listed;
     }
 

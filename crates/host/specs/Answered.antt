@@ -14,10 +14,12 @@ use Rattle.readers.specs.declared.VotesAnswer.{VotesAnswer}
 use Rattle.readers.specs.Asked.{finalPanel, armedPanel, votesPanel}
 use Rattle.differences.specs.declared.DifferAnswer.{DifferAnswer}
 use Rattle.differences.specs.Lent.{differPanel}
+use Rattle.inquest_lines.specs.declared.ListAnswer.{ListAnswer}
+use Rattle.inquest_lines.specs.Lent.{Told, listPanel}
 use Rattle.pieces.specs.declared.PieceAnswer.{PieceAnswer}
 use Rattle.pieces.specs.Pieces.{piecePanel}
 use Rattle.pieces.specs.State.{nodes}
-use Rattle.answers.specs.Face.{Beside, Wrote, MessageRead, CardRead, FinalRead, ArmedRead, VotesRead, Checked, Compared, Pieced, Ended}
+use Rattle.answers.specs.Face.{Beside, Wrote, MessageRead, CardRead, FinalRead, ArmedRead, VotesRead, Checked, Compared, LinesRead, Pieced, Ended}
 
 -- A writer.
 abbrev pub WroteWith : written.Wrote → (buffer : List ℕ) → WriteAnswer → (after : List ℕ) → Type 0
@@ -47,6 +49,10 @@ MessageWith given r = MessageRead given (readPanel r .number) (readPanel r .valu
 -- Two records compared.
 abbrev pub ComparedWith : (one two list : List ℕ) → DifferAnswer → (left : List ℕ) → Type 0
 ComparedWith one two list r left = (beside : ℕ) → Beside beside (differPanel r .values) → Compared one two list (differPanel r .number) beside left
+
+-- A list of the inquest.
+abbrev pub LinesWith : (told : Told) (list : List ℕ) → ListAnswer → (left : List ℕ) → Type 0
+LinesWith told list r left = (beside : ℕ) → Beside beside (listPanel r .values) → LinesRead told list (listPanel r .number) beside left
 
 -- A piece of a proof, and the end of one.
 abbrev pub PiecedWith : (ws bs stakes bytes : List ℕ) → PieceAnswer → (ws' bs' : List ℕ) → Type 0

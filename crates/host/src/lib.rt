@@ -15,17 +15,19 @@ ghost use Rattle.cards.specs.Asked.{cardOn};
 ghost use Rattle.readers.specs.Asked.{finalOn, armedOn, votesOn};
 ghost use Rattle.texts.specs.Texts.{textOn};
 ghost use Rattle.pieces.specs.State.{stateWords, frontBytes};
+ghost use Rattle.standing.specs.Asked.{standsOn};
 ghost use Rattle.inputs.specs.Inputs.{voteInput, blockInput, timeoutInput};
-ghost use Rattle.answers.specs.Face.{version, Started, Watched, Wrote, MessageRead, CardRead, FinalRead, ArmedRead, VotesRead, Checked, Compared, Pieced, Ended};
+ghost use Rattle.answers.specs.Face.{version, Started, Watched, Wrote, MessageRead, CardRead, FinalRead, ArmedRead, VotesRead, Checked, Compared, LinesRead, Pieced, Ended};
 ghost use Rattle.calls.specs.Operation.{oneInput, aTray, aPacket};
 ghost use Rattle.calls.specs.Life.{Met, MetWith, GoesOn, Stays, Life, Watch, begun};
-ghost use Rattle.host.specs.Answered.{WroteWith, CheckedWith, CardWith, FinalWith, ArmedWith, VotesWith, MessageWith, ComparedWith, PiecedWith, EndedWith};
+ghost use Rattle.host.specs.Answered.{WroteWith, CheckedWith, CardWith, FinalWith, ArmedWith, VotesWith, MessageWith, ComparedWith, LinesWith, PiecedWith, EndedWith};
 use cards::CardAnswer;
 use cards::read_card;
 use checker::check_certificate;
 use checker::check_proof;
 use differences::DifferAnswer;
 use differences::differ;
+use inquest_lines::ListAnswer;
 use messages::read_vote;
 use messages::write_vote;
 use node::step;
@@ -49,6 +51,7 @@ use quointrowel::qr_pieces_words;
 use quointrowel::qr_read_vote;
 use quointrowel::qr_record_words;
 use quointrowel::qr_refusal_text;
+use quointrowel::qr_stands;
 use quointrowel::qr_start;
 use quointrowel::qr_take;
 use quointrowel::qr_timeout;
@@ -75,6 +78,7 @@ use rulebook::StartAnswer;
 use rulebook::StepAnswer;
 use rulebook::Vote;
 use rulebook::WriteAnswer;
+use standing::own_votes_stand;
 use starts::start;
 use starts::watch;
 use taking::take;
@@ -294,6 +298,13 @@ pub fn face_differ(first: &[u64], second: &[u64], list: &mut [u64], beside: &mut
     qr_differ(first, second, list, beside)
 }
 
+// Calls qr_stands.
+pub fn face_stands(rec: &[u64], list: &mut [u64], beside: &mut usize) -> u64
+    ensures { λ r. ⌜ LinesRead (standsOn (now (rec .entry)) (length (now (list .entry)))) (now (list .entry)) r (now (beside .exit)) (now (list .exit)) ⌝ }
+{
+    qr_stands(rec, list, beside)
+}
+
 // Calls qr_refusal_text.
 pub fn face_refusal_text(buffer: &mut [u8], written: &mut usize, number: u64) -> u64
     ensures { λ r. ⌜ Wrote (textOn (length (now (buffer .entry))) number) (now (buffer .entry)) r (now (written .exit)) (now (buffer .exit)) ⌝ }
@@ -475,6 +486,13 @@ pub fn plain_differ(one: &[u64], two: &[u64], list: &mut [u64]) -> DifferAnswer
     ensures { λ r. ⌜ ComparedWith (now (one .entry)) (now (two .entry)) (now (list .entry)) r (now (list .exit)) ⌝ }
 {
     differ(one, two, list)
+}
+
+// Calls the public test of own votes.
+pub fn plain_stands(rec: &[u64], list: &mut [u64]) -> ListAnswer
+    ensures { λ r. ⌜ LinesWith (standsOn (now (rec .entry)) (length (now (list .entry)))) (now (list .entry)) r (now (list .exit)) ⌝ }
+{
+    own_votes_stand(rec, list)
 }
 
 // Calls the public writer of texts.

@@ -10,6 +10,7 @@ pub mod Figured
 pub mod Printed
 pub mod Families
 pub mod Differs
+pub mod Stands
 pub mod Pieces
 pub mod Readers
 pub mod Cards

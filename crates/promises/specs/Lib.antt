@@ -7,6 +7,7 @@ pub mod Figures
 pub mod Printed
 pub mod Families
 pub mod Differs
+pub mod Stands
 pub mod Pieces
 pub mod Cards
 pub mod Readers

@@ -13,7 +13,8 @@ ghost use Rattle.cards.specs.Asked.{cardOn};
 ghost use Rattle.readers.specs.Asked.{finalOn, armedOn, votesOn};
 ghost use Rattle.texts.specs.Texts.{textOn};
 ghost use Rattle.pieces.specs.State.{stateWords, frontBytes};
-ghost use Rattle.answers.specs.Face.{version, voteInput, blockInput, timeoutInput, Started, Watched, Stepped, Taken, Trayed, Wrote, MessageRead, CardRead, FinalRead, ArmedRead, VotesRead, Checked, Compared, Pieced, Ended};
+ghost use Rattle.standing.specs.Asked.{standsOn};
+ghost use Rattle.answers.specs.Face.{version, voteInput, blockInput, timeoutInput, Started, Watched, Stepped, Taken, Trayed, Wrote, MessageRead, CardRead, FinalRead, ArmedRead, VotesRead, Checked, Compared, LinesRead, Pieced, Ended};
 use answers::armed_number;
 use answers::armed_value;
 use answers::bytes_written;
@@ -26,6 +27,8 @@ use answers::differ_number;
 use answers::differ_value;
 use answers::final_number;
 use answers::final_value;
+use answers::list_number;
+use answers::list_value;
 use answers::piece_number;
 use answers::read_number;
 use answers::read_values;
@@ -58,6 +61,7 @@ use record::record_words;
 use rulebook::Input;
 use rulebook::Node;
 use rulebook::Slot;
+use standing::own_votes_stand;
 use starts::start;
 use starts::watch;
 use taking::take;
@@ -393,6 +397,16 @@ pub extern "C" fn qr_differ(
     let a = differ(first, second, list);
     *beside = differ_value(a);
     differ_number(a)
+}
+
+// Lists the own votes of a record that do not stand on what the record holds from the list's front, five words a line.
+#[no_mangle]
+pub extern "C" fn qr_stands(rec: &[u64], list: &mut [u64], beside: &mut usize) -> u64
+    ensures { λ r. ⌜ LinesRead (standsOn (now (rec .entry)) (length (now (list .entry)))) (now (list .entry)) r (now (beside .exit)) (now (list .exit)) ⌝ }
+{
+    let a = own_votes_stand(rec, list);
+    *beside = list_value(a);
+    list_number(a)
 }
 
 // Writes what a number means, in a sentence, to the buffer's front.

@@ -31,7 +31,7 @@ unfoldable pub laterText : ℕ → List ℕ
 laterText n =
     choose (eqb n 7) (bytesOf "That very vote, block with parent, or timeout is already kept; or a certificate of that kind, slot and block.")
     (choose (eqb n 8) (bytesOf "Another stands in its place: a second initial vote, a fourth notar-fallback, a fifth block of a slot, a kept block with another parent, another block in a kept certificate's place, a tenth certificate of kind 3.")
-    (choose (eqb n 9) (bytesOf "The outbox is below 160 records; or the buffer below 32 bytes for a certificate, 64 for a proof (768 and 1,536 with more than 64 nodes), 16 for a vote message, 512 for a text like this; or a tray has fewer places for answers than votes; or a list fewer lines than votes differ.")
+    (choose (eqb n 9) (bytesOf "The outbox is below 160 records; or the buffer below 32 bytes for a certificate, 64 for a proof (768 and 1,536 with more than 64 nodes), 16 for a vote message, 512 for a text like this; or a tray has fewer places for answers than votes; or a list fewer lines than there are to tell.")
     (choose (eqb n 10) (bytesOf "The timeout is for a window that is not armed.")
     (choose (eqb n 11) (bytesOf "The parent slot is not below the slot, or is slot 0 with another number than genesis.")
     (choose (eqb n 12) (bytesOf "The packet ends early, or bytes remain; or a part of a vote ends a tray; or no piece was taken before the end.")

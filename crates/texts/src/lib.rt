@@ -56,7 +56,7 @@ fn put_later(line: &mut [u8], at: usize, n: u64) -> usize
         9 => put_text(
             line,
             at,
-            b"The outbox is below 160 records; or the buffer below 32 bytes for a certificate, 64 for a proof (768 and 1,536 with more than 64 nodes), 16 for a vote message, 512 for a text like this; or a tray has fewer places for answers than votes; or a list fewer lines than votes differ.",
+            b"The outbox is below 160 records; or the buffer below 32 bytes for a certificate, 64 for a proof (768 and 1,536 with more than 64 nodes), 16 for a vote message, 512 for a text like this; or a tray has fewer places for answers than votes; or a list fewer lines than there are to tell.",
         ),
         10 => put_text(line, at, b"The timeout is for a window that is not armed."),
         11 => put_text(
