@@ -18,8 +18,8 @@
  * with the version that it began them with, since a fresh node knows nothing of its own earlier votes and could vote against them.
  *
  * Answers. Every operation answers a number: 0 where it is done, else why not (enum qr_number). A refusal changes none
- * of the record, the outbox and the buffers, and puts zeros into the places for the values beside it; qr_differ says what stands
- * there beside its two, the checks what *missing gets beside 15, and qr_end what it does to its state. A number that is out of
+ * of the record, the outbox and the buffers, and puts zeros into the places for the values beside it; qr_differ and qr_stands say what stands
+ * there beside theirs, the checks what *missing gets beside 15, and qr_end what it does to its state. A number that is out of
  * range, a slot of 99 or a kind of 7, is not a fault of the host: it has its own refusal.
  *
  * The archive is libquointrowel.a, made by `rt staticlib quointrowel`, for x86-64. Of the host it wants memcpy and memset, as
@@ -105,7 +105,8 @@ enum qr_size {
     QR_VOTE_BYTES = 16,        /* bytes of a buffer for a vote message, or more, with any table */
     QR_TEXT_BYTES = 512,       /* bytes of a buffer for a number's text, or more */
     QR_VOTES_WORDS = 7,        /* words in which a node's stored votes in a slot are told */
-    QR_LINE_WORDS = 5,         /* words of a line in a list of differences */
+    QR_LINE_WORDS = 5,         /* words of a line in a list */
+    QR_MOST_FALLEN = 96,       /* lines of own votes that do not stand, at most: six in each slot */
     QR_PIECES_WORDS = 2050,    /* words of the state of a proof in pieces, exactly */
     QR_PIECES_BYTES = 1341,    /* and bytes of it, exactly */
     QR_MOST_SMALL = 64,        /* a table of more nodes is large: its certificates have kinds 11 to 15 */
@@ -305,6 +306,24 @@ enum qr_side {
 
 uint64_t qr_differ(const uint64_t *first, size_t first_words, const uint64_t *second, size_t second_words, uint64_t *list,
                    size_t list_words, size_t *beside);
+
+/*
+ * Which own votes of a record do not stand on what the record holds, by the rule that casts each, as lines from the list's front,
+ * QR_LINE_WORDS each: slot, own number, kind, block and the rule; ascending by slot and kind, at most QR_MOST_FALLEN lines. A notar
+ * vote stands on a kept block whose parent fits, a notar-fallback on another own initial vote, the weights and what rule D waits for,
+ * a skip-fallback on an own notar vote and the weights, a final vote on an own notar vote, no own fallback and kind 2 held; a skip
+ * stands on nothing. *beside gets the number of lines; words of the list past them stay. A record that this library left has none at
+ * any moment, so a saved record that has one was altered, or not made by this library. Refusals: 17; 9, and *beside gets the number
+ * of lines needed.
+ */
+enum qr_rule {
+    QR_RULE_B = 2,
+    QR_RULE_C = 3,
+    QR_RULE_D = 4,
+    QR_RULE_E = 5
+};
+
+uint64_t qr_stands(const uint64_t *record, size_t record_words, uint64_t *list, size_t list_words, size_t *beside);
 
 /*
  * Writes what a number of enum qr_number means, a sentence for people, to the buffer's front, which has at least QR_TEXT_BYTES bytes,

@@ -50,6 +50,7 @@ static void end(void) { qr_end(state, QR_PIECES_WORDS, front, QR_PIECES_BYTES, v
 static void read_vote(void) { qr_read_vote(nodes, packet, packet_bytes, values); }
 static void write_vote(void) { qr_write_vote(buffer, QR_VOTE_BYTES, &written, nodes, 1, nodes - 1, 16, UINT64_MAX); }
 static void differ(void) { qr_differ(record, words, other, words, list, list_words, &made); }
+static void stands(void) { qr_stands(record, words, list, list_words, &made); }
 static void refusal_text(void) { qr_refusal_text(buffer, sizeof buffer, &written, number); }
 static void version(void) { qr_version(); }
 static void sizes(void) { qr_record_words(nodes); qr_outbox_words(); qr_pieces_words(); qr_pieces_bytes(); }
@@ -65,7 +66,7 @@ static struct function {
     {"qr_write_proof", write_proof, 0}, {"qr_card", card, 0}, {"qr_final_block", final_block, 0}, {"qr_is_armed", is_armed, 0},
     {"qr_kept_votes", kept_votes, 0}, {"qr_check_certificate", check_certificate, 0}, {"qr_check_proof", check_proof, 0},
     {"qr_piece", piece, 0}, {"qr_end", end, 0}, {"qr_read_vote", read_vote, 0}, {"qr_write_vote", write_vote, 0},
-    {"qr_differ", differ, 0}, {"qr_refusal_text", refusal_text, 0}, {"qr_version", version, 0}, {"qr_record_words and the other sizes", sizes, 0},
+    {"qr_differ", differ, 0}, {"qr_stands", stands, 0}, {"qr_refusal_text", refusal_text, 0}, {"qr_version", version, 0}, {"qr_record_words and the other sizes", sizes, 0},
 };
 enum { FUNCTIONS = sizeof functions / sizeof *functions };
 

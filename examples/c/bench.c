@@ -328,6 +328,31 @@ static void show_differences(uint64_t *record, uint64_t *outbox)
     printf("; no record: %" PRIu64 ", side %zu\n", number, lines);
 }
 
+/* A record that the library left, and its words under another member's number, whose votes do not stand on them. */
+static void show_standing(uint64_t *record, uint64_t *outbox)
+{
+    const uint64_t stakes[3] = {4, 3, 3};
+    uint64_t list[2 * QR_LINE_WORDS] = {0};
+    size_t words = QR_RECORD_WORDS(3), made, lines;
+
+    qr_start(record, words, stakes, 3, 0, 1);
+    qr_vote(record, words, outbox, QR_OUTBOX_WORDS, &made, QR_VOTE_NOTAR, 2, 1, 9);
+    qr_vote(record, words, outbox, QR_OUTBOX_WORDS, &made, QR_VOTE_FINAL, 2, 1, 0);
+    uint64_t number = qr_stands(record, words, list, 0, &lines);
+    printf("own votes that do not stand: %" PRIu64 ", %zu lines", number, lines);
+    record[2] = 2;
+    number = qr_stands(record, words, list, QR_LINE_WORDS, &lines);
+    printf("; under number 2: %" PRIu64 ", %zu needed", number, lines);
+    number = qr_stands(record, words, list, 2 * QR_LINE_WORDS, &lines);
+    printf(", %" PRIu64 ", %zu lines:", number, lines);
+    for (size_t i = 0; i < lines; i++) {
+        const uint64_t *line = list + i * QR_LINE_WORDS;
+        printf(" %" PRIu64 ",%" PRIu64 ",%" PRIu64 ",%" PRIu64 ",%" PRIu64, line[0], line[1], line[2], line[3], line[4]);
+    }
+    number = qr_stands(record, words - 1, list, QR_LINE_WORDS, &lines);
+    printf("; no record: %" PRIu64 ", %zu\n", number, lines);
+}
+
 int main(void)
 {
     const uint64_t stakes[1] = {5};
@@ -373,6 +398,7 @@ int main(void)
     show_watching(record, outbox);
     show_large(outbox);
     show_differences(record, outbox);
+    show_standing(record, outbox);
     show_pieces(stakes, 1, long_proof, sizeof long_proof);
     show_text(QR_DONE);
     show_text(QR_BAD_SLOT);

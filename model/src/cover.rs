@@ -57,6 +57,7 @@ const COMMANDS: &[&str] = &[
     "end",
     "aside",
     "differ",
+    "stands",
 ];
 
 pub fn cover(seed: u64, count: u64) -> Cover {
@@ -200,6 +201,7 @@ impl Cover {
             "end" if number != "?" => self.take_end(number),
             "card" if number == "0" => self.take_card(panel, words[1]),
             "differ" if number != "?" => self.take_differ(panel, &answered),
+            "stands" if number == "0" => self.take_stands(panel),
             "unpack" if number == "0" => self.note(format!("unpack 0, {} bytes", words[2].len() / 2)),
             "check" | "checkproof" if number != "?" => self.take_checked(&words, number),
             _ => {}
@@ -293,6 +295,21 @@ impl Cover {
     }
 
     /// What a comparison found, and between which nodes.
+    /// Which own votes were there to be asked about.
+    fn take_stands(&mut self, panel: &Panel) {
+        let node = match &panel.node {
+            Some(node) if node.own().is_some() => node,
+            _ => return self.note("stands: a watcher"),
+        };
+        let votes: Vec<_> = (1..=LAST_SLOT).flat_map(|slot| node.own_cell(slot).votes()).collect();
+        if votes.is_empty() {
+            self.note("stands: no own vote");
+        }
+        for vote in votes {
+            self.note(format!("stands: an own vote of kind {}", vote.kind()));
+        }
+    }
+
     fn take_differ(&mut self, panel: &Panel, answered: &[&str]) {
         let (aside, node) = match (&panel.aside, &panel.node) {
             (Some(aside), Some(node)) => (aside, node),

@@ -13,6 +13,7 @@ mod random;
 mod refusal;
 mod rings;
 mod stakes;
+mod stands;
 #[cfg(test)]
 mod tests;
 mod tuned;

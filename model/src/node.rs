@@ -814,7 +814,7 @@ impl Node {
         skipped || fall_back
     }
 
-    fn safe_to_notar(&self, slot: u64, block: u64) -> bool {
+    pub fn safe_to_notar(&self, slot: u64, block: u64) -> bool {
         let notar = self.notar_weight(slot, block);
         let reaches = |weight, threshold| self.stakes.reaches(weight, threshold);
         reaches(notar, P40) || (reaches(notar, P20) && reaches(self.skip_weight(slot) + notar, P60))
@@ -822,7 +822,7 @@ impl Node {
 
     /// Whether the block is kept with a parent whose notar-fallback certificate
     /// is held. Genesis has none.
-    fn is_kept_upon_certified(&self, slot: u64, number: u64) -> bool {
+    pub fn is_kept_upon_certified(&self, slot: u64, number: u64) -> bool {
         self.kept_blocks(slot).iter().any(|kept| {
             kept.number == number
                 && kept.parent_slot != 0
@@ -851,7 +851,7 @@ impl Node {
         skipped || fall_back
     }
 
-    fn safe_to_skip(&self, slot: u64) -> bool {
+    pub fn safe_to_skip(&self, slot: u64) -> bool {
         let notars: Vec<u64> =
             self.notar_blocks(slot).into_iter().map(|b| self.notar_weight(slot, b)).collect();
         let all: u64 = notars.iter().sum();

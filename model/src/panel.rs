@@ -6,6 +6,7 @@ use crate::node::{is_slot, Card, Node, Record, Vote};
 use crate::packet;
 use crate::refusal::Refusal;
 use crate::stakes::{Family, Stakes};
+use crate::stands::{fallen, Fallen};
 use std::collections::BTreeSet;
 
 /// Counted without the line's end.
@@ -72,6 +73,7 @@ enum Command {
     Look,
     Aside,
     Differ,
+    Stands,
     Cert { kind: u64, slot: u64, block: u64 },
     Proof { slot: u64, block: u64 },
     Check { packet: Vec<u8>, stakes: Vec<u64> },
@@ -147,6 +149,10 @@ impl Panel {
                 (None, _) => show_no_record(1),
                 (_, None) => show_no_record(2),
                 (Some(aside), Some(node)) => show_lines(&differ(aside, node)),
+            },
+            Command::Stands => match &self.node {
+                None => show_no_record(0),
+                Some(node) => show_fallen(&fallen(node)),
             },
             Command::Cert { kind, slot, block } => {
                 show_packet(&packet::write_cert(self.node()?, kind, slot, block)?)
@@ -226,6 +232,7 @@ fn parse(words: &[&[u8]]) -> Result<Command, Malformed> {
         }
         b"aside" => numbers::<0>(rest).map(|_| Command::Aside),
         b"differ" => numbers::<0>(rest).map(|_| Command::Differ),
+        b"stands" => numbers::<0>(rest).map(|_| Command::Stands),
         b"vote" => {
             let [kind, node, slot, block] = numbers(rest)?;
             Ok(Command::Vote { kind, node, slot, block })
@@ -372,6 +379,15 @@ fn show_lines(lines: &[Line]) -> String {
     for l in lines {
         let (slot, node, kind, block) = l.vote;
         shown += &format!(" {slot},{node},{kind},{block},{}", l.side);
+    }
+    shown
+}
+
+/// Six votes a slot at most, so there is always room.
+fn show_fallen(fallen: &[Fallen]) -> String {
+    let mut shown = format!("0 {}", fallen.len());
+    for f in fallen {
+        shown += &format!(" {},{},{},{},{}", f.slot, f.node, f.vote.kind(), f.vote.block(), f.rule());
     }
     shown
 }

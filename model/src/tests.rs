@@ -758,6 +758,92 @@ fn own_skips_of_a_timeout_come_before_the_rules() {
     assert_eq!(timeout(&mut n, 3), [(3, 1, 0), (3, 2, 0), (3, 3, 0), (3, 4, 0), (7, 5, 0)]);
 }
 
+// ---- which own votes do not stand ----
+
+/// What is answered of a node with these votes laid in, by slot, node and vote.
+fn stands(node: &Node, votes: &[(u64, usize, Vote)]) -> String {
+    let mut panel = Panel::default();
+    panel.node = Some(node.clone().with_votes(votes.to_vec()));
+    panel.line(b"stands").unwrap().lines().concat()
+}
+
+#[test]
+fn own_votes_that_the_rules_cast_stand() {
+    assert_eq!(
+        run("stands\nstart 0 1 5\nstands\nblock 1 7 0 1\nstands\nstands 1")[..],
+        ["17 0", "0", "0 0", "0 4 7,1,0 1,1,7 5,1,0 6,1,7", "0 0", "?"]
+    );
+    // A block of each rule: B in a first and in a later slot, C, D upon a parent, E.
+    let mut n = ten();
+    block(&mut n, 1, 7, 0, 1);
+    votes(&mut n, 1, 1..=5, 1, 7);
+    block(&mut n, 2, 8, 1, 7);
+    votes(&mut n, 1, 1..=4, 2, 9);
+    block(&mut n, 2, 9, 1, 7);
+    votes(&mut n, 3, 5..=8, 2, 0);
+    let kinds: Vec<u64> = (1..=LAST_SLOT).flat_map(|slot| n.own_cell(slot).votes()).map(Vote::kind).collect();
+    assert_eq!(kinds, [1, 5, 1, 2, 4, 3, 3]);
+    assert_eq!(stands(&n, &[]), "0 0");
+    // A watcher has none.
+    assert_eq!(run("watch 1 1 1\nstands").last().unwrap(), "0 0");
+}
+
+#[test]
+fn own_votes_on_nothing_fall_by_their_rules() {
+    use Vote::*;
+    let five = node(3, &[1; 5]);
+    let own = |votes: &[Vote]| votes.iter().map(|&vote| (16, 3, vote)).collect::<Vec<_>>();
+    let all = own(&[Notar(7), NotarFallback(8), NotarFallback(9), NotarFallback(10), SkipFallback, Final]);
+    let lines = "16,3,1,7,2 16,3,2,8,4 16,3,2,9,4 16,3,2,10,4 16,3,4,0,5 16,3,5,0,3";
+    assert_eq!(stands(&five, &all), format!("0 6 {lines}"));
+    // A skip asks for nothing, and the votes of others are not asked about.
+    assert_eq!(stands(&five, &own(&[Skip])), "0 0");
+    assert_eq!(stands(&five, &[(1, 0, Notar(7)), (1, 0, Final)]), "0 0");
+}
+
+/// Each test with all that it asks for, and with one thing less.
+#[test]
+fn what_each_own_vote_stands_on() {
+    use Vote::*;
+    let five = node(0, &[1; 5]);
+    let others = |kind: Vote, nodes: std::ops::Range<usize>| nodes.map(move |node| (1, node, kind));
+    // D: another initial vote, and the weights.
+    let d = |own: Vote, voters: usize| {
+        let mut votes = vec![(1, 0, own), (1, 0, NotarFallback(7))];
+        votes.extend(others(Notar(7), 1..1 + voters));
+        stands(&five, &votes)
+    };
+    assert_eq!(d(Skip, 2), "0 0");
+    assert_eq!(d(Skip, 1), "0 1 1,0,2,7,4");
+    assert_eq!(d(Notar(7), 2), "0 2 1,0,1,7,2 1,0,2,7,4");
+    // E: an own notar vote, and the weights; the notar vote itself falls here.
+    let e = |own: Vote, skips: usize| {
+        let mut votes = vec![(1, 0, own), (1, 0, SkipFallback)];
+        votes.extend(others(Skip, 1..1 + skips));
+        stands(&five, &votes)
+    };
+    assert_eq!(e(Notar(7), 2), "0 1 1,0,1,7,2");
+    assert_eq!(e(Notar(7), 1), "0 2 1,0,1,7,2 1,0,4,0,5");
+    assert_eq!(e(Skip, 2), "0 1 1,0,4,0,5");
+    // C: kind 2, and no own fallback of either kind.
+    let c = |more: &[Vote], voters: usize| {
+        let mut votes = vec![(1, 0, Notar(7)), (1, 0, Final)];
+        votes.extend(more.iter().map(|&vote| (1, 0, vote)));
+        votes.extend(others(Notar(7), 1..1 + voters));
+        stands(&five, &votes)
+    };
+    assert_eq!(c(&[], 2), "0 1 1,0,1,7,2");
+    assert_eq!(c(&[], 1), "0 2 1,0,1,7,2 1,0,5,0,3");
+    assert_eq!(c(&[SkipFallback], 2), "0 3 1,0,1,7,2 1,0,4,0,5 1,0,5,0,3");
+    assert_eq!(c(&[NotarFallback(8)], 2), "0 3 1,0,1,7,2 1,0,2,8,4 1,0,5,0,3");
+    // B: the block with a parent that fits; any kept block of that number will do.
+    let mut kept = node(0, &[1; 5]).with_votes(vec![(1, 0, Notar(8))]);
+    kept.block(1, 9, 0, 1).unwrap();
+    assert_eq!(stands(&kept, &[]), "0 1 1,0,1,8,2");
+    kept.block(1, 8, 0, 1).unwrap();
+    assert_eq!(stands(&kept, &[]), "0 0");
+}
+
 // ---- which votes differ ----
 
 #[test]
@@ -1713,6 +1799,7 @@ const POSSIBLE: &[(&str, &[u64])] = &[
     ("checkproof", &[0, 1, 3, 4, 5, 12, 13, 14, 15, 16]),
     ("aside", &[0, 17]),
     ("differ", &[0, 17]),
+    ("stands", &[0, 17]),
     ("piece", &[1]),
     ("end", &[0, 4, 12, 13, 14, 15, 16]),
     ("votes", &[0, 17]),
@@ -1864,6 +1951,13 @@ const BRANCHES: &[&str] = &[
     "skip after skip-fallback",
     "skip-fallback after skip",
     "skip-fallback before an initial vote",
+    "stands: no own vote",
+    "stands: a watcher",
+    "stands: an own vote of kind 1",
+    "stands: an own vote of kind 2",
+    "stands: an own vote of kind 3",
+    "stands: an own vote of kind 4",
+    "stands: an own vote of kind 5",
     "differ: no line",
     "differ: lines of one side",
     "differ: lines of both sides",

@@ -76,6 +76,9 @@ differText = 100 ∷ 105 ∷ 102 ∷ 102 ∷ 101 ∷ 114 ∷ []
 abbrev pub saveText : List ℕ
 saveText = 115 ∷ 97 ∷ 118 ∷ 101 ∷ []
 
+abbrev pub standsText : List ℕ
+standsText = 115 ∷ 116 ∷ 97 ∷ 110 ∷ 100 ∷ 115 ∷ []
+
 abbrev pub boardText : List ℕ
 boardText = 98 ∷ 111 ∷ 97 ∷ 114 ∷ 100 ∷ []
 
@@ -91,15 +94,19 @@ helpText = 104 ∷ 101 ∷ 108 ∷ 112 ∷ []
 abbrev pub quitText : List ℕ
 quitText = 113 ∷ 117 ∷ 105 ∷ 116 ∷ []
 
--- The command that a word is, asked for in six lists: "board", "votes", "why", "help" and "quit" are for people,
+-- The command that a word is, asked for in seven lists: "board", "votes", "why", "help" and "quit" are for people,
 unfoldable pub viewOf : List ℕ → Command
 viewOf w =
     choose (sameText w boardText) command.Board (choose (sameText w votesText) command.Votes (choose (sameText w whyText) command.Why (choose (sameText w helpText) command.Help (choose (sameText w quitText) command.Quit (command.Other)))))
 
+-- "stands" is for the inquest,
+unfoldable pub inquestOf : List ℕ → Command
+inquestOf w = choose (sameText w standsText) command.Stands (viewOf w)
+
 -- "aside", "differ" and "save" are for comparing nodes,
 unfoldable pub comparedOf : List ℕ → Command
 comparedOf w =
-    choose (sameText w asideText) command.Aside (choose (sameText w differText) command.Differ (choose (sameText w saveText) command.Save (viewOf w)))
+    choose (sameText w asideText) command.Aside (choose (sameText w differText) command.Differ (choose (sameText w saveText) command.Save (inquestOf w)))
 
 -- "piece" and "end" are for proofs in pieces,
 unfoldable pub piecesOf : List ℕ → Command
@@ -174,6 +181,7 @@ argumentsFit command.Votes line at = exactly line at 0 || exactly line at 2
 argumentsFit command.Why line at = exactly line at 1
 argumentsFit command.Help line at = exactly line at 0
 argumentsFit command.Quit line at = exactly line at 0
+argumentsFit command.Stands line at = exactly line at 0
 argumentsFit command.Other line at = false
 
 -- The command that a line is, `Other` where it is none.
@@ -207,6 +215,7 @@ tells command.Votes = false
 tells command.Why = false
 tells command.Help = false
 tells command.Quit = false
+tells command.Stands = false
 tells command.Other = false
 
 -- A line that tells the node nothing, a line that is no command among them, leaves record and outbox as they were.

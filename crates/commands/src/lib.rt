@@ -1,6 +1,6 @@
 // Which command a line of a script is: by its first word, and by what follows it.
 ghost use mathlib.Core.Path.{_≡_};
-ghost use Rattle.commands.specs.Commands.{sameText, inputOf, questionOf, messageOf, piecesOf, comparedOf, viewOf, exactly, atLeast, oneWord, packetAndStakes, packetAlone, countAndMessage, argumentsFit, commandOf};
+ghost use Rattle.commands.specs.Commands.{sameText, inputOf, questionOf, messageOf, piecesOf, comparedOf, inquestOf, viewOf, exactly, atLeast, oneWord, packetAndStakes, packetAlone, countAndMessage, argumentsFit, commandOf};
 use hex::read_hex;
 use script::read_numbers;
 use script::word_at;
@@ -32,6 +32,7 @@ pub enum Command {
     Why,
     Help,
     Quit,
+    Stands,
     Other,
 }
 
@@ -141,6 +142,16 @@ fn compared_of(word: &[u8]) -> Command
     }
     if same(word, b"save") {
         return Command::Save;
+    }
+    inquest_of(word)
+}
+
+// The commands of the inquest.
+fn inquest_of(word: &[u8]) -> Command
+    ensures { λ r. ⌜ r ≡ inquestOf (now (word .entry)) ⌝ }
+{
+    if same(word, b"stands") {
+        return Command::Stands;
     }
     view_of(word)
 }
@@ -265,6 +276,7 @@ fn arguments_fit(c: Command, line: &[u8], at: usize) -> bool
         Command::Why => exactly(line, at, 1),
         Command::Help => exactly(line, at, 0),
         Command::Quit => exactly(line, at, 0),
+        Command::Stands => exactly(line, at, 0),
         Command::Other => false,
     }
 }

@@ -1,4 +1,5 @@
-// The commands by which two nodes are compared: a node set aside, its stored votes beside the present one's, and a record saved.
+// The commands by which nodes are compared: a node set aside, its stored votes beside the present one's, own votes that do not stand, and a
+// record saved.
 ghost use mathlib.Core.Path.{_≡_};
 ghost use Prim.Native.Nat.{_+_, _*_, _%_, _≤_};
 ghost use lib.Dec.{eqb};
@@ -13,6 +14,7 @@ use lines::put_decimal;
 use lines::put_named;
 use lines::put_text;
 use quointrowel::qr_differ;
+use quointrowel::qr_stands;
 use replies::malformed;
 use replies::number;
 use script::word_at;
@@ -23,6 +25,9 @@ use telling::node_words;
 
 // The words of 15,360 lines: more than two nodes of a ring of 64 can have.
 const LIST_WORDS: usize = 76800;
+
+// The words of 96 lines: six own votes in each of sixteen slots.
+const FALLEN_WORDS: usize = 480;
 
 // So many words of a record are written at a time: their bytes have room in a page.
 const PIECE_WORDS: usize = 8192;
@@ -100,6 +105,18 @@ pub fn differ(page: &mut [u8], kept: &[u64], rec: &[u64]) -> bool {
     let first = node_words(kept);
     let second = node_words(rec);
     let n = qr_differ(&kept[0..first], &rec[0..second], &mut list, &mut beside);
+    let used = differ_line(page, n, beside, &list);
+    send(page, used)
+}
+
+// ---- which own votes do not stand
+
+// stands
+pub fn stands(page: &mut [u8], rec: &[u64]) -> bool {
+    let mut list = [0u64; FALLEN_WORDS];
+    let mut beside = 0;
+    let words = node_words(rec);
+    let n = qr_stands(&rec[0..words], &mut list, &mut beside);
     let used = differ_line(page, n, beside, &list);
     send(page, used)
 }

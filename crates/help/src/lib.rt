@@ -98,10 +98,15 @@ fn comparisons(page: &mut [u8], at: usize) -> usize {
         p,
         b"differ                               0 N slot,node,kind,block,side .., 1 the node aside, 2 the present one; 17 SIDE, 9 LINES",
     );
-    tell_line(
+    let r = tell_line(
         page,
         q,
         b"save FILE                            0; the node's record, as ./differ reads it",
+    );
+    tell_line(
+        page,
+        r,
+        b"stands                               0 N slot,node,kind,block,rule .., own votes that do not stand, rule 2 to 5 for B to E; 9 LINES",
     )
 }
 

@@ -47,6 +47,8 @@ mod c {
                              kind: u64, node: usize, slot: usize, block: u64) -> u64;
         pub fn qr_differ(first: *const u64, first_words: usize, second: *const u64, second_words: usize,
                          list: *mut u64, list_words: usize, beside: *mut usize) -> u64;
+        pub fn qr_stands(record: *const u64, record_words: usize, list: *mut u64, list_words: usize,
+                         beside: *mut usize) -> u64;
         pub fn qr_refusal_text(buffer: *mut u8, buffer_bytes: usize, written: *mut usize, number: u64) -> u64;
     }
 }
@@ -237,6 +239,11 @@ pub fn differ(first: &[u64], second: &[u64], list: &mut [u64]) -> Counted {
     counted(|beside| unsafe {
         c::qr_differ(first.as_ptr(), first.len(), second.as_ptr(), second.len(), list, room, beside)
     })
+}
+
+pub fn stands(record: &[u64], list: &mut [u64]) -> Counted {
+    let (room, list) = (list.len(), list.as_mut_ptr());
+    counted(|beside| unsafe { c::qr_stands(record.as_ptr(), record.len(), list, room, beside) })
 }
 
 pub fn refusal_text(buffer: &mut [u8], number: u64) -> Counted {

@@ -29,6 +29,7 @@ mod face;
 mod message;
 mod record;
 mod refusal;
+mod standing;
 mod version;
 mod words;
 
@@ -37,5 +38,6 @@ pub use difference::{differences, Comparison, Difference, Side};
 pub use message::{read_vote, write_vote};
 pub use record::{Outbox, Record};
 pub use refusal::Refusal;
+pub use standing::{Fallen, Rule};
 pub use version::{version, VERSION};
 pub use words::{Block, Card, CertificateKind, Event, Node, Slot, Vote, VoteKind, Weight};

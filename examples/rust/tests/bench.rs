@@ -140,6 +140,21 @@ fn a_record_is_read() {
 }
 
 #[test]
+fn own_votes_stand_on_what_a_record_holds() {
+    let (mut record, mut outbox) = (Record::start(&[4, 3, 3], Node(0), 1).unwrap(), Outbox::new());
+    let (notar, last) = (vote(VoteKind::Notar, 2, 1, 9), vote(VoteKind::Final, 2, 1, 0));
+    record.vote(&mut outbox, notar).unwrap();
+    record.vote(&mut outbox, last).unwrap();
+    assert_eq!(record.fallen(), Ok(vec![]));
+    // The words under another member's number: its votes do not stand on them.
+    let mut words = record.words().to_vec();
+    words[2] = 2;
+    let found = vec![Fallen { vote: notar, rule: Rule::B }, Fallen { vote: last, rule: Rule::C }];
+    assert_eq!(Record::from_words(words).fallen(), Ok(found));
+    assert_eq!(Record::from_words(vec![]).fallen(), Err(Refusal::BadRecord));
+}
+
+#[test]
 fn two_records_are_compared() {
     let start = |own| Record::start(&[4, 3, 3], Node(own), 1).unwrap();
     let (mut tokyo, mut zurich, mut outbox) = (start(0), start(1), Outbox::new());

@@ -96,6 +96,7 @@ fn begin_any(mut random: Random, mut ring: Ring, least: u64, most: u64) -> Write
 
 fn end(mut w: Writer) -> Script {
     w.ask_for_votes();
+    w.say("stands");
     if w.random.percent(11) {
         malformed::long_silence(&mut w);
     }
@@ -334,6 +335,7 @@ fn before_start(mut random: Random) -> Script {
         "aside",
         "differ",
         "differ",
+        "stands",
     ];
     let ring = Ring::small(&mut random);
     let budget = random.range(3, 40) as usize;

@@ -100,7 +100,7 @@ impl Writer {
         self.text += if crlf { "\r\n" } else { "\n" };
         let answer = answer.map_or(vec![], Answer::lines);
         self.commands += 1;
-        self.unstarted |= answer == ["17"] || answer == ["17 1"];
+        self.unstarted |= answer == ["17"] || answer == ["17 0"] || answer == ["17 1"];
         answer
     }
 

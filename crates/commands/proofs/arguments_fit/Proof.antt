@@ -167,6 +167,12 @@ exactly-requires-19 c κs = search needs
 enum-told-26 : tie.Need-enum-told-26
 enum-told-26 c = search needs
 
+exactly-requires-20 : tie.Need-exactly-requires-20
+exactly-requires-20 c κs = search needs
+
+enum-told-27 : tie.Need-enum-told-27
+enum-told-27 c = search needs
+
 returns : tie.Need-returns
 unfolding argumentsFit
 returns c =
@@ -295,7 +301,12 @@ returns-25 c =
 returns-26 : tie.Need-returns-26
 unfolding argumentsFit
 returns-26 c =
-    simp (c .enum-told26 .given .1)
+    simp (c .before .enum-told26 .given .1, c .exactly20 .ensures)
+
+returns-27 : tie.Need-returns-27
+unfolding argumentsFit
+returns-27 c =
+    simp (c .enum-told27 .given .1)
 
 pub arguments-fit-spec : {M : Type 1} → statement M
 arguments-fit-spec =
@@ -355,6 +366,8 @@ arguments-fit-spec =
     enum-told-25
     exactly-requires-19
     enum-told-26
+    exactly-requires-20
+    enum-told-27
     returns
     returns-2
     returns-3
@@ -380,4 +393,5 @@ arguments-fit-spec =
     returns-23
     returns-24
     returns-25
-    returns-26)
+    returns-26
+    returns-27)

@@ -40,13 +40,13 @@ unfolding comparedOf
 returns-3 c =
     sym (choose-off _ _ _ (sym (c .before .before .before .before .before .before .before .same .ensures) ∙ c .before .before .before .before .before .before .if1 .left) ∙ choose-off _ _ _ (sym (c .before .before .before .before .same2 .ensures) ∙ c .before .before .before .if2 .left) ∙ choose-on _ _ _ (sym (c .before .same3 .ensures) ∙ c .if3 .taken))
 
-view-of-requires : tie.Need-view-of-requires
-view-of-requires c κs = search needs
+inquest-of-requires : tie.Need-inquest-of-requires
+inquest-of-requires c κs = search needs
 
 returns-4 : tie.Need-returns-4
 unfolding comparedOf
 returns-4 c =
-    c .view-of .ensures ∙ sym (choose-off _ _ _ (sym (c .before .before .before .before .before .before .before .before .same .ensures) ∙ c .before .before .before .before .before .before .before .if1 .left) ∙ choose-off _ _ _ (sym (c .before .before .before .before .before .same2 .ensures) ∙ c .before .before .before .before .if2 .left) ∙ choose-off _ _ _ (sym (c .before .before .same3 .ensures) ∙ c .before .if3 .left))
+    c .inquest-of .ensures ∙ sym (choose-off _ _ _ (sym (c .before .before .before .before .before .before .before .before .same .ensures) ∙ c .before .before .before .before .before .before .before .if1 .left) ∙ choose-off _ _ _ (sym (c .before .before .before .before .before .same2 .ensures) ∙ c .before .before .before .before .if2 .left) ∙ choose-off _ _ _ (sym (c .before .before .same3 .ensures) ∙ c .before .if3 .left))
 
 pub compared-of-spec : {M : Type 1} → statement M
 compared-of-spec =
@@ -61,5 +61,5 @@ compared-of-spec =
     slice-aggregate-same-3
     same-requires-3
     returns-3
-    view-of-requires
+    inquest-of-requires
     returns-4)
