@@ -31,6 +31,7 @@ mod record;
 mod refusal;
 mod standing;
 mod version;
+mod vouching;
 mod words;
 
 pub use checker::{check_certificate, check_proof, Checked, ProofInPieces};
@@ -40,4 +41,5 @@ pub use record::{Outbox, Record};
 pub use refusal::Refusal;
 pub use standing::{Fallen, Rule};
 pub use version::{version, VERSION};
+pub use vouching::Lacked;
 pub use words::{Block, Card, CertificateKind, Event, Node, Slot, Vote, VoteKind, Weight};
