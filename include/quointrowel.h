@@ -135,6 +135,7 @@ enum qr_size {
     QR_VOTES_WORDS = 7,        /* words in which a node's stored votes in a slot are told */
     QR_LINE_WORDS = 5,         /* words of a line in a list */
     QR_MOST_FALLEN = 96,       /* lines of own votes that do not stand, at most: six in each slot */
+    QR_MOST_LACKED = 528,      /* lines of votes that a record lacks, at most: 33 in each slot */
     QR_PIECES_WORDS = 2050,    /* words of the state of a proof in pieces, exactly */
     QR_PIECES_BYTES = 1341,    /* and bytes of it, exactly */
     QR_MOST_SMALL = 64,        /* a table of more nodes is large: its certificates have kinds 11 to 15 */
@@ -352,6 +353,26 @@ enum qr_rule {
 };
 
 uint64_t qr_stands(const uint64_t *record, size_t record_words, uint64_t *list, size_t list_words, size_t *beside);
+
+/*
+ * Which votes the first record counts in the name of the second's firm and the second record lacks, as lines from the list's front,
+ * QR_LINE_WORDS each: slot, the firm, kind, block and what tells of the vote, 0 a stored vote, else the kind (1 to 5) of the kept
+ * certificate that counts it; ascending by slot, stored votes before certificates, at most QR_MOST_LACKED lines. The two may be one
+ * record; of a watcher as the second there is none. A line is a dispute and no verdict: the first shows the vote's signature and the
+ * second record is false, or it cannot and its own is; and a record that is older than a vote lacks it, so ask for a later one. *beside
+ * gets the number of lines; words of the list past them stay. Refusals: 17, and *beside gets the side whose record is bad, the first if
+ * both are; 1 where the stake tables differ; 9, and *beside gets the number of lines needed.
+ */
+uint64_t qr_vouched(const uint64_t *first, size_t first_words, const uint64_t *second, size_t second_words, uint64_t *list,
+                    size_t list_words, size_t *beside);
+
+/*
+ * The same of a packet, a certificate or a proof: which votes it counts the record's firm for and the record lacks. A packet of one
+ * certificate is checked as qr_check_certificate does, a longer one as qr_check_proof, under the record's stakes. At most two lines.
+ * Refusals: 17; the checker's; 9, and *beside gets the number of lines needed.
+ */
+uint64_t qr_vouched_packet(const uint64_t *record, size_t record_words, const uint8_t *packet, size_t packet_bytes, uint64_t *list,
+                           size_t list_words, size_t *beside);
 
 /*
  * Writes what a number of enum qr_number means, a sentence for people, to the buffer's front, which has at least QR_TEXT_BYTES bytes,

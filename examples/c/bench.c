@@ -353,6 +353,38 @@ static void show_standing(uint64_t *record, uint64_t *outbox)
     printf("; no record: %" PRIu64 ", %zu\n", number, lines);
 }
 
+/* What a member counts in another's name and that one's record lacks: two votes, then a proof. */
+static void show_vouching(uint64_t *record, uint64_t *outbox)
+{
+    const uint64_t stakes[3] = {4, 3, 3}, other_stakes[3] = {4, 3, 2};
+    const uint8_t proof[10] = {0x02, 0x01, 0x09, 0x05, 0x00, 0x05, 0x01, 0x00, 0x05, 0x00};
+    static uint64_t other[QR_RECORD_WORDS(3)];
+    uint64_t list[2 * QR_LINE_WORDS] = {0};
+    size_t words = QR_RECORD_WORDS(3), made, lines;
+
+    qr_start(record, words, stakes, 3, 0, 1);
+    qr_start(other, words, stakes, 3, 2, 1);
+    qr_vote(record, words, outbox, QR_OUTBOX_WORDS, &made, QR_VOTE_NOTAR, 2, 1, 9);
+    qr_vote(record, words, outbox, QR_OUTBOX_WORDS, &made, QR_VOTE_FINAL, 2, 1, 0);
+    uint64_t number = qr_vouched(record, words, other, words, list, QR_LINE_WORDS, &lines);
+    printf("votes that the other lacks: %" PRIu64 ", %zu needed", number, lines);
+    number = qr_vouched(record, words, other, words, list, 2 * QR_LINE_WORDS, &lines);
+    printf(", %" PRIu64 ", %zu lines:", number, lines);
+    for (size_t i = 0; i < lines; i++) {
+        const uint64_t *line = list + i * QR_LINE_WORDS;
+        printf(" %" PRIu64 ",%" PRIu64 ",%" PRIu64 ",%" PRIu64 ",%" PRIu64, line[0], line[1], line[2], line[3], line[4]);
+    }
+    number = qr_vouched_packet(other, words, proof, sizeof proof, list, 2 * QR_LINE_WORDS, &lines);
+    printf("; of a proof: %" PRIu64 ", %zu lines of kinds %" PRIu64 " and %" PRIu64, number, lines, list[4], list[9]);
+    number = qr_vouched_packet(other, words, proof, sizeof proof - 1, list, 2 * QR_LINE_WORDS, &lines);
+    printf("; cut: %" PRIu64 ", %zu", number, lines);
+    qr_start(other, words, other_stakes, 3, 2, 1);
+    number = qr_vouched(record, words, other, words, list, 2 * QR_LINE_WORDS, &lines);
+    printf("; other stakes: %" PRIu64 ", %zu", number, lines);
+    number = qr_vouched(record, words, other, words - 1, list, 2 * QR_LINE_WORDS, &lines);
+    printf("; no record: %" PRIu64 ", side %zu\n", number, lines);
+}
+
 int main(void)
 {
     const uint64_t stakes[1] = {5};
@@ -399,6 +431,7 @@ int main(void)
     show_large(outbox);
     show_differences(record, outbox);
     show_standing(record, outbox);
+    show_vouching(record, outbox);
     show_pieces(stakes, 1, long_proof, sizeof long_proof);
     show_text(QR_DONE);
     show_text(QR_BAD_SLOT);

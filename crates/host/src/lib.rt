@@ -16,6 +16,8 @@ ghost use Rattle.readers.specs.Asked.{finalOn, armedOn, votesOn};
 ghost use Rattle.texts.specs.Texts.{textOn};
 ghost use Rattle.pieces.specs.State.{stateWords, frontBytes};
 ghost use Rattle.standing.specs.Asked.{standsOn};
+ghost use Rattle.vouching.specs.Asked.{vouchedOn};
+ghost use Rattle.vouched_packets.specs.Asked.{packetOn};
 ghost use Rattle.inputs.specs.Inputs.{voteInput, blockInput, timeoutInput};
 ghost use Rattle.answers.specs.Face.{version, Started, Watched, Wrote, MessageRead, CardRead, FinalRead, ArmedRead, VotesRead, Checked, Compared, LinesRead, Pieced, Ended};
 ghost use Rattle.calls.specs.Operation.{oneInput, aTray, aPacket};
@@ -58,6 +60,8 @@ use quointrowel::qr_timeout;
 use quointrowel::qr_tray;
 use quointrowel::qr_version;
 use quointrowel::qr_vote;
+use quointrowel::qr_vouched;
+use quointrowel::qr_vouched_packet;
 use quointrowel::qr_watch;
 use quointrowel::qr_write_certificate;
 use quointrowel::qr_write_proof;
@@ -84,6 +88,8 @@ use starts::watch;
 use taking::take;
 use texts::refusal_text;
 use trays::tray;
+use vouched_packets::vouched_packet;
+use vouching::vouched;
 use writers::write_certificate;
 use writers::write_proof;
 
@@ -305,6 +311,20 @@ pub fn face_stands(rec: &[u64], list: &mut [u64], beside: &mut usize) -> u64
     qr_stands(rec, list, beside)
 }
 
+// Calls qr_vouched.
+pub fn face_vouched(first: &[u64], second: &[u64], list: &mut [u64], beside: &mut usize) -> u64
+    ensures { λ r. ⌜ LinesRead (vouchedOn (now (first .entry)) (now (second .entry)) (length (now (list .entry)))) (now (list .entry)) r (now (beside .exit)) (now (list .exit)) ⌝ }
+{
+    qr_vouched(first, second, list, beside)
+}
+
+// Calls qr_vouched_packet.
+pub fn face_vouched_packet(rec: &[u64], packet: &[u8], list: &mut [u64], beside: &mut usize) -> u64
+    ensures { λ r. ⌜ LinesRead (packetOn (now (rec .entry)) (now (packet .entry)) (length (now (list .entry)))) (now (list .entry)) r (now (beside .exit)) (now (list .exit)) ⌝ }
+{
+    qr_vouched_packet(rec, packet, list, beside)
+}
+
 // Calls qr_refusal_text.
 pub fn face_refusal_text(buffer: &mut [u8], written: &mut usize, number: u64) -> u64
     ensures { λ r. ⌜ Wrote (textOn (length (now (buffer .entry))) number) (now (buffer .entry)) r (now (written .exit)) (now (buffer .exit)) ⌝ }
@@ -493,6 +513,20 @@ pub fn plain_stands(rec: &[u64], list: &mut [u64]) -> ListAnswer
     ensures { λ r. ⌜ LinesWith (standsOn (now (rec .entry)) (length (now (list .entry)))) (now (list .entry)) r (now (list .exit)) ⌝ }
 {
     own_votes_stand(rec, list)
+}
+
+// Calls the public test of two records.
+pub fn plain_vouched(one: &[u64], two: &[u64], list: &mut [u64]) -> ListAnswer
+    ensures { λ r. ⌜ LinesWith (vouchedOn (now (one .entry)) (now (two .entry)) (length (now (list .entry)))) (now (list .entry)) r (now (list .exit)) ⌝ }
+{
+    vouched(one, two, list)
+}
+
+// Calls the public test of a packet.
+pub fn plain_vouched_packet(rec: &[u64], packet: &[u8], list: &mut [u64]) -> ListAnswer
+    ensures { λ r. ⌜ LinesWith (packetOn (now (rec .entry)) (now (packet .entry)) (length (now (list .entry)))) (now (list .entry)) r (now (list .exit)) ⌝ }
+{
+    vouched_packet(rec, packet, list)
 }
 
 // Calls the public writer of texts.

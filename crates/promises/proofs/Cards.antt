@@ -37,6 +37,7 @@ use Rattle.promises.proofs.Shown.{step-shown, take-shown, tray-shown, c
 use Rattle.promises.proofs.Refused.{fed-kept, face-step-refused, face-take-refused, face-tray-refused}
 use Rattle.promises.proofs.Differs.{face-differ}
 use Rattle.promises.proofs.Stands.{face-stands}
+use Rattle.promises.proofs.Vouched.{face-vouched, face-vouched-packet}
 use Rattle.promises.proofs.Readers.{unsound-final, unsound-armed, unsound-votes}
 use Rattle.promises.proofs.Printed.{sends}
 
@@ -114,6 +115,9 @@ unsound-refused ws e =
       first = λ two list number beside left h. sided (face-differ ws two list number beside left h .first e .0);
       second = λ one list number beside left t h. sided (face-differ one ws list number beside left h .second t e .0);
       stands = λ list number beside left h. sided (face-stands ws list number beside left h .bad e .0);
+      vouches = λ two list number beside left h. sided (face-vouched ws two list number beside left h .first e .0);
+      vouched = λ one list number beside left t h. sided (face-vouched one ws list number beside left h .second t e .0);
+      packet = λ bytes list number beside left h. sided (face-vouched-packet ws bytes list number beside left h .bad e .0);
     }
   where
     sided : {number beside side : ℕ} → shownAs number beside ≡ shownAs 17 side → (number ≡ 17) × (beside ≡ side)

@@ -11,6 +11,7 @@ pub mod Printed
 pub mod Families
 pub mod Differs
 pub mod Stands
+pub mod Vouched
 pub mod Pieces
 pub mod Readers
 pub mod Cards

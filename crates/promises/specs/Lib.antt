@@ -8,6 +8,7 @@ pub mod Printed
 pub mod Families
 pub mod Differs
 pub mod Stands
+pub mod Vouched
 pub mod Pieces
 pub mod Cards
 pub mod Readers

@@ -14,6 +14,8 @@ ghost use Rattle.readers.specs.Asked.{finalOn, armedOn, votesOn};
 ghost use Rattle.texts.specs.Texts.{textOn};
 ghost use Rattle.pieces.specs.State.{stateWords, frontBytes};
 ghost use Rattle.standing.specs.Asked.{standsOn};
+ghost use Rattle.vouching.specs.Asked.{vouchedOn};
+ghost use Rattle.vouched_packets.specs.Asked.{packetOn};
 ghost use Rattle.answers.specs.Face.{version, voteInput, blockInput, timeoutInput, Started, Watched, Stepped, Taken, Trayed, Wrote, MessageRead, CardRead, FinalRead, ArmedRead, VotesRead, Checked, Compared, LinesRead, Pieced, Ended};
 use answers::armed_number;
 use answers::armed_value;
@@ -67,6 +69,8 @@ use starts::watch;
 use taking::take;
 use texts::refusal_text;
 use trays::tray;
+use vouched_packets::vouched_packet;
+use vouching::vouched;
 use writers::write_certificate;
 use writers::write_proof;
 
@@ -405,6 +409,37 @@ pub extern "C" fn qr_stands(rec: &[u64], list: &mut [u64], beside: &mut usize) -
     ensures { λ r. ⌜ LinesRead (standsOn (now (rec .entry)) (length (now (list .entry)))) (now (list .entry)) r (now (beside .exit)) (now (list .exit)) ⌝ }
 {
     let a = own_votes_stand(rec, list);
+    *beside = list_value(a);
+    list_number(a)
+}
+
+// Lists the votes that the first record counts in the name of the second's firm and the second record lacks from the list's front, five
+// words a line.
+#[no_mangle]
+pub extern "C" fn qr_vouched(
+    first: &[u64],
+    second: &[u64],
+    list: &mut [u64],
+    beside: &mut usize,
+) -> u64
+    ensures { λ r. ⌜ LinesRead (vouchedOn (now (first .entry)) (now (second .entry)) (length (now (list .entry)))) (now (list .entry)) r (now (beside .exit)) (now (list .exit)) ⌝ }
+{
+    let a = vouched(first, second, list);
+    *beside = list_value(a);
+    list_number(a)
+}
+
+// Lists the votes that a packet counts the record's firm for and the record lacks from the list's front, five words a line.
+#[no_mangle]
+pub extern "C" fn qr_vouched_packet(
+    rec: &[u64],
+    packet: &[u8],
+    list: &mut [u64],
+    beside: &mut usize,
+) -> u64
+    ensures { λ r. ⌜ LinesRead (packetOn (now (rec .entry)) (now (packet .entry)) (length (now (list .entry)))) (now (list .entry)) r (now (beside .exit)) (now (list .exit)) ⌝ }
+{
+    let a = vouched_packet(rec, packet, list);
     *beside = list_value(a);
     list_number(a)
 }

@@ -49,6 +49,10 @@ mod c {
                          list: *mut u64, list_words: usize, beside: *mut usize) -> u64;
         pub fn qr_stands(record: *const u64, record_words: usize, list: *mut u64, list_words: usize,
                          beside: *mut usize) -> u64;
+        pub fn qr_vouched(first: *const u64, first_words: usize, second: *const u64, second_words: usize,
+                          list: *mut u64, list_words: usize, beside: *mut usize) -> u64;
+        pub fn qr_vouched_packet(record: *const u64, record_words: usize, packet: *const u8, packet_bytes: usize,
+                                 list: *mut u64, list_words: usize, beside: *mut usize) -> u64;
         pub fn qr_refusal_text(buffer: *mut u8, buffer_bytes: usize, written: *mut usize, number: u64) -> u64;
     }
 }
@@ -244,6 +248,20 @@ pub fn differ(first: &[u64], second: &[u64], list: &mut [u64]) -> Counted {
 pub fn stands(record: &[u64], list: &mut [u64]) -> Counted {
     let (room, list) = (list.len(), list.as_mut_ptr());
     counted(|beside| unsafe { c::qr_stands(record.as_ptr(), record.len(), list, room, beside) })
+}
+
+pub fn vouched(first: &[u64], second: &[u64], list: &mut [u64]) -> Counted {
+    let (room, list) = (list.len(), list.as_mut_ptr());
+    counted(|beside| unsafe {
+        c::qr_vouched(first.as_ptr(), first.len(), second.as_ptr(), second.len(), list, room, beside)
+    })
+}
+
+pub fn vouched_packet(record: &[u64], packet: &[u8], list: &mut [u64]) -> Counted {
+    let (room, list) = (list.len(), list.as_mut_ptr());
+    counted(|beside| unsafe {
+        c::qr_vouched_packet(record.as_ptr(), record.len(), packet.as_ptr(), packet.len(), list, room, beside)
+    })
 }
 
 pub fn refusal_text(buffer: &mut [u8], number: u64) -> Counted {

@@ -33,6 +33,7 @@ mod refusal;
 mod standing;
 mod store;
 mod version;
+mod vouching;
 mod words;
 
 pub use checker::{check_certificate, check_proof, Checked, ProofInPieces};
@@ -43,4 +44,5 @@ pub use refusal::Refusal;
 pub use standing::{Fallen, Rule};
 pub use store::{Kept, Store, Unread};
 pub use version::{version, VERSION};
+pub use vouching::Lacked;
 pub use words::{Block, Card, CertificateKind, Event, Node, Slot, Vote, VoteKind, Weight};

@@ -155,6 +155,25 @@ fn own_votes_stand_on_what_a_record_holds() {
 }
 
 #[test]
+fn a_record_tells_of_the_votes_that_others_count_it_for() {
+    let start = |own| Record::start(&[4, 3, 3], Node(own), 1).unwrap();
+    let (mut tokyo, zurich, mut outbox) = (start(0), start(2), Outbox::new());
+    let (notar, last) = (vote(VoteKind::Notar, 2, 1, 9), vote(VoteKind::Final, 2, 1, 0));
+    assert_eq!(tokyo.lacked_by(&zurich), Ok(vec![]));
+    tokyo.vote(&mut outbox, notar).unwrap();
+    let stored = Lacked { vote: notar, certificate: None };
+    assert_eq!(tokyo.lacked_by(&zurich), Ok(vec![stored]));
+    assert_eq!(zurich.lacked_by(&tokyo), Ok(vec![]));
+    // A proof for block 9 that tokyo and zurich signed.
+    let proof = [2, 1, 9, 5, 0, 5, 1, 0, 5, 0];
+    let counted = [(notar, CertificateKind::Notar), (last, CertificateKind::Final)];
+    let counted = counted.map(|(vote, kind)| Lacked { vote, certificate: Some(kind) });
+    assert_eq!(zurich.lacks_of(&proof), Ok(counted.to_vec()));
+    assert_eq!(zurich.lacks_of(&proof[..9]), Err(Refusal::BadLength));
+    assert_eq!(Record::start(&[4, 3, 2], Node(2), 1).unwrap().lacked_by(&tokyo), Err(Refusal::BadSizes));
+}
+
+#[test]
 fn two_records_are_compared() {
     let start = |own| Record::start(&[4, 3, 3], Node(own), 1).unwrap();
     let (mut tokyo, mut zurich, mut outbox) = (start(0), start(1), Outbox::new());
