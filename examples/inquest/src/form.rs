@@ -61,6 +61,12 @@ impl Form<'_> {
         cells[CELL_WORDS * node.0..][..CELL_WORDS].try_into().expect("seven words")
     }
 
+    /// The initial votes that this record stores in the firm's name.
+    pub fn initial_votes(&self, node: Node) -> Vec<Vote> {
+        let is_initial = |vote: &Vote| matches!(vote.kind, VoteKind::Notar | VoteKind::Skip);
+        slots().flat_map(|slot| votes_of(slot, node, self.cell(slot, node))).filter(is_initial).collect()
+    }
+
     /// The firm's own votes, slot by slot.
     pub fn cells(&self, node: Node) -> Vec<Cell> {
         slots().map(|slot| self.cell(slot, node)).collect()

@@ -31,6 +31,9 @@ pub enum State {
 /// A block of a slot and a number with a parent (slot and number), and the records that keep it so.
 pub type Told = BTreeMap<(usize, u64), BTreeMap<(usize, u64), Vec<usize>>>;
 
+/// Of a firm and a slot the initial votes that records store in its name, with the places of these records.
+pub type Initials = BTreeMap<(usize, usize), BTreeMap<Vote, Vec<usize>>>;
+
 pub struct Findings {
     pub stakes: Vec<u64>,
     pub handed: Vec<Handed>,
@@ -38,6 +41,8 @@ pub struct Findings {
     /// Of each firm the place of its record.
     pub seats: Vec<Option<usize>>,
     pub lacking: Lacking,
+    /// Of silent firms the slots in which others store two initial votes in their name.
+    pub twice: Initials,
     /// Packets that contradict one another in a slot.
     pub clashes: Vec<Pair>,
     /// Proofs of two slots that are not on one chain.
@@ -57,8 +62,8 @@ impl Findings {
         }
         let mut lacking = if handed.len() > MOST_ASKED { by_form(&handed)? } else { by_library(&handed)? };
         of_packets(&handed, &packets, &mut lacking)?;
-        let (clashes, parents) = (contradicting(&packets), told_twice(&handed));
-        let mut found = Findings { stakes, handed, packets, seats, lacking, clashes, apart: Vec::new(), parents };
+        let (clashes, parents, twice) = (contradicting(&packets), told_twice(&handed), voted_twice(&handed, &seats)?);
+        let mut found = Findings { stakes, handed, packets, seats, lacking, twice, clashes, apart: Vec::new(), parents };
         found.apart = apart(&found.packets, &found.clear_blocks());
         Ok(found)
     }
@@ -115,7 +120,7 @@ impl Findings {
     }
 
     pub fn is_quiet(&self) -> bool {
-        let nobody = self.firms(State::Contradicted).is_empty();
+        let nobody = self.firms(State::Contradicted).is_empty() && self.twice.is_empty();
         nobody && self.clashes.is_empty() && self.apart.is_empty() && self.parents.is_empty()
     }
 }
@@ -185,6 +190,21 @@ fn of_packets(handed: &[Handed], packets: &[Packet], lacking: &mut Lacking) -> R
         }
     }
     Ok(())
+}
+
+/// A silent firm has no record to be held against: what is left is that others tell two initial votes of it, which no node casts.
+fn voted_twice(handed: &[Handed], seats: &[Option<usize>]) -> Result<Initials, String> {
+    let silent: Vec<usize> = (0..seats.len()).filter(|&firm| seats[firm].is_none()).collect();
+    let mut twice = Initials::new();
+    for (witness, file) in handed.iter().enumerate().filter(|_| !silent.is_empty()) {
+        let record = file.record()?;
+        let form = Form::of(&record);
+        for vote in silent.iter().flat_map(|&firm| form.initial_votes(Node(firm))) {
+            twice.entry((vote.node.0, vote.slot.0)).or_default().entry(vote).or_default().push(witness);
+        }
+    }
+    twice.retain(|_, votes| votes.len() > 1);
+    Ok(twice)
 }
 
 fn told_twice(handed: &[Handed]) -> Told {

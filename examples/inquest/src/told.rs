@@ -16,8 +16,9 @@ pub fn report(found: &Findings) -> String {
     packets(&mut out, found);
     sums(&mut out, found);
     for firm in 0..found.stakes.len() {
-        if let Some(record) = found.record_of(firm) {
-            against(&mut out, found, firm, record);
+        match found.record_of(firm) {
+            Some(record) => against(&mut out, found, firm, record),
+            None => against_silent(&mut out, found, firm),
         }
     }
     parents(&mut out, found);
@@ -116,6 +117,21 @@ fn against(out: &mut String, found: &Findings, firm: usize, record: &Handed) {
     }
 }
 
+/// What others tell of a firm that handed in nothing, where it cannot all be true.
+fn against_silent(out: &mut String, found: &Findings, firm: usize) {
+    let slots: Vec<_> = found.twice.range((firm, 0)..(firm + 1, 0)).collect();
+    if slots.is_empty() {
+        return;
+    }
+    let _ = write!(out, "\nfirm {firm}: silent; {}\n", percent(found.stakes[firm], found.total()));
+    for ((_, slot), votes) in slots {
+        line(out, 2, &format!("slot {slot}: others count it for {} initial votes, and a node casts one", votes.len()));
+        for (vote, places) in votes {
+            line(out, 4, &format!("dispute: {}: stored in {}", vote_words(*vote), keepers(found, places)));
+        }
+    }
+}
+
 /// Who shows a vote, those of one kind together.
 fn shows(out: &mut String, found: &Findings, shown: &BTreeSet<Shown>) {
     let records: Vec<usize> = witnesses(shown, |kind| kind.is_none());
@@ -177,7 +193,9 @@ fn parents(out: &mut String, found: &Findings) {
 
 /// What is to be asked for next, of whom.
 fn asked(out: &mut String, found: &Findings) {
-    let wanted = [signatures(found), kept_certificates(found), later_records(found), missing_records(found)].concat();
+    let wanted =
+        [signatures(found), both_signatures(found), kept_certificates(found), later_records(found), missing_records(found)]
+            .concat();
     if wanted.is_empty() {
         return;
     }
@@ -185,6 +203,9 @@ fn asked(out: &mut String, found: &Findings) {
     wanted.iter().for_each(|text| line(out, 2, text));
     if !found.lacking.is_empty() {
         line(out, 0, "A dispute is no verdict: where the signature is shown, the firm's record is false; where nobody can show it, what counts the vote is.");
+    }
+    if !found.twice.is_empty() {
+        line(out, 0, "Where both signatures of a silent firm are shown, it signed two initial votes, which no node does.");
     }
 }
 
@@ -203,6 +224,13 @@ fn signatures(found: &Findings) -> Vec<String> {
         of.join("; of ")
     };
     votes.map(|(firm, vote, shown)| format!("firm {firm}'s signature on {}: of {}", vote_words(vote), of(shown))).collect()
+}
+
+/// Of a silent firm's two initial votes both signatures.
+fn both_signatures(found: &Findings) -> Vec<String> {
+    let votes = found.twice.iter().flat_map(|((firm, _), votes)| votes.iter().map(move |(vote, places)| (firm, *vote, places)));
+    let of = |places: &[usize]| format!("who handed in {}", keepers(found, places));
+    votes.map(|(firm, vote, places)| format!("firm {firm}'s signature on {}: of {}", vote_words(vote), of(places))).collect()
 }
 
 /// Of records against themselves the certificates that they keep; the chain alone asks for it.
@@ -230,7 +258,7 @@ fn later_records(found: &Findings) -> Vec<String> {
 /// Who handed in nothing is asked where something contradicts.
 fn missing_records(found: &Findings) -> Vec<String> {
     let silent = if found.is_quiet() { Vec::new() } else { found.firms(State::Silent) };
-    named(&silent, "a record", "who hands in none is not blameless, and nothing is shown of it either")
+    named(&silent, "a record", "who hands in none is not blameless")
 }
 
 fn named(firms: &[usize], what: &str, why: &str) -> Vec<String> {
