@@ -41,4 +41,4 @@ pub use record::{Outbox, Record};
 pub use refusal::Refusal;
 pub use store::{Kept, Store, Unread};
 pub use version::{version, VERSION};
-pub use words::{Block, Card, CertificateKind, Event, Node, Slot, Vote, VoteKind, Weight};
+pub use words::{Block, Card, CertificateKind, Event, Head, Marks, Node, Slot, Vote, VoteKind, Weight};
