@@ -73,7 +73,7 @@ headKept ws =
 
 -- 17, then whose record it is and of which ring.
 unfoldable pub headOn : List ℕ → HeadAnswer
-headOn ws = given (soundWords ws) (head.Refused refusal.BadRecord) (λ _. head.Head (headKept ws))
+headOn ws = whenever (soundWords ws) (λ _. head.Head (headKept ws)) (head.Refused refusal.BadRecord)
 
 -- The number on the panel and the block beside it, 0 beside a refusal.
 unfoldable pub finalPanel : FinalAnswer → Panel
