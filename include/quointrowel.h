@@ -133,6 +133,7 @@ enum qr_size {
     QR_VOTE_BYTES = 16,        /* bytes of a buffer for a vote message, or more, with any table */
     QR_TEXT_BYTES = 512,       /* bytes of a buffer for a number's text, or more */
     QR_VOTES_WORDS = 7,        /* words in which a node's stored votes in a slot are told */
+    QR_BLOCKS_WORDS = 12,      /* words in which a slot's kept blocks are told, three for each of four places */
     QR_LINE_WORDS = 5,         /* words of a line in a list */
     QR_MOST_FALLEN = 96,       /* lines of own votes that do not stand, at most: six in each slot */
     QR_MOST_LACKED = 528,      /* lines of votes that a record lacks, at most: 33 in each slot */
@@ -271,6 +272,24 @@ uint64_t qr_is_armed(const uint64_t *record, size_t record_words, size_t slot, u
  * vote; 1 for a final vote. 0 for each that is not stored, and zeros beside a refusal. Refusals: 17, 3, 2.
  */
 uint64_t qr_kept_votes(const uint64_t *record, size_t record_words, size_t slot, size_t node, uint64_t values[QR_VOTES_WORDS]);
+
+/*
+ * The blocks that a slot keeps into values: three words for each of its four places, in the order in which they were announced: the
+ * block's number, its parent's slot and its parent's number. Zeros in a place that is empty, and beside a refusal. Refusals: 17, 3.
+ */
+uint64_t qr_kept_blocks(const uint64_t *record, size_t record_words, size_t slot, uint64_t values[QR_BLOCKS_WORDS]);
+
+/*
+ * A slot's two marks into values: 1 where its timeout was taken, else 0; 1 where another final block was told of it
+ * (QR_RECORD_CONFLICT), else 0. Zeros beside a refusal. Refusals: 17, 3.
+ */
+uint64_t qr_slot_marks(const uint64_t *record, size_t record_words, size_t slot, uint64_t values[2]);
+
+/*
+ * Whose record it is, and of which ring, into values: the own number (a watcher's is the number of nodes), the number of nodes, all their
+ * stake, genesis's number. Zeros beside a refusal. Refusals: 17.
+ */
+uint64_t qr_head(const uint64_t *record, size_t record_words, uint64_t values[4]);
 
 /*
  * Check a packet against the stakes alone; their number tells the family. The kind, read first, tells how many numbers are

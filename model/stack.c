@@ -19,7 +19,7 @@ enum { ROOM = 1 << 18, FORBIDDEN = 1 << 22, STEP = 16, LARGE_MASKS = 32, BLOCK =
 typedef uint64_t words_of_a_record[QR_RECORD_WORDS(QR_MOST_NODES)];
 static words_of_a_record record, kept, other;
 static uint64_t stakes[QR_MOST_NODES], outbox[QR_OUTBOX_WORDS], votes[4 * 500], answers[500], *list;
-static uint64_t state[QR_PIECES_WORDS], values[QR_VOTES_WORDS], missing;
+static uint64_t state[QR_PIECES_WORDS], values[QR_BLOCKS_WORDS], missing;
 static uint8_t front[QR_PIECES_BYTES], buffer[QR_LARGE_PROOF_BYTES], packet[2 * QR_LARGE_CERTIFICATE_BYTES];
 static size_t nodes, words, vote_count, list_words, packet_bytes, made, written;
 static uint64_t kind, slot, number;
@@ -43,6 +43,9 @@ static void card(void) { qr_card(record, words, slot, values); }
 static void final_block(void) { qr_final_block(record, words, slot, values); }
 static void is_armed(void) { qr_is_armed(record, words, slot, values); }
 static void kept_votes(void) { qr_kept_votes(record, words, slot, nodes - 1, values); }
+static void kept_blocks(void) { qr_kept_blocks(record, words, slot, values); }
+static void slot_marks(void) { qr_slot_marks(record, words, slot, values); }
+static void head(void) { qr_head(record, words, values); }
 static void check_certificate(void) { qr_check_certificate(stakes, nodes, packet, packet_bytes, values, &missing); }
 static void check_proof(void) { qr_check_proof(stakes, nodes, packet, packet_bytes, values, &missing); }
 static void piece(void) { qr_piece(state, QR_PIECES_WORDS, front, QR_PIECES_BYTES, stakes, nodes, packet, packet_bytes); }
@@ -64,7 +67,8 @@ static struct function {
     {"qr_start", start, 0}, {"qr_watch", watch, 0}, {"qr_vote", vote, 0}, {"qr_block", block, 0}, {"qr_timeout", timeout, 0},
     {"qr_look", look, 0}, {"qr_take", take, 0}, {"qr_tray", tray, 0}, {"qr_write_certificate", write_certificate, 0},
     {"qr_write_proof", write_proof, 0}, {"qr_card", card, 0}, {"qr_final_block", final_block, 0}, {"qr_is_armed", is_armed, 0},
-    {"qr_kept_votes", kept_votes, 0}, {"qr_check_certificate", check_certificate, 0}, {"qr_check_proof", check_proof, 0},
+    {"qr_kept_votes", kept_votes, 0}, {"qr_kept_blocks", kept_blocks, 0}, {"qr_slot_marks", slot_marks, 0}, {"qr_head", head, 0},
+    {"qr_check_certificate", check_certificate, 0}, {"qr_check_proof", check_proof, 0},
     {"qr_piece", piece, 0}, {"qr_end", end, 0}, {"qr_read_vote", read_vote, 0}, {"qr_write_vote", write_vote, 0},
     {"qr_differ", differ, 0}, {"qr_stands", stands, 0}, {"qr_refusal_text", refusal_text, 0}, {"qr_version", version, 0}, {"qr_record_words and the other sizes", sizes, 0},
 };
@@ -176,6 +180,9 @@ static void try_record(void)
         try_function(final_block);
         try_function(is_armed);
         try_function(kept_votes);
+        try_function(kept_blocks);
+        try_function(slot_marks);
+        try_function(head);
         for (size_t i = 0; i < sizeof blocks / sizeof *blocks; i++) {
             number = blocks[i];
             try_function(block);

@@ -47,6 +47,27 @@ static void show_readers(const uint64_t *record)
     printf("; of node 1: %" PRIu64 "\n", number);
 }
 
+/* What else B1's node keeps: the block with its parent, the marks of a slot, whose record it is. */
+static void show_kept(const uint64_t *record)
+{
+    const size_t words = QR_RECORD_WORDS(1);
+    uint64_t blocks[QR_BLOCKS_WORDS], marks[2], head[4];
+    uint64_t number = qr_kept_blocks(record, words, 1, blocks);
+    printf("blocks of slot 1: %" PRIu64 ":", number);
+    for (size_t i = 0; i < QR_BLOCKS_WORDS; i++)
+        printf(" %" PRIu64, blocks[i]);
+    number = qr_kept_blocks(record, words, 17, blocks);
+    printf("; of slot 17: %" PRIu64 "\n", number);
+    number = qr_slot_marks(record, words, 1, marks);
+    printf("marks of slot 1: %" PRIu64 ": %" PRIu64 " %" PRIu64, number, marks[0], marks[1]);
+    number = qr_slot_marks(record, words, 0, marks);
+    printf("; of slot 0: %" PRIu64 "\n", number);
+    number = qr_head(record, words, head);
+    printf("head: %" PRIu64 ": %" PRIu64 " %" PRIu64 " %" PRIu64 " %" PRIu64, number, head[0], head[1], head[2], head[3]);
+    number = qr_head(record, words - 1, head);
+    printf("; of words that are no record: %" PRIu64 "\n", number);
+}
+
 /* What a number means; and a buffer that is too short. */
 static void show_text(uint64_t number)
 {
@@ -406,6 +427,7 @@ int main(void)
     uint64_t number = qr_block(record, QR_RECORD_WORDS(1), outbox, QR_OUTBOX_WORDS, &made, 1, 7, 0, 1);
     show_records("B1", number, outbox, made);
     show_readers(record);
+    show_kept(record);
     number = qr_look(record, QR_RECORD_WORDS(2), outbox, QR_OUTBOX_WORDS, &made);
     printf("a record one place too long: %" PRIu64, number);
     number = qr_look(record, QR_RECORD_WORDS(1), outbox, QR_OUTBOX_WORDS - 1, &made);

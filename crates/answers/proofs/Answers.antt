@@ -27,8 +27,11 @@ use Rattle.pieces.specs.State.{nodes, PieceOf, EndOf, endLeaves}
 use Rattle.readers.specs.declared.FinalAnswer.{FinalAnswer}
 use Rattle.readers.specs.declared.ArmedAnswer.{ArmedAnswer}
 use Rattle.readers.specs.declared.VotesAnswer.{VotesAnswer}
-use Rattle.readers.specs.Asked.{finalPanel, armedPanel, votesPanel}
-use Rattle.answers.specs.Face.{Beside, Started, Watched, Stepped, Taken, Trayed, Wrote, MessageRead, CardRead, FinalRead, ArmedRead, VotesRead, Checked, Compared, LinesRead, Pieced, Ended}
+use Rattle.readers.specs.declared.BlocksAnswer.{BlocksAnswer}
+use Rattle.readers.specs.declared.MarksAnswer.{MarksAnswer}
+use Rattle.readers.specs.declared.HeadAnswer.{HeadAnswer}
+use Rattle.readers.specs.Asked.{finalPanel, armedPanel, votesPanel, blocksPanel, marksPanel, headPanel}
+use Rattle.answers.specs.Face.{Beside, Started, Watched, Stepped, Taken, Trayed, Wrote, MessageRead, CardRead, FinalRead, ArmedRead, VotesRead, BlocksRead, MarksRead, HeadRead, Checked, Compared, LinesRead, Pieced, Ended}
 
 pub started : (ws stakes : List ℕ) (own genesis : ℕ) (a : StartAnswer) (n : ℕ) (left : List ℕ) → StartOf ws stakes own genesis a left
     → n ≡ startPanel a .number → Started ws stakes own genesis n left
@@ -117,6 +120,27 @@ votes-read b a n vs s e d =
     record {
       numbered = e ∙ ap (λ (x : VotesAnswer). votesPanel x .number) s;
       valued = d ∙ ap (λ (x : VotesAnswer). votesPanel x .values) s;
+    }
+
+pub blocks-read : (b a : BlocksAnswer) (n : ℕ) (vs : List ℕ) → a ≡ b → n ≡ blocksPanel a .number → vs ≡ blocksPanel a .values → BlocksRead b n vs
+blocks-read b a n vs s e d =
+    record {
+      numbered = e ∙ ap (λ (x : BlocksAnswer). blocksPanel x .number) s;
+      valued = d ∙ ap (λ (x : BlocksAnswer). blocksPanel x .values) s;
+    }
+
+pub marks-read : (b a : MarksAnswer) (n : ℕ) (vs : List ℕ) → a ≡ b → n ≡ marksPanel a .number → vs ≡ marksPanel a .values → MarksRead b n vs
+marks-read b a n vs s e d =
+    record {
+      numbered = e ∙ ap (λ (x : MarksAnswer). marksPanel x .number) s;
+      valued = d ∙ ap (λ (x : MarksAnswer). marksPanel x .values) s;
+    }
+
+pub head-read : (b a : HeadAnswer) (n : ℕ) (vs : List ℕ) → a ≡ b → n ≡ headPanel a .number → vs ≡ headPanel a .values → HeadRead b n vs
+head-read b a n vs s e d =
+    record {
+      numbered = e ∙ ap (λ (x : HeadAnswer). headPanel x .number) s;
+      valued = d ∙ ap (λ (x : HeadAnswer). headPanel x .values) s;
     }
 
 pub checked : (count : ℕ) (b a : CheckAnswer) (n : ℕ) (vs : List ℕ) (m : ℕ) → a ≡ b → n ≡ checkNumber a → vs ≡ checkValues count a

@@ -11,8 +11,11 @@ use Rattle.cards.specs.declared.CardAnswer.{CardAnswer}
 use Rattle.readers.specs.declared.FinalAnswer.{FinalAnswer}
 use Rattle.readers.specs.declared.ArmedAnswer.{ArmedAnswer}
 use Rattle.readers.specs.declared.VotesAnswer.{VotesAnswer}
+use Rattle.readers.specs.declared.BlocksAnswer.{BlocksAnswer}
+use Rattle.readers.specs.declared.MarksAnswer.{MarksAnswer}
+use Rattle.readers.specs.declared.HeadAnswer.{HeadAnswer}
 use Rattle.inquest_lines.specs.Lent.{Told}
-use Rattle.answers.specs.Face.{Beside, Started, Watched, Stepped, Taken, Trayed, Wrote, MessageRead, CardRead, FinalRead, ArmedRead, VotesRead, Checked, Compared, LinesRead, Pieced, Ended}
+use Rattle.answers.specs.Face.{Beside, Started, Watched, Stepped, Taken, Trayed, Wrote, MessageRead, CardRead, FinalRead, ArmedRead, VotesRead, BlocksRead, MarksRead, HeadRead, Checked, Compared, LinesRead, Pieced, Ended}
 
 -- One value beside one number.
 beside-one : {v v' : ℕ} {values : List ℕ} → Beside v values → Beside v' values → v ≡ v'
@@ -75,6 +78,21 @@ armed-read-one a b = (a .numbered ∙ sym (b .numbered), beside-one (a .valued) 
 pub votes-read-one : {answer : VotesAnswer} {n n' : ℕ} {values values' : List ℕ} → VotesRead answer n values → VotesRead answer n' values'
     → (n ≡ n') × (values ≡ values')
 votes-read-one a b = (a .numbered ∙ sym (b .numbered), a .valued ∙ sym (b .valued))
+
+-- qr_kept_blocks.
+pub blocks-read-one : {answer : BlocksAnswer} {n n' : ℕ} {values values' : List ℕ} → BlocksRead answer n values → BlocksRead answer n' values'
+    → (n ≡ n') × (values ≡ values')
+blocks-read-one a b = (a .numbered ∙ sym (b .numbered), a .valued ∙ sym (b .valued))
+
+-- qr_slot_marks.
+pub marks-read-one : {answer : MarksAnswer} {n n' : ℕ} {values values' : List ℕ} → MarksRead answer n values → MarksRead answer n' values'
+    → (n ≡ n') × (values ≡ values')
+marks-read-one a b = (a .numbered ∙ sym (b .numbered), a .valued ∙ sym (b .valued))
+
+-- qr_head.
+pub head-read-one : {answer : HeadAnswer} {n n' : ℕ} {values values' : List ℕ} → HeadRead answer n values → HeadRead answer n' values'
+    → (n ≡ n') × (values ≡ values')
+head-read-one a b = (a .numbered ∙ sym (b .numbered), a .valued ∙ sym (b .valued))
 
 -- qr_check_certificate, qr_check_proof.
 pub checked-one : {count : ℕ} {answer : CheckAnswer} {n n' missing missing' : ℕ} {values values' : List ℕ} → Checked count answer n values missing → Checked count answer n' values' missing'

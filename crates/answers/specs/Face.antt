@@ -27,7 +27,10 @@ use Rattle.pieces.specs.State.{nodes, pieceLeaves, endLeaves}
 use Rattle.readers.specs.declared.FinalAnswer.{FinalAnswer}
 use Rattle.readers.specs.declared.ArmedAnswer.{ArmedAnswer}
 use Rattle.readers.specs.declared.VotesAnswer.{VotesAnswer}
-use Rattle.readers.specs.Asked.{finalPanel, armedPanel, votesPanel}
+use Rattle.readers.specs.declared.BlocksAnswer.{BlocksAnswer}
+use Rattle.readers.specs.declared.MarksAnswer.{MarksAnswer}
+use Rattle.readers.specs.declared.HeadAnswer.{HeadAnswer}
+use Rattle.readers.specs.Asked.{finalPanel, armedPanel, votesPanel, blocksPanel, marksPanel, headPanel}
 
 -- The version of the face: raised with every change of a function, of a number, or of what a record's words mean.
 abbrev pub version : ℕ
@@ -107,6 +110,21 @@ pub record ArmedRead (answer : ArmedAnswer) (number armed : ℕ) : Type 0 where
 pub record VotesRead (answer : VotesAnswer) (number : ℕ) (values : List ℕ) : Type 0 where
   pub numbered : number ≡ votesPanel answer .number
   pub valued : values ≡ votesPanel answer .values
+
+-- A slot's kept blocks: its number, and the twelve words of the four places.
+pub record BlocksRead (answer : BlocksAnswer) (number : ℕ) (values : List ℕ) : Type 0 where
+  pub numbered : number ≡ blocksPanel answer .number
+  pub valued : values ≡ blocksPanel answer .values
+
+-- A slot's marks: its number, and the two marks.
+pub record MarksRead (answer : MarksAnswer) (number : ℕ) (values : List ℕ) : Type 0 where
+  pub numbered : number ≡ marksPanel answer .number
+  pub valued : values ≡ marksPanel answer .values
+
+-- A record's head: its number, and the four words.
+pub record HeadRead (answer : HeadAnswer) (number : ℕ) (values : List ℕ) : Type 0 where
+  pub numbered : number ≡ headPanel answer .number
+  pub valued : values ≡ headPanel answer .values
 
 -- A check under a table of so many nodes: its number, its five values, and what is missing beside 15.
 pub record Checked (count : ℕ) (answer : CheckAnswer) (number : ℕ) (values : List ℕ) (missing : ℕ) : Type 0 where

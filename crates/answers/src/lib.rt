@@ -6,7 +6,7 @@ ghost use Rattle.cards.specs.Asked.{cardValues, cardPanel};
 ghost use Rattle.differences.specs.Lent.{differPanel};
 ghost use Rattle.inquest_lines.specs.Lent.{listPanel};
 ghost use Rattle.pieces.specs.Pieces.{piecePanel};
-ghost use Rattle.readers.specs.Asked.{finalPanel, armedPanel, cellValues, votesPanel};
+ghost use Rattle.readers.specs.Asked.{finalPanel, armedPanel, cellValues, votesPanel, blockValues, keptValues, blocksPanel, markValues, marksPanel, headValues, headPanel};
 ghost use Rattle.answers.specs.Face.{Beside, voteValues, acceptedValues};
 use cards::CardAnswer;
 use differences::DifferAnswer;
@@ -18,7 +18,13 @@ use kinds::refusal_number;
 use kinds::vote_number;
 use pieces::PieceAnswer;
 use readers::ArmedAnswer;
+use readers::BlocksAnswer;
 use readers::FinalAnswer;
+use readers::HeadAnswer;
+use readers::KeptBlocks;
+use readers::MarksAnswer;
+use readers::RecordHead;
+use readers::SlotMarks;
 use readers::VotesAnswer;
 use rulebook::Accepted;
 use rulebook::Cell;
@@ -297,6 +303,110 @@ pub fn votes_values(a: VotesAnswer) -> [u64; 7]
         VotesAnswer::Votes(c) => cell_values(c),
         VotesAnswer::Refused(_) => [0, 0, 0, 0, 0, 0, 0],
     }
+}
+
+// What the question for a slot's blocks is answered, as a number.
+pub fn blocks_number(a: BlocksAnswer) -> u64
+    ensures { λ r. ⌜ r ≡ blocksPanel a .number ⌝ }
+{
+    match a {
+        BlocksAnswer::Blocks(_) => 0,
+        BlocksAnswer::Refused(r) => refusal_number(r),
+    }
+}
+
+// The twelve words of the slot's kept blocks, zeros beside a refusal.
+pub fn blocks_values(a: BlocksAnswer) -> [u64; 12]
+    ensures { λ r. ⌜ r ≡ blocksPanel a .values ⌝ }
+{
+    match a {
+        BlocksAnswer::Blocks(k) => kept_values(k),
+        BlocksAnswer::Refused(_) => [0, 0, 0, 0, 0, 0, 0, 0, 0, 0, 0, 0],
+    }
+}
+
+// What the question for a slot's marks is answered, as a number.
+pub fn marks_number(a: MarksAnswer) -> u64
+    ensures { λ r. ⌜ r ≡ marksPanel a .number ⌝ }
+{
+    match a {
+        MarksAnswer::Marks(_) => 0,
+        MarksAnswer::Refused(r) => refusal_number(r),
+    }
+}
+
+// The slot's two marks, zeros beside a refusal.
+pub fn marks_values(a: MarksAnswer) -> [u64; 2]
+    ensures { λ r. ⌜ r ≡ marksPanel a .values ⌝ }
+{
+    match a {
+        MarksAnswer::Marks(m) => mark_values(m),
+        MarksAnswer::Refused(_) => [0, 0],
+    }
+}
+
+// What the question for a record's head is answered, as a number.
+pub fn head_number(a: HeadAnswer) -> u64
+    ensures { λ r. ⌜ r ≡ headPanel a .number ⌝ }
+{
+    match a {
+        HeadAnswer::Head(_) => 0,
+        HeadAnswer::Refused(r) => refusal_number(r),
+    }
+}
+
+// The four words of the record's head, zeros beside a refusal.
+pub fn head_values(a: HeadAnswer) -> [u64; 4]
+    ensures { λ r. ⌜ r ≡ headPanel a .values ⌝ }
+{
+    match a {
+        HeadAnswer::Head(h) => facts_values(h),
+        HeadAnswer::Refused(_) => [0, 0, 0, 0],
+    }
+}
+
+// The twelve words of four blocks.
+fn kept_values(k: KeptBlocks) -> [u64; 12]
+    ensures { λ r. ⌜ r ≡ keptValues k ⌝ }
+{
+    let a = k.first;
+    let b = k.second;
+    let c = k.third;
+    let d = k.fourth;
+    let p = a.parentslot;
+    let q = b.parentslot;
+    let r = c.parentslot;
+    let s = d.parentslot;
+    [
+        a.number,
+        p.0 as u64,
+        a.parent,
+        b.number,
+        q.0 as u64,
+        b.parent,
+        c.number,
+        r.0 as u64,
+        c.parent,
+        d.number,
+        s.0 as u64,
+        d.parent,
+    ]
+}
+
+// The two words of a slot's marks.
+fn mark_values(m: SlotMarks) -> [u64; 2]
+    ensures { λ r. ⌜ r ≡ markValues m ⌝ }
+{
+    [m.timedout, m.clash]
+}
+
+// The four words of a head.
+fn facts_values(h: RecordHead) -> [u64; 4]
+    ensures { λ r. ⌜ r ≡ headValues h ⌝ }
+{
+    let own = h.own;
+    let stake = h.stake;
+    [own.0 as u64, h.nodes as u64, stake.0, h.genesis]
 }
 
 // 1 for yes.

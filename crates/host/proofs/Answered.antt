@@ -13,7 +13,10 @@ use Rattle.cards.specs.Asked.{cardPanel}
 use Rattle.readers.specs.declared.FinalAnswer.{FinalAnswer}
 use Rattle.readers.specs.declared.ArmedAnswer.{ArmedAnswer}
 use Rattle.readers.specs.declared.VotesAnswer.{VotesAnswer}
-use Rattle.readers.specs.Asked.{finalPanel, armedPanel, votesPanel}
+use Rattle.readers.specs.declared.BlocksAnswer.{BlocksAnswer}
+use Rattle.readers.specs.declared.MarksAnswer.{MarksAnswer}
+use Rattle.readers.specs.declared.HeadAnswer.{HeadAnswer}
+use Rattle.readers.specs.Asked.{finalPanel, armedPanel, votesPanel, blocksPanel, marksPanel, headPanel}
 use Rattle.differences.specs.declared.DifferAnswer.{DifferAnswer}
 use Rattle.differences.specs.Lent.{differPanel, DifferOf}
 use Rattle.inquest_lines.specs.declared.ListAnswer.{ListAnswer}
@@ -21,7 +24,7 @@ use Rattle.inquest_lines.specs.Lent.{Told, ToldIn, listPanel}
 use Rattle.pieces.specs.declared.PieceAnswer.{PieceAnswer}
 use Rattle.pieces.specs.Pieces.{piecePanel}
 use Rattle.pieces.specs.State.{nodes, PieceOf, EndOf}
-use Rattle.host.specs.Answered.{WroteWith, CheckedWith, CardWith, FinalWith, ArmedWith, VotesWith, MessageWith, ComparedWith, LinesWith, PiecedWith, EndedWith}
+use Rattle.host.specs.Answered.{WroteWith, CheckedWith, CardWith, FinalWith, ArmedWith, VotesWith, BlocksWith, MarksWith, HeadWith, MessageWith, ComparedWith, LinesWith, PiecedWith, EndedWith}
 
 pub wrote-with : (w : written.Wrote) (buffer : List ℕ) (r : WriteAnswer) (after : List ℕ) → Writes w buffer r after → WroteWith w buffer r after
 wrote-with w buffer r after x count b =
@@ -45,6 +48,15 @@ armed-with given r e armed b = record { numbered = ap (λ (a : ArmedAnswer). arm
 
 pub votes-with : (given r : VotesAnswer) → r ≡ given → VotesWith given r
 votes-with given r e = record { numbered = ap (λ (a : VotesAnswer). votesPanel a .number) e; valued = ap (λ (a : VotesAnswer). votesPanel a .values) e }
+
+pub blocks-with : (given r : BlocksAnswer) → r ≡ given → BlocksWith given r
+blocks-with given r e = record { numbered = ap (λ (a : BlocksAnswer). blocksPanel a .number) e; valued = ap (λ (a : BlocksAnswer). blocksPanel a .values) e }
+
+pub marks-with : (given r : MarksAnswer) → r ≡ given → MarksWith given r
+marks-with given r e = record { numbered = ap (λ (a : MarksAnswer). marksPanel a .number) e; valued = ap (λ (a : MarksAnswer). marksPanel a .values) e }
+
+pub head-with : (given r : HeadAnswer) → r ≡ given → HeadWith given r
+head-with given r e = record { numbered = ap (λ (a : HeadAnswer). headPanel a .number) e; valued = ap (λ (a : HeadAnswer). headPanel a .values) e }
 
 pub message-with : (given r : ReadAnswer) → r ≡ given → MessageWith given r
 message-with given r e = record { numbered = ap (λ (a : ReadAnswer). readPanel a .number) e; valued = ap (λ (a : ReadAnswer). readPanel a .values) e }

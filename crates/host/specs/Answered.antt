@@ -11,7 +11,10 @@ use Rattle.cards.specs.Asked.{cardPanel}
 use Rattle.readers.specs.declared.FinalAnswer.{FinalAnswer}
 use Rattle.readers.specs.declared.ArmedAnswer.{ArmedAnswer}
 use Rattle.readers.specs.declared.VotesAnswer.{VotesAnswer}
-use Rattle.readers.specs.Asked.{finalPanel, armedPanel, votesPanel}
+use Rattle.readers.specs.declared.BlocksAnswer.{BlocksAnswer}
+use Rattle.readers.specs.declared.MarksAnswer.{MarksAnswer}
+use Rattle.readers.specs.declared.HeadAnswer.{HeadAnswer}
+use Rattle.readers.specs.Asked.{finalPanel, armedPanel, votesPanel, blocksPanel, marksPanel, headPanel}
 use Rattle.differences.specs.declared.DifferAnswer.{DifferAnswer}
 use Rattle.differences.specs.Lent.{differPanel}
 use Rattle.inquest_lines.specs.declared.ListAnswer.{ListAnswer}
@@ -19,7 +22,7 @@ use Rattle.inquest_lines.specs.Lent.{Told, listPanel}
 use Rattle.pieces.specs.declared.PieceAnswer.{PieceAnswer}
 use Rattle.pieces.specs.Pieces.{piecePanel}
 use Rattle.pieces.specs.State.{nodes}
-use Rattle.answers.specs.Face.{Beside, Wrote, MessageRead, CardRead, FinalRead, ArmedRead, VotesRead, Checked, Compared, LinesRead, Pieced, Ended}
+use Rattle.answers.specs.Face.{Beside, Wrote, MessageRead, CardRead, FinalRead, ArmedRead, VotesRead, BlocksRead, MarksRead, HeadRead, Checked, Compared, LinesRead, Pieced, Ended}
 
 -- A writer.
 abbrev pub WroteWith : written.Wrote → (buffer : List ℕ) → WriteAnswer → (after : List ℕ) → Type 0
@@ -41,6 +44,15 @@ ArmedWith given r = (armed : ℕ) → Beside armed (armedPanel r .values) → Ar
 
 abbrev pub VotesWith : (given r : VotesAnswer) → Type 0
 VotesWith given r = VotesRead given (votesPanel r .number) (votesPanel r .values)
+
+abbrev pub BlocksWith : (given r : BlocksAnswer) → Type 0
+BlocksWith given r = BlocksRead given (blocksPanel r .number) (blocksPanel r .values)
+
+abbrev pub MarksWith : (given r : MarksAnswer) → Type 0
+MarksWith given r = MarksRead given (marksPanel r .number) (marksPanel r .values)
+
+abbrev pub HeadWith : (given r : HeadAnswer) → Type 0
+HeadWith given r = HeadRead given (headPanel r .number) (headPanel r .values)
 
 -- A vote message.
 abbrev pub MessageWith : (given r : ReadAnswer) → Type 0

@@ -12,17 +12,17 @@ ghost use Rattle.rulebook.specs.WellFormed.{outboxWords};
 ghost use Rattle.record.specs.Layout.{recordWords};
 ghost use Rattle.writers.specs.Writing.{certificateOn, proofOn};
 ghost use Rattle.cards.specs.Asked.{cardOn};
-ghost use Rattle.readers.specs.Asked.{finalOn, armedOn, votesOn};
+ghost use Rattle.readers.specs.Asked.{finalOn, armedOn, votesOn, blocksOn, marksOn, headOn};
 ghost use Rattle.texts.specs.Texts.{textOn};
 ghost use Rattle.pieces.specs.State.{stateWords, frontBytes};
 ghost use Rattle.standing.specs.Asked.{standsOn};
 ghost use Rattle.vouching.specs.Asked.{vouchedOn};
 ghost use Rattle.vouched_packets.specs.Asked.{packetOn};
 ghost use Rattle.inputs.specs.Inputs.{voteInput, blockInput, timeoutInput};
-ghost use Rattle.answers.specs.Face.{version, Started, Watched, Wrote, MessageRead, CardRead, FinalRead, ArmedRead, VotesRead, Checked, Compared, LinesRead, Pieced, Ended};
+ghost use Rattle.answers.specs.Face.{version, Started, Watched, Wrote, MessageRead, CardRead, FinalRead, ArmedRead, VotesRead, BlocksRead, MarksRead, HeadRead, Checked, Compared, LinesRead, Pieced, Ended};
 ghost use Rattle.calls.specs.Operation.{oneInput, aTray, aPacket};
 ghost use Rattle.calls.specs.Life.{Met, MetWith, GoesOn, Stays, Life, Watch, begun};
-ghost use Rattle.host.specs.Answered.{WroteWith, CheckedWith, CardWith, FinalWith, ArmedWith, VotesWith, MessageWith, ComparedWith, LinesWith, PiecedWith, EndedWith};
+ghost use Rattle.host.specs.Answered.{WroteWith, CheckedWith, CardWith, FinalWith, ArmedWith, VotesWith, BlocksWith, MarksWith, HeadWith, MessageWith, ComparedWith, LinesWith, PiecedWith, EndedWith};
 use cards::CardAnswer;
 use cards::read_card;
 use checker::check_certificate;
@@ -43,7 +43,9 @@ use quointrowel::qr_check_proof;
 use quointrowel::qr_differ;
 use quointrowel::qr_end;
 use quointrowel::qr_final_block;
+use quointrowel::qr_head;
 use quointrowel::qr_is_armed;
+use quointrowel::qr_kept_blocks;
 use quointrowel::qr_kept_votes;
 use quointrowel::qr_look;
 use quointrowel::qr_outbox_words;
@@ -53,6 +55,7 @@ use quointrowel::qr_pieces_words;
 use quointrowel::qr_read_vote;
 use quointrowel::qr_record_words;
 use quointrowel::qr_refusal_text;
+use quointrowel::qr_slot_marks;
 use quointrowel::qr_stands;
 use quointrowel::qr_start;
 use quointrowel::qr_take;
@@ -67,10 +70,16 @@ use quointrowel::qr_write_certificate;
 use quointrowel::qr_write_proof;
 use quointrowel::qr_write_vote;
 use readers::ArmedAnswer;
+use readers::BlocksAnswer;
 use readers::FinalAnswer;
+use readers::HeadAnswer;
+use readers::MarksAnswer;
 use readers::VotesAnswer;
 use readers::read_armed;
+use readers::read_blocks;
 use readers::read_final;
+use readers::read_head;
+use readers::read_marks;
 use readers::read_votes;
 use record::record_words;
 use rulebook::CheckAnswer;
@@ -228,6 +237,27 @@ pub fn face_kept_votes(rec: &[u64], slot: usize, node: usize, values: &mut [u64;
     ensures { λ r. ⌜ VotesRead (votesOn (now (rec .entry)) slot node) r (now (values .exit)) ⌝ }
 {
     qr_kept_votes(rec, slot, node, values)
+}
+
+// Calls qr_kept_blocks.
+pub fn face_kept_blocks(rec: &[u64], slot: usize, values: &mut [u64; 12]) -> u64
+    ensures { λ r. ⌜ BlocksRead (blocksOn (now (rec .entry)) slot) r (now (values .exit)) ⌝ }
+{
+    qr_kept_blocks(rec, slot, values)
+}
+
+// Calls qr_slot_marks.
+pub fn face_slot_marks(rec: &[u64], slot: usize, values: &mut [u64; 2]) -> u64
+    ensures { λ r. ⌜ MarksRead (marksOn (now (rec .entry)) slot) r (now (values .exit)) ⌝ }
+{
+    qr_slot_marks(rec, slot, values)
+}
+
+// Calls qr_head.
+pub fn face_head(rec: &[u64], values: &mut [u64; 4]) -> u64
+    ensures { λ r. ⌜ HeadRead (headOn (now (rec .entry))) r (now (values .exit)) ⌝ }
+{
+    qr_head(rec, values)
 }
 
 // Calls qr_check_certificate.
@@ -471,6 +501,27 @@ pub fn plain_read_votes(rec: &[u64], slot: Slot, node: Node) -> VotesAnswer
     ensures { λ r. ⌜ VotesWith (votesOn (now (rec .entry)) (slot .0) (node .0)) r ⌝ }
 {
     read_votes(rec, slot, node)
+}
+
+// Calls the public reader of kept blocks.
+pub fn plain_read_blocks(rec: &[u64], slot: Slot) -> BlocksAnswer
+    ensures { λ r. ⌜ BlocksWith (blocksOn (now (rec .entry)) (slot .0)) r ⌝ }
+{
+    read_blocks(rec, slot)
+}
+
+// Calls the public reader of marks.
+pub fn plain_read_marks(rec: &[u64], slot: Slot) -> MarksAnswer
+    ensures { λ r. ⌜ MarksWith (marksOn (now (rec .entry)) (slot .0)) r ⌝ }
+{
+    read_marks(rec, slot)
+}
+
+// Calls the public reader of a record's head.
+pub fn plain_read_head(rec: &[u64]) -> HeadAnswer
+    ensures { λ r. ⌜ HeadWith (headOn (now (rec .entry))) r ⌝ }
+{
+    read_head(rec)
 }
 
 // Calls the public operation that takes a piece.

@@ -101,13 +101,13 @@ unfolding whenever
 given-in q true is t u = u
 given-in q false is t u = absurd t
 
-pub given-on : (b : Bool) (is : List Arrival) → T b → given b [] (λ _. is) ≡ is
-unfolding given
+pub given-on : (b : Bool) (is : List Arrival) → T b → whenever b (λ _. is) [] ≡ is
+unfolding whenever
 given-on true is t = refl
 given-on false is t = absurd t
 
-pub given-off : (b : Bool) (is : List Arrival) → T (not b) → given b [] (λ _. is) ≡ []
-unfolding given
+pub given-off : (b : Bool) (is : List Arrival) → T (not b) → whenever b (λ _. is) [] ≡ []
+unfolding whenever
 given-off true is t = absurd t
 given-off false is t = refl
 

@@ -61,21 +61,21 @@ module _ (stakes : List ℕ) (genesis : ℕ → ℕ) (honest live : Test) (sub :
 
   -- The votes that live node m cast, for node n.
   abbrev votesFrom : Fed → ℕ → ℕ → List Arrival
-  votesFrom fed n m = given (live m && not (eqb m n)) [] (λ _. asVotes m (calls.life (start m) (fed m)))
+  votesFrom fed n m = whenever (live m && not (eqb m n)) (λ _. asVotes m (calls.life (start m) (fed m))) []
 
   -- First a look and the votes, for the live nodes: who has stopped is fed nothing.
   abbrev greeting : Fed → ℕ → List Arrival
   greeting fed n = ofInput input.Look ∷ gather count (votesFrom fed n)
 
   abbrev opening : Fed → ℕ → List Arrival
-  opening fed n = given (live n) [] (λ _. greeting fed n)
+  opening fed n = whenever (live n) (λ _. greeting fed n) []
 
   abbrev pub mid : Fed → Fed
   mid fed n = fed n ++ opening fed n
 
   -- The blocks that live node m keeps, and all of them.
   abbrev shownBy : Fed → ℕ → List Arrival
-  shownBy fed m = given (live m) [] (λ _. gather (suc lastSlot) (λ t. asShown t (blocksAt (life stakes genesis honest fed m) t)))
+  shownBy fed m = whenever (live m) (λ _. gather (suc lastSlot) (λ t. asShown t (blocksAt (life stakes genesis honest fed m) t))) []
 
   abbrev shownAll : Fed → List Arrival
   shownAll fed = gather count (shownBy fed)
@@ -91,7 +91,7 @@ module _ (stakes : List ℕ) (genesis : ℕ → ℕ) (honest live : Test) (sub :
   leaving fed n = offered (life stakes genesis honest (mid fed) n) (shownAll fed) ++ clocks
 
   abbrev closing : Fed → ℕ → List Arrival
-  closing fed n = given (live n) [] (λ _. leaving fed n)
+  closing fed n = whenever (live n) (λ _. leaving fed n) []
 
   abbrev pub next : Fed → Fed
   next fed n = mid fed n ++ closing fed n

@@ -4,6 +4,7 @@ use commands::Command;
 use commands::command_of;
 use comparing::differ;
 use comparing::save;
+use comparing::stands;
 use piecing::end;
 use piecing::piece;
 use replies::Turn;
@@ -38,6 +39,7 @@ fn others(
         Command::Aside => answered(comparing::aside(page, rec, aside)),
         Command::Differ => answered(differ(page, aside, rec)),
         Command::Save => answered(save(page, line, at, rec)),
+        Command::Stands => answered(stands(page, rec)),
         _ => ask(page, c, line, at, rec),
     }
 }

@@ -28,7 +28,11 @@ use Rattle.cards.proofs.Ways.{unsound-card, slotless-card, card-recounted}
 use Rattle.readers.specs.declared.FinalAnswer.{FinalAnswer}
 use Rattle.readers.specs.declared.ArmedAnswer.{ArmedAnswer}
 use Rattle.readers.specs.declared.VotesAnswer.{VotesAnswer}
-use Rattle.readers.specs.Asked.{finalPanel, armedPanel, votesPanel}
+use Rattle.readers.specs.declared.BlocksAnswer.{BlocksAnswer}
+use Rattle.readers.specs.declared.MarksAnswer.{MarksAnswer}
+use Rattle.readers.specs.declared.HeadAnswer.{HeadAnswer}
+use Rattle.readers.specs.Asked.{finalPanel, armedPanel, votesPanel, blocksPanel, marksPanel, headPanel}
+use Rattle.readers.proofs.Ways.{head-unsound}
 use Rattle.promises.specs.Panels.{shown, besideIt, soundFirst, stepJudged, takeJudged, trayJudged}
 use Rattle.promises.specs.Differs.{shownAs}
 use Rattle.promises.specs.Cards.{CardShown, FaceCardRefused, cardLine, CardPrinted, RefusedEverywhere, DisagreeingRefused, RefusedCards, FaceRefusedCards}
@@ -38,7 +42,7 @@ use Rattle.promises.proofs.Refused.{fed-kept, face-step-refused, face-t
 use Rattle.promises.proofs.Differs.{face-differ}
 use Rattle.promises.proofs.Stands.{face-stands}
 use Rattle.promises.proofs.Vouched.{face-vouched, face-vouched-packet}
-use Rattle.promises.proofs.Readers.{unsound-final, unsound-armed, unsound-votes}
+use Rattle.promises.proofs.Readers.{unsound-final, unsound-armed, unsound-votes, unsound-blocks, unsound-marks}
 use Rattle.promises.proofs.Printed.{sends}
 
 -- ---- what is answered
@@ -85,7 +89,7 @@ card-printed ws s number values h =
 -- ---- words that are not sound, as with a card that disagrees
 
 pub unsound-refused : (ws : List ℕ) → soundWords ws ≡ false → RefusedEverywhere ws
-unfolding cardPanel finalPanel armedPanel votesPanel refusalNumber stepJudged takeJudged trayJudged
+unfolding cardPanel finalPanel armedPanel votesPanel blocksPanel marksPanel headPanel refusalNumber stepJudged takeJudged trayJudged
 unsound-refused ws e =
     record {
       stepped = λ out i number made ws' left h.
@@ -112,6 +116,9 @@ unsound-refused ws e =
       final = λ s number block h. h .numbered ∙ ap (λ (a : FinalAnswer). finalPanel a .number) (unsound-final ws s e);
       armed = λ s number flag h. h .numbered ∙ ap (λ (a : ArmedAnswer). armedPanel a .number) (unsound-armed ws s e);
       votes = λ s n number values h. h .numbered ∙ ap (λ (a : VotesAnswer). votesPanel a .number) (unsound-votes ws s n e);
+      blocks = λ s number values h. h .numbered ∙ ap (λ (a : BlocksAnswer). blocksPanel a .number) (unsound-blocks ws s e);
+      marks = λ s number values h. h .numbered ∙ ap (λ (a : MarksAnswer). marksPanel a .number) (unsound-marks ws s e);
+      head = λ number values h. h .numbered ∙ ap (λ (a : HeadAnswer). headPanel a .number) (head-unsound ws e);
       first = λ two list number beside left h. sided (face-differ ws two list number beside left h .first e .0);
       second = λ one list number beside left t h. sided (face-differ one ws list number beside left h .second t e .0);
       stands = λ list number beside left h. sided (face-stands ws list number beside left h .bad e .0);

@@ -22,11 +22,17 @@ use Rattle.readers.specs.declared.ArmedAnswer.{ArmedAnswer}
 use Rattle.readers.specs.declared.ArmedAnswer.the-variants as armed
 use Rattle.readers.specs.declared.VotesAnswer.{VotesAnswer}
 use Rattle.readers.specs.declared.VotesAnswer.the-variants as votes
-use Rattle.readers.specs.Asked.{finalOn, armedOn, votesOn, finalPanel, armedPanel, votesPanel}
-use Rattle.readers.proofs.Ways.{slot-unsound, slot-none, slot-asked, votes-none, votes-there}
+use Rattle.readers.specs.declared.BlocksAnswer.{BlocksAnswer}
+use Rattle.readers.specs.declared.BlocksAnswer.the-variants as blocks
+use Rattle.readers.specs.declared.MarksAnswer.{MarksAnswer}
+use Rattle.readers.specs.declared.MarksAnswer.the-variants as marks
+use Rattle.readers.specs.declared.HeadAnswer.{HeadAnswer}
+use Rattle.readers.specs.declared.HeadAnswer.the-variants as head
+use Rattle.readers.specs.Asked.{finalOn, armedOn, votesOn, blocksOn, marksOn, headOn, finalPanel, armedPanel, votesPanel, blocksPanel, marksPanel, headPanel}
+use Rattle.readers.proofs.Ways.{slot-unsound, slot-none, slot-asked, votes-none, votes-there, head-unsound, head-asked}
 use Rattle.texts.specs.Texts.{refusalText, textRoom, textOn}
 use Rattle.promises.specs.Panels.{shown, besideIt, soundFirst}
-use Rattle.promises.specs.Readers.{FinalShown, ArmedShown, VotesShown, TextShown, FaceFinalRefused, FaceArmedRefused, FaceVotesRefused, FaceTextRefused}
+use Rattle.promises.specs.Readers.{FinalShown, ArmedShown, VotesShown, BlocksShown, MarksShown, HeadShown, TextShown, FaceFinalRefused, FaceArmedRefused, FaceVotesRefused, FaceBlocksRefused, FaceMarksRefused, FaceHeadRefused, FaceTextRefused}
 
 -- ---- what is answered
 
@@ -42,6 +48,14 @@ unsound-armed ws s e = slot-unsound armed.Refused ws s _ e
 pub unsound-votes : (ws : List ℕ) (s n : ℕ) → soundWords ws ≡ false → votesOn ws s n ≡ votes.Refused refusal.BadRecord
 unfolding votesOn
 unsound-votes ws s n e = slot-unsound votes.Refused ws s _ e
+
+pub unsound-blocks : (ws : List ℕ) (s : ℕ) → soundWords ws ≡ false → blocksOn ws s ≡ blocks.Refused refusal.BadRecord
+unfolding blocksOn
+unsound-blocks ws s e = slot-unsound blocks.Refused ws s _ e
+
+pub unsound-marks : (ws : List ℕ) (s : ℕ) → soundWords ws ≡ false → marksOn ws s ≡ marks.Refused refusal.BadRecord
+unfolding marksOn
+unsound-marks ws s e = slot-unsound marks.Refused ws s _ e
 
 pub final-shown : FinalShown
 unfolding shown soundFirst refuseIf besideIt finalOn finalPanel verdictNumber refusalNumber
@@ -60,6 +74,28 @@ armed-shown ws s a e =
     (λ u. rw (e ∙ slot-asked armed.Refused ws s _ t u, t, u))
     (λ u. rw (e ∙ slot-none armed.Refused ws s _ t u, t, u)))
     (λ t. rw (e ∙ slot-unsound armed.Refused ws s _ t, t))
+
+pub blocks-shown : BlocksShown
+unfolding shown soundFirst refuseIf besideIt blocksOn blocksPanel verdictNumber refusalNumber
+blocks-shown ws s a e =
+    by-test (soundWords ws)
+    (λ t. by-test (slotOk s)
+    (λ u. rw (e ∙ slot-asked blocks.Refused ws s _ t u, t, u))
+    (λ u. rw (e ∙ slot-none blocks.Refused ws s _ t u, t, u)))
+    (λ t. rw (e ∙ slot-unsound blocks.Refused ws s _ t, t))
+
+pub marks-shown : MarksShown
+unfolding shown soundFirst refuseIf besideIt marksOn marksPanel verdictNumber refusalNumber
+marks-shown ws s a e =
+    by-test (soundWords ws)
+    (λ t. by-test (slotOk s)
+    (λ u. rw (e ∙ slot-asked marks.Refused ws s _ t u, t, u))
+    (λ u. rw (e ∙ slot-none marks.Refused ws s _ t u, t, u)))
+    (λ t. rw (e ∙ slot-unsound marks.Refused ws s _ t, t))
+
+pub head-shown : HeadShown
+unfolding shown soundFirst refuseIf besideIt headPanel verdictNumber refusalNumber
+head-shown ws a e = by-test (soundWords ws) (λ t. rw (e ∙ head-asked ws t, t)) (λ t. rw (e ∙ head-unsound ws t, t))
 
 slotless-votes : (ws : List ℕ) (s n : ℕ) → soundWords ws ≡ true → slotOk s ≡ false → votesOn ws s n ≡ votes.Refused refusal.BadSlot
 unfolding votesOn
@@ -110,6 +146,21 @@ unfolding votesPanel
 votes-refusal (votes.Votes c) h = absurd (h refl)
 votes-refusal (votes.Refused r) h = refl
 
+blocks-refusal : (a : BlocksAnswer) → ¬ (blocksPanel a .number ≡ 0) → blocksPanel a .values ≡ 0 ∷ 0 ∷ 0 ∷ 0 ∷ 0 ∷ 0 ∷ 0 ∷ 0 ∷ 0 ∷ 0 ∷ 0 ∷ 0 ∷ []
+unfolding blocksPanel
+blocks-refusal (blocks.Blocks k) h = absurd (h refl)
+blocks-refusal (blocks.Refused r) h = refl
+
+marks-refusal : (a : MarksAnswer) → ¬ (marksPanel a .number ≡ 0) → marksPanel a .values ≡ 0 ∷ 0 ∷ []
+unfolding marksPanel
+marks-refusal (marks.Marks m) h = absurd (h refl)
+marks-refusal (marks.Refused r) h = refl
+
+head-refusal : (a : HeadAnswer) → ¬ (headPanel a .number ≡ 0) → headPanel a .values ≡ 0 ∷ 0 ∷ 0 ∷ 0 ∷ []
+unfolding headPanel
+head-refusal (head.Head x) h = absurd (h refl)
+head-refusal (head.Refused r) h = refl
+
 -- The one value beside a number.
 only : {v w : ℕ} {values : List ℕ} → v ∷ [] ≡ values → values ≡ w ∷ [] → v ≡ w
 only a b = cc
@@ -122,6 +173,15 @@ face-armed-refused answer number armed h ne = only (h .valued) (armed-refusal an
 
 pub face-votes-refused : FaceVotesRefused
 face-votes-refused answer number values h ne = h .valued ∙ votes-refusal answer (λ e. ne (h .numbered ∙ e))
+
+pub face-blocks-refused : FaceBlocksRefused
+face-blocks-refused answer number values h ne = h .valued ∙ blocks-refusal answer (λ e. ne (h .numbered ∙ e))
+
+pub face-marks-refused : FaceMarksRefused
+face-marks-refused answer number values h ne = h .valued ∙ marks-refusal answer (λ e. ne (h .numbered ∙ e))
+
+pub face-head-refused : FaceHeadRefused
+face-head-refused answer number values h ne = h .valued ∙ head-refusal answer (λ e. ne (h .numbered ∙ e))
 
 pub face-text-refused : FaceTextRefused
 unfolding writePanel over

@@ -18,9 +18,12 @@ use Rattle.record.specs.Layout.{ledgerOf}
 use Rattle.readers.specs.declared.FinalAnswer.{FinalAnswer}
 use Rattle.readers.specs.declared.ArmedAnswer.{ArmedAnswer}
 use Rattle.readers.specs.declared.VotesAnswer.{VotesAnswer}
-use Rattle.readers.specs.Asked.{finalOn, armedOn, votesOn, finalPanel, armedPanel, votesPanel, cellValues}
+use Rattle.readers.specs.declared.BlocksAnswer.{BlocksAnswer}
+use Rattle.readers.specs.declared.MarksAnswer.{MarksAnswer}
+use Rattle.readers.specs.declared.HeadAnswer.{HeadAnswer}
+use Rattle.readers.specs.Asked.{finalOn, armedOn, votesOn, blocksKept, blocksOn, marksKept, marksOn, headKept, headOn, finalPanel, armedPanel, votesPanel, cellValues, keptValues, blocksPanel, markValues, marksPanel, headValues, headPanel}
 use Rattle.texts.specs.Texts.{refusalText, textRoom, textOn}
-use Rattle.answers.specs.Face.{FinalRead, ArmedRead, VotesRead, Wrote}
+use Rattle.answers.specs.Face.{FinalRead, ArmedRead, VotesRead, BlocksRead, MarksRead, HeadRead, Wrote}
 use Rattle.promises.specs.Panels.{shown, soundFirst}
 
 -- ---- what is answered
@@ -44,6 +47,22 @@ VotesShown =
     → votesPanel a
     ≡ shown (soundFirst ws (refuseIf (not (slotOk s)) refusal.BadSlot (refuseIf (notInTable (ledgerOf ws .count) n) refusal.BadNode Fine))) (cellValues (cellAt (ledgerOf ws) s n))
 
+-- 17, then 3; else the words of the slot's four places for blocks.
+abbrev pub BlocksShown : Type 0
+BlocksShown =
+    (ws : List ℕ) (s : ℕ) (a : BlocksAnswer) → a ≡ blocksOn ws s
+    → blocksPanel a ≡ shown (soundFirst ws (refuseIf (not (slotOk s)) refusal.BadSlot Fine)) (keptValues (blocksKept ws s))
+
+-- 17, then 3; else the slot's two marks.
+abbrev pub MarksShown : Type 0
+MarksShown =
+    (ws : List ℕ) (s : ℕ) (a : MarksAnswer) → a ≡ marksOn ws s
+    → marksPanel a ≡ shown (soundFirst ws (refuseIf (not (slotOk s)) refusal.BadSlot Fine)) (markValues (marksKept ws s))
+
+-- 17; else the words of the record's head.
+abbrev pub HeadShown : Type 0
+HeadShown = (ws : List ℕ) (a : HeadAnswer) → a ≡ headOn ws → headPanel a ≡ shown (soundFirst ws Fine) (headValues (headKept ws))
+
 -- 9 for a buffer below 512 bytes; else the length of the text.
 abbrev pub TextShown : Type 0
 TextShown =
@@ -65,6 +84,21 @@ abbrev pub FaceVotesRefused : Type 0
 FaceVotesRefused =
     (answer : VotesAnswer) (number : ℕ) (values : List ℕ) → VotesRead answer number values → ¬ (number ≡ 0)
     → values ≡ 0 ∷ 0 ∷ 0 ∷ 0 ∷ 0 ∷ 0 ∷ 0 ∷ []
+
+-- qr_kept_blocks likewise.
+abbrev pub FaceBlocksRefused : Type 0
+FaceBlocksRefused =
+    (answer : BlocksAnswer) (number : ℕ) (values : List ℕ) → BlocksRead answer number values → ¬ (number ≡ 0)
+    → values ≡ 0 ∷ 0 ∷ 0 ∷ 0 ∷ 0 ∷ 0 ∷ 0 ∷ 0 ∷ 0 ∷ 0 ∷ 0 ∷ 0 ∷ []
+
+-- qr_slot_marks likewise.
+abbrev pub FaceMarksRefused : Type 0
+FaceMarksRefused = (answer : MarksAnswer) (number : ℕ) (values : List ℕ) → MarksRead answer number values → ¬ (number ≡ 0) → values ≡ 0 ∷ 0 ∷ []
+
+-- qr_head likewise.
+abbrev pub FaceHeadRefused : Type 0
+FaceHeadRefused =
+    (answer : HeadAnswer) (number : ℕ) (values : List ℕ) → HeadRead answer number values → ¬ (number ≡ 0) → values ≡ 0 ∷ 0 ∷ 0 ∷ 0 ∷ []
 
 -- qr_refusal_text: 0 bytes written.
 abbrev pub FaceTextRefused : Type 0

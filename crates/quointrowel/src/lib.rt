@@ -10,15 +10,17 @@ ghost use Rattle.record.specs.Layout.{recordWords};
 ghost use Rattle.writers.specs.Writing.{certificateOn, proofOn};
 ghost use Rattle.rulebook.specs.declared.Input.the-variants as input;
 ghost use Rattle.cards.specs.Asked.{cardOn};
-ghost use Rattle.readers.specs.Asked.{finalOn, armedOn, votesOn};
+ghost use Rattle.readers.specs.Asked.{finalOn, armedOn, votesOn, blocksOn, marksOn, headOn};
 ghost use Rattle.texts.specs.Texts.{textOn};
 ghost use Rattle.pieces.specs.State.{stateWords, frontBytes};
 ghost use Rattle.standing.specs.Asked.{standsOn};
 ghost use Rattle.vouching.specs.Asked.{vouchedOn};
 ghost use Rattle.vouched_packets.specs.Asked.{packetOn};
-ghost use Rattle.answers.specs.Face.{version, voteInput, blockInput, timeoutInput, Started, Watched, Stepped, Taken, Trayed, Wrote, MessageRead, CardRead, FinalRead, ArmedRead, VotesRead, Checked, Compared, LinesRead, Pieced, Ended};
+ghost use Rattle.answers.specs.Face.{version, voteInput, blockInput, timeoutInput, Started, Watched, Stepped, Taken, Trayed, Wrote, MessageRead, CardRead, FinalRead, ArmedRead, VotesRead, BlocksRead, MarksRead, HeadRead, Checked, Compared, LinesRead, Pieced, Ended};
 use answers::armed_number;
 use answers::armed_value;
+use answers::blocks_number;
+use answers::blocks_values;
 use answers::bytes_written;
 use answers::card_number;
 use answers::card_values;
@@ -29,8 +31,12 @@ use answers::differ_number;
 use answers::differ_value;
 use answers::final_number;
 use answers::final_value;
+use answers::head_number;
+use answers::head_values;
 use answers::list_number;
 use answers::list_value;
+use answers::marks_number;
+use answers::marks_values;
 use answers::piece_number;
 use answers::read_number;
 use answers::read_values;
@@ -57,7 +63,10 @@ use pieces::node_count;
 use pieces::piece;
 use pieces::state_words;
 use readers::read_armed;
+use readers::read_blocks;
 use readers::read_final;
+use readers::read_head;
+use readers::read_marks;
 use readers::read_votes;
 use record::record_words;
 use rulebook::Input;
@@ -281,6 +290,36 @@ pub extern "C" fn qr_kept_votes(rec: &[u64], slot: usize, node: usize, values: &
     let a = read_votes(rec, Slot(slot), Node(node));
     *values = votes_values(a);
     votes_number(a)
+}
+
+// Reads a slot's kept blocks: three words for each of its four places.
+#[no_mangle]
+pub extern "C" fn qr_kept_blocks(rec: &[u64], slot: usize, values: &mut [u64; 12]) -> u64
+    ensures { λ r. ⌜ BlocksRead (blocksOn (now (rec .entry)) slot) r (now (values .exit)) ⌝ }
+{
+    let a = read_blocks(rec, Slot(slot));
+    *values = blocks_values(a);
+    blocks_number(a)
+}
+
+// Reads a slot's marks: timed out, and another final block.
+#[no_mangle]
+pub extern "C" fn qr_slot_marks(rec: &[u64], slot: usize, values: &mut [u64; 2]) -> u64
+    ensures { λ r. ⌜ MarksRead (marksOn (now (rec .entry)) slot) r (now (values .exit)) ⌝ }
+{
+    let a = read_marks(rec, Slot(slot));
+    *values = marks_values(a);
+    marks_number(a)
+}
+
+// Reads whose record it is and of which ring: the four words of its head.
+#[no_mangle]
+pub extern "C" fn qr_head(rec: &[u64], values: &mut [u64; 4]) -> u64
+    ensures { λ r. ⌜ HeadRead (headOn (now (rec .entry))) r (now (values .exit)) ⌝ }
+{
+    let a = read_head(rec);
+    *values = head_values(a);
+    head_number(a)
 }
 
 // Checks a packet that is to be one certificate.

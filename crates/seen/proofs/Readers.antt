@@ -13,8 +13,13 @@ use Rattle.readers.specs.declared.FinalAnswer.the-variants as final
 use Rattle.readers.specs.declared.ArmedAnswer.{ArmedAnswer}
 use Rattle.readers.specs.declared.ArmedAnswer.the-variants as armed
 use Rattle.readers.specs.declared.VotesAnswer.{VotesAnswer}
-use Rattle.readers.specs.Asked.{finalOn, armedOn, finalPanel, armedPanel, votesPanel}
-use Rattle.readers.proofs.Ways.{slot-unsound, slot-none, slot-asked, votes-there}
+use Rattle.readers.specs.declared.BlocksAnswer.{BlocksAnswer}
+use Rattle.readers.specs.declared.BlocksAnswer.the-variants as blocks
+use Rattle.readers.specs.declared.MarksAnswer.{MarksAnswer}
+use Rattle.readers.specs.declared.MarksAnswer.the-variants as marks
+use Rattle.readers.specs.declared.HeadAnswer.{HeadAnswer}
+use Rattle.readers.specs.Asked.{finalOn, armedOn, blocksOn, marksOn, finalPanel, armedPanel, votesPanel, blocksPanel, marksPanel, headPanel}
+use Rattle.readers.proofs.Ways.{slot-unsound, slot-none, slot-asked, votes-there, head-asked}
 use Rattle.answers.specs.Face.{FinalRead}
 use Rattle.seen.specs.Seen.{Seen}
 use Rattle.seen.specs.Readers.{ReadsTold, ReadersTell}
@@ -26,7 +31,7 @@ only a b = cc
 
 -- What is read of sound words.
 reads-told : (v : Seen) → soundWords (v .words) ≡ true → ReadsTold v
-unfolding finalOn armedOn finalPanel armedPanel votesPanel
+unfolding finalOn armedOn blocksOn marksOn finalPanel armedPanel votesPanel blocksPanel marksPanel headPanel
 reads-told v e =
     record {
       final = λ s number block h q.
@@ -38,6 +43,15 @@ reads-told v e =
       votes = λ s n number values h q t.
           let r = votes-there (v .words) s e q n t in
           (h .numbered ∙ ap (λ (a : VotesAnswer). votesPanel a .number) r, h .valued ∙ ap (λ (a : VotesAnswer). votesPanel a .values) r);
+      blocks = λ s number values h q.
+          let r = slot-asked blocks.Refused (v .words) s _ e q in
+          (h .numbered ∙ ap (λ (a : BlocksAnswer). blocksPanel a .number) r, h .valued ∙ ap (λ (a : BlocksAnswer). blocksPanel a .values) r);
+      marks = λ s number values h q.
+          let r = slot-asked marks.Refused (v .words) s _ e q in
+          (h .numbered ∙ ap (λ (a : MarksAnswer). marksPanel a .number) r, h .valued ∙ ap (λ (a : MarksAnswer). marksPanel a .values) r);
+      head = λ number values h.
+          let r = head-asked (v .words) e in
+          (h .numbered ∙ ap (λ (a : HeadAnswer). headPanel a .number) r, h .valued ∙ ap (λ (a : HeadAnswer). headPanel a .values) r);
     }
 
 -- A block that is read of any words is the one that the slot's row has.

@@ -34,6 +34,9 @@ mod c {
         pub fn qr_final_block(record: *const u64, record_words: usize, slot: usize, block: *mut u64) -> u64;
         pub fn qr_is_armed(record: *const u64, record_words: usize, slot: usize, armed: *mut u64) -> u64;
         pub fn qr_kept_votes(record: *const u64, record_words: usize, slot: usize, node: usize, values: *mut [u64; 7]) -> u64;
+        pub fn qr_kept_blocks(record: *const u64, record_words: usize, slot: usize, values: *mut [u64; 12]) -> u64;
+        pub fn qr_slot_marks(record: *const u64, record_words: usize, slot: usize, values: *mut [u64; 2]) -> u64;
+        pub fn qr_head(record: *const u64, record_words: usize, values: *mut [u64; 4]) -> u64;
         pub fn qr_check_certificate(stakes: *const u64, stake_count: usize, packet: *const u8, packet_bytes: usize,
                                     values: *mut [u64; 5], missing: *mut u64) -> u64;
         pub fn qr_check_proof(stakes: *const u64, stake_count: usize, packet: *const u8, packet_bytes: usize,
@@ -190,6 +193,24 @@ pub fn is_armed(record: &[u64], slot: usize) -> (u64, u64) {
 pub fn kept_votes(record: &[u64], slot: usize, node: usize) -> (u64, [u64; 7]) {
     let mut values = [0; 7];
     let number = unsafe { c::qr_kept_votes(record.as_ptr(), record.len(), slot, node, &mut values) };
+    (number, values)
+}
+
+pub fn kept_blocks(record: &[u64], slot: usize) -> (u64, [u64; 12]) {
+    let mut values = [0; 12];
+    let number = unsafe { c::qr_kept_blocks(record.as_ptr(), record.len(), slot, &mut values) };
+    (number, values)
+}
+
+pub fn slot_marks(record: &[u64], slot: usize) -> (u64, [u64; 2]) {
+    let mut values = [0; 2];
+    let number = unsafe { c::qr_slot_marks(record.as_ptr(), record.len(), slot, &mut values) };
+    (number, values)
+}
+
+pub fn head(record: &[u64]) -> (u64, [u64; 4]) {
+    let mut values = [0; 4];
+    let number = unsafe { c::qr_head(record.as_ptr(), record.len(), &mut values) };
     (number, values)
 }
 

@@ -2,7 +2,7 @@
 
 use crate::face;
 use crate::refusal::Refusal;
-use crate::words::{Block, Card, CertificateKind, Event, Node, Slot, Vote};
+use crate::words::{Block, Card, CertificateKind, Event, Head, Marks, Node, Slot, Vote, Weight};
 
 /// Bytes that hold a certificate, and a proof, of any ring.
 const CERTIFICATE_BYTES: usize = 768;
@@ -177,6 +177,27 @@ impl Record {
         let (number, words) = face::kept_votes(&self.words, slot.0, node.0);
         Refusal::check(number, 0)?;
         Ok(Vote::of_cell(slot, node, words))
+    }
+
+    /// The blocks that a slot keeps, four at most, in the order in which they were announced.
+    pub fn kept_blocks(&self, slot: Slot) -> Result<Vec<Block>, Refusal> {
+        let (number, words) = face::kept_blocks(&self.words, slot.0);
+        Refusal::check(number, 0)?;
+        Ok(Block::of_places(slot, words))
+    }
+
+    /// What a slot is marked with.
+    pub fn slot_marks(&self, slot: Slot) -> Result<Marks, Refusal> {
+        let (number, [timed_out, conflict]) = face::slot_marks(&self.words, slot.0);
+        Refusal::check(number, 0)?;
+        Ok(Marks { timed_out: timed_out != 0, conflict: conflict != 0 })
+    }
+
+    /// Whose record it is, and of which ring.
+    pub fn head(&self) -> Result<Head, Refusal> {
+        let (number, [own, nodes, stake, genesis]) = face::head(&self.words);
+        Refusal::check(number, 0)?;
+        Ok(Head { own: Node(own as usize), nodes: nodes as usize, stake: Weight(stake), genesis })
     }
 
     /// A record's length tells how many nodes its ring has.

@@ -82,6 +82,42 @@ pub struct Block {
     pub parent: u64,
 }
 
+impl Block {
+    /// The blocks in a slot's places, three words each; a place without a number is empty.
+    pub(crate) fn of_places(slot: Slot, words: [u64; 12]) -> Vec<Block> {
+        let kept = words.chunks_exact(3).filter(|place| place[0] != 0);
+        let block = |place: &[u64]| Block {
+            slot,
+            number: place[0],
+            parent_slot: Slot(place[1] as usize),
+            parent: place[2],
+        };
+        kept.map(block).collect()
+    }
+}
+
+/// What a slot is marked with.
+#[derive(Clone, Copy, Debug, PartialEq, Eq, Hash)]
+pub struct Marks {
+    /// Its timeout was taken.
+    pub timed_out: bool,
+    /// Another final block was told of it, [`Event::Conflict`].
+    pub conflict: bool,
+}
+
+/// Whose record it is, and of which ring.
+#[derive(Clone, Copy, Debug, PartialEq, Eq, Hash)]
+pub struct Head {
+    /// The own number; a watcher's is the number of nodes.
+    pub own: Node,
+    /// How many nodes the stake table has.
+    pub nodes: usize,
+    /// All their stake.
+    pub stake: Weight,
+    /// Genesis's number.
+    pub genesis: u64,
+}
+
 /// Kinds of certificates: who counts, and which part of the stake they reach. A ring of more than 64 nodes writes 10 more; the
 /// wrapper adds and takes them off.
 #[derive(Clone, Copy, Debug, PartialEq, Eq, PartialOrd, Ord, Hash)]

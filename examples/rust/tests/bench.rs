@@ -174,6 +174,29 @@ fn a_record_tells_of_the_votes_that_others_count_it_for() {
 }
 
 #[test]
+fn what_a_record_keeps_is_read() {
+    let (mut record, mut outbox) = (Record::start(&[2, 2, 3], Node(2), 9).unwrap(), Outbox::new());
+    let block = |number, parent| Block { slot: Slot(2), number, parent_slot: Slot(1), parent };
+    let announced = [block(8, 5), block(7, 6), block(11, 6), block(10, 5)];
+    for block in announced {
+        assert_eq!(record.block(&mut outbox, block), Ok(()));
+    }
+    assert_eq!(record.kept_blocks(Slot(2)), Ok(announced.to_vec()));
+    assert_eq!(record.kept_blocks(Slot(1)), Ok(vec![]));
+    assert_eq!(record.timeout(&mut outbox, Slot(3)), Ok(()));
+    let marked = |slot| record.slot_marks(Slot(slot)).unwrap();
+    assert_eq!([2, 3].map(marked), [false, true].map(|timed_out| Marks { timed_out, conflict: false }));
+    assert_eq!(record.head(), Ok(Head { own: Node(2), nodes: 3, stake: Weight(7), genesis: 9 }));
+    assert_eq!(Record::watch(&[2, 2, 3], 9).unwrap().head().map(|head| head.own), Ok(Node(3)));
+    assert_eq!(record.kept_blocks(Slot(17)), Err(Refusal::BadSlot));
+    assert_eq!(record.slot_marks(Slot(0)), Err(Refusal::BadSlot));
+    let cut = Record::from_words(record.words()[1..].to_vec());
+    assert_eq!(cut.kept_blocks(Slot(0)), Err(Refusal::BadRecord));
+    assert_eq!(cut.slot_marks(Slot(0)), Err(Refusal::BadRecord));
+    assert_eq!(cut.head(), Err(Refusal::BadRecord));
+}
+
+#[test]
 fn two_records_are_compared() {
     let start = |own| Record::start(&[4, 3, 3], Node(own), 1).unwrap();
     let (mut tokyo, mut zurich, mut outbox) = (start(0), start(1), Outbox::new());

@@ -335,7 +335,6 @@ fn before_start(mut random: Random) -> Script {
         "aside",
         "differ",
         "differ",
-        "stands",
     ];
     let ring = Ring::small(&mut random);
     let budget = random.range(3, 40) as usize;

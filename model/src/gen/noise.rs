@@ -39,7 +39,7 @@ pub fn some(w: &mut Writer, numbers: &Numbers) {
         }
         17 => {
             let set_aside = w.panel.aside.is_none() && w.random.percent(90);
-            let line = w.random.pick(&["aside", "differ", "differ", "stands", "stands"]);
+            let line = w.random.pick(&["aside", "differ", "differ"]);
             w.say(if set_aside { "aside" } else { line });
         }
         _ => {
