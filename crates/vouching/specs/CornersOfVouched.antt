@@ -61,8 +61,8 @@ unfolding rules vouchedOn sameTables
 vouched-told one two room a b c d = rw (a, b, c, d)
 
 -- 17 and the side whose words are no record, the first side where both are none; then 1 where the tables differ; both before 9.
-refused-sides : (good bad other : List ℕ) → soundWords good ≡ true → soundWords bad ≡ false → soundWords other ≡ true → sameTables (ledgerOf good) (ledgerOf other) ≡ false
+refused-sides : (good bad other : List ℕ) → soundWords good ≡ true → soundWords bad ≡ false → soundWords other ≡ true → ledgerOf good ≡ first → ledgerOf other ≡ fresh (6 ∷ 5 ∷ []) 1 1
     → T (equals (shown (vouchedOn bad good 0) ++ (shown (vouchedOn good bad 0) ++ (shown (vouchedOn bad bad 0) ++ shown (vouchedOn good other 0))))
     ((17 ∷ 1 ∷ []) ∷ [] ∷ (17 ∷ 2 ∷ []) ∷ [] ∷ (17 ∷ 1 ∷ []) ∷ [] ∷ (1 ∷ 0 ∷ []) ∷ [] ∷ []))
-unfolding rules sideNumber spellLines listPanel vouchedOn
-refused-sides good bad other a b c d = rw (a, b, c, d) tt
+unfolding rules sideNumber sameTables spellLines listPanel vouchedOn
+refused-sides good bad other a b c d e = rw (a, b, c, d, e) tt
