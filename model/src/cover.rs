@@ -58,6 +58,7 @@ const COMMANDS: &[&str] = &[
     "aside",
     "differ",
     "stands",
+    "vouched",
 ];
 
 pub fn cover(seed: u64, count: u64) -> Cover {
@@ -202,6 +203,7 @@ impl Cover {
             "card" if number == "0" => self.take_card(panel, words[1]),
             "differ" if number != "?" => self.take_differ(panel, &answered),
             "stands" if number == "0" => self.take_stands(panel),
+            "vouched" if number != "?" => self.take_vouched(panel, words.len() > 1, &answered),
             "unpack" if number == "0" => self.note(format!("unpack 0, {} bytes", words[2].len() / 2)),
             "check" | "checkproof" if number != "?" => self.take_checked(&words, number),
             _ => {}
@@ -294,7 +296,6 @@ impl Cover {
         }
     }
 
-    /// What a comparison found, and between which nodes.
     /// Which own votes were there to be asked about.
     fn take_stands(&mut self, panel: &Panel) {
         let node = match &panel.node {
@@ -310,6 +311,28 @@ impl Cover {
         }
     }
 
+    /// Of what the votes were that a record lacks, and by what they were counted.
+    fn take_vouched(&mut self, panel: &Panel, of_packet: bool, answered: &[&str]) {
+        let of = if of_packet { "vouched of a packet" } else { "vouched" };
+        if answered[0] != "0" {
+            return self.note(format!("{of}: {}", answered.join(" ")));
+        }
+        let node = panel.node.as_ref().expect("a node was asked");
+        match node.own() {
+            None => self.note(format!("{of}: a watcher")),
+            Some(_) if answered.len() == 2 => self.note(format!("{of}: no line")),
+            Some(_) => {}
+        }
+        if answered.len() > 2 && node.stakes().family() == Family::Large {
+            self.note(format!("{of}: lines, large table"));
+        }
+        for line in &answered[2..] {
+            let field: Vec<&str> = line.split(',').collect();
+            self.note(format!("{of}: kind {} by {}", field[2], field[4]));
+        }
+    }
+
+    /// What a comparison found, and between which nodes.
     fn take_differ(&mut self, panel: &Panel, answered: &[&str]) {
         let (aside, node) = match (&panel.aside, &panel.node) {
             (Some(aside), Some(node)) => (aside, node),

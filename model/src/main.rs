@@ -18,6 +18,7 @@ mod stands;
 mod tests;
 #[path = "../../tuned/mod.rs"]
 mod tuned;
+mod vouched;
 
 use panel::Answer;
 use std::io::{self, BufWriter, Read, Write};

@@ -167,7 +167,8 @@ pub enum Initial {
 #[derive(Clone, Default, PartialEq, Eq, Debug)]
 pub struct Cell {
     pub initial: Option<Initial>,
-    pub notar_fallbacks: BTreeSet<u64>,
+    /// As they came.
+    pub notar_fallbacks: Vec<u64>,
     pub skip_fallback: bool,
     pub final_vote: bool,
 }
@@ -188,7 +189,7 @@ impl Cell {
         self.initial == Some(Initial::Skip)
     }
 
-    fn keeps(&self, vote: Vote) -> bool {
+    pub fn keeps(&self, vote: Vote) -> bool {
         match vote {
             Vote::Notar(b) => self.notar_is(b),
             Vote::NotarFallback(b) => self.notar_fallbacks.contains(&b),
@@ -211,7 +212,7 @@ impl Cell {
         match vote {
             Vote::Notar(b) => self.initial = Some(Initial::Notar(b)),
             Vote::NotarFallback(b) => {
-                self.notar_fallbacks.insert(b);
+                self.notar_fallbacks.push(b);
             }
             Vote::Skip => self.initial = Some(Initial::Skip),
             Vote::SkipFallback => self.skip_fallback = true,
@@ -221,6 +222,13 @@ impl Cell {
 
     /// The kept votes in kind, block order.
     pub fn votes(&self) -> Vec<Vote> {
+        let mut all = self.votes_as_they_came();
+        all.sort_by_key(|vote| (vote.kind(), vote.block()));
+        all
+    }
+
+    /// The kept votes in kind order, notar-fallbacks as they came.
+    pub fn votes_as_they_came(&self) -> Vec<Vote> {
         let mut all = Vec::new();
         all.extend(self.notar_block().map(Vote::Notar));
         all.extend(self.notar_fallbacks.iter().map(|&b| Vote::NotarFallback(b)));
@@ -368,8 +376,11 @@ impl Node {
     }
 
     pub fn own_cell(&self, slot: u64) -> Cell {
-        let own = self.own.and_then(|own| self.pool[slot as usize].get(&own));
-        own.cloned().unwrap_or_default()
+        self.own.map(|own| self.cell(slot, own)).unwrap_or_default()
+    }
+
+    pub fn cell(&self, slot: u64, node: usize) -> Cell {
+        self.pool[slot as usize].get(&node).cloned().unwrap_or_default()
     }
 
     pub fn kept_blocks(&self, slot: u64) -> &[Block] {

@@ -146,21 +146,37 @@ pub fn check_whole(packet: &[u8], stakes: &Stakes) -> Result<(Certificate, Check
 }
 
 pub fn check_proof(packet: &[u8], stakes: &[u64]) -> Result<Checked, Refusal> {
-    let stakes = Stakes::new(stakes)?;
+    check_whole_proof(packet, &Stakes::new(stakes)?).map(|(_, checked)| checked)
+}
+
+/// Its certificates, and what is told of the first.
+fn check_whole_proof(packet: &[u8], stakes: &Stakes) -> Result<(Vec<Certificate>, Checked), Refusal> {
     let mut rest = packet;
-    let (first, checked) = check_one(&mut rest, &stakes)?;
+    let (first, checked) = check_one(&mut rest, stakes)?;
+    let mut certificates = vec![first.clone()];
     match first.cert {
         Cert::FastFinal(_) => {}
         Cert::Notar(_) => {
-            let (second, _) = check_one(&mut rest, &stakes)?;
+            let (second, _) = check_one(&mut rest, stakes)?;
             if second.cert != Cert::Final || second.slot != first.slot {
                 return Err(Refusal::NotAProof);
             }
+            certificates.push(second);
         }
         _ => return Err(Refusal::NotAProof),
     }
     nothing_remains(rest)?;
-    Ok(checked)
+    Ok((certificates, checked))
+}
+
+/// A packet of one certificate is checked as one, a longer one as a proof.
+pub fn check_any(packet: &[u8], stakes: &Stakes) -> Result<Vec<Certificate>, Refusal> {
+    let mut rest = packet;
+    let (first, _) = check_one(&mut rest, stakes)?;
+    if rest.is_empty() {
+        return Ok(vec![first]);
+    }
+    check_whole_proof(packet, stakes).map(|(certificates, _)| certificates)
 }
 
 pub fn nothing_remains(rest: &[u8]) -> Result<(), Refusal> {

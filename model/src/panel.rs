@@ -6,7 +6,8 @@ use crate::node::{is_slot, Card, Node, Record, Vote};
 use crate::packet;
 use crate::refusal::Refusal;
 use crate::stakes::{Family, Stakes};
-use crate::stands::{fallen, Fallen};
+use crate::stands::fallen;
+use crate::vouched::{lacking, lacking_in, Lacked};
 use std::collections::BTreeSet;
 
 /// Counted without the line's end.
@@ -74,6 +75,8 @@ enum Command {
     Aside,
     Differ,
     Stands,
+    Vouched,
+    VouchedPacket { packet: Vec<u8> },
     Cert { kind: u64, slot: u64, block: u64 },
     Proof { slot: u64, block: u64 },
     Check { packet: Vec<u8>, stakes: Vec<u64> },
@@ -152,7 +155,17 @@ impl Panel {
             },
             Command::Stands => match &self.node {
                 None => show_no_record(0),
-                Some(node) => show_fallen(&fallen(node)),
+                Some(node) => show_votes(fallen(node).iter().map(|f| (f.slot, f.node, f.vote, f.rule()))),
+            },
+            // As with `differ` the node aside is the first, so it is the present one that is asked.
+            Command::Vouched => match (&self.aside, &self.node) {
+                (None, _) => show_no_record(1),
+                (_, None) => show_no_record(2),
+                (Some(aside), Some(node)) => show_lacked(lacking(aside, node)),
+            },
+            Command::VouchedPacket { packet } => match &self.node {
+                None => show_no_record(0),
+                Some(node) => show_lacked(lacking_in(node, &packet)),
             },
             Command::Cert { kind, slot, block } => {
                 show_packet(&packet::write_cert(self.node()?, kind, slot, block)?)
@@ -233,6 +246,11 @@ fn parse(words: &[&[u8]]) -> Result<Command, Malformed> {
         b"aside" => numbers::<0>(rest).map(|_| Command::Aside),
         b"differ" => numbers::<0>(rest).map(|_| Command::Differ),
         b"stands" => numbers::<0>(rest).map(|_| Command::Stands),
+        b"vouched" => match rest {
+            [] => Ok(Command::Vouched),
+            [packet] => Ok(Command::VouchedPacket { packet: hex(packet)? }),
+            _ => Err(Malformed),
+        },
         b"vote" => {
             let [kind, node, slot, block] = numbers(rest)?;
             Ok(Command::Vote { kind, node, slot, block })
@@ -383,13 +401,21 @@ fn show_lines(lines: &[Line]) -> String {
     shown
 }
 
-/// Six votes a slot at most, so there is always room.
-fn show_fallen(fallen: &[Fallen]) -> String {
-    let mut shown = format!("0 {}", fallen.len());
-    for f in fallen {
-        shown += &format!(" {},{},{},{},{}", f.slot, f.node, f.vote.kind(), f.vote.block(), f.rule());
+/// Slot, node, vote and what is told beside it; the votes of one node always have room.
+fn show_votes(votes: impl ExactSizeIterator<Item = (u64, u64, Vote, u64)>) -> String {
+    let mut shown = format!("0 {}", votes.len());
+    for (slot, node, vote, beside) in votes {
+        shown += &format!(" {slot},{node},{},{},{beside}", vote.kind(), vote.block());
     }
     shown
+}
+
+/// Beside a refusal stands 0, the missing weight of a packet too.
+fn show_lacked(lacked: Result<Vec<Lacked>, Refusal>) -> String {
+    match lacked {
+        Ok(lacked) => show_votes(lacked.iter().map(|l| (l.slot, l.node, l.vote, l.source))),
+        Err(refusal) => format!("{} 0", refusal.number()),
+    }
 }
 
 fn show_card(c: Card) -> String {

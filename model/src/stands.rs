@@ -25,12 +25,12 @@ impl Fallen {
     }
 }
 
-/// Ascending by slot and kind. A watcher has no own votes.
+/// Ascending by slot and kind, notar-fallbacks as they were cast. A watcher has no own votes.
 pub fn fallen(node: &Node) -> Vec<Fallen> {
     let mut all = Vec::new();
     if let Some(own) = node.own() {
         for slot in 1..=LAST_SLOT {
-            let votes = node.own_cell(slot).votes().into_iter();
+            let votes = node.own_cell(slot).votes_as_they_came().into_iter();
             let falls = votes.filter(|&vote| !stands(node, slot, vote));
             all.extend(falls.map(|vote| Fallen { slot, node: own as u64, vote }));
         }

@@ -844,6 +844,100 @@ fn what_each_own_vote_stands_on() {
     assert_eq!(stands(&kept, &[]), "0 0");
 }
 
+// ---- which votes a record lacks ----
+
+/// What is answered of one node beside another, each with these votes laid in.
+fn vouched(first: Node, second: Node) -> String {
+    let mut panel = Panel::default();
+    panel.aside = Some(first);
+    panel.node = Some(second);
+    panel.line(b"vouched").unwrap().lines().concat()
+}
+
+#[test]
+fn which_record_is_asked_and_what_is_refused() {
+    let script =
+        "vouched\nvouched -\nstart 1 1 6 4\nvouched\nvouched -\naside\nvouched\nvouched 1\nvouched 01 1";
+    assert_eq!(run(script), ["17 1", "17 0", "0", "17 1", "12 0", "0", "0 0", "?", "?"]);
+    // Node 0 stands aside and counts a vote of node 1, that is asked; turned round there is nothing.
+    let counted = "start 0 1 6 4\nvote 3 1 2 0\naside\nstart 1 1 6 4\nvouched\naside\nstart 0 1 6 4\nvouched";
+    assert_eq!(run(counted)[4..], ["0 1 2,1,3,0,0", "0", "0", "0 0"]);
+    // Other stakes are no lines; own number and genesis are no part of them, and a watcher lacks nothing.
+    let other =
+        |start: &str| run(&format!("start 0 1 6 4\nvote 3 1 2 0\naside\n{start}\nvouched"))[4].clone();
+    assert_eq!(other("start 1 1 6 5"), "1 0");
+    assert_eq!(other("start 1 9 6 4"), "0 1 2,1,3,0,0");
+    assert_eq!(other("start 0 1 6 4"), "0 0");
+    assert_eq!(other("watch 1 6 4"), "0 0");
+}
+
+/// A watcher's record may show the votes of others.
+#[test]
+fn stored_votes_that_are_lacked() {
+    use Vote::*;
+    let all = [Notar(7), NotarFallback(9), NotarFallback(8), NotarFallback(10), SkipFallback, Final];
+    let with =
+        |node: Node, votes: &[Vote]| node.with_votes(votes.iter().map(|&vote| (16, 3, vote)).collect());
+    let five = || node(3, &[1; 5]);
+    let shows = || with(Node::watch(1, &[1; 5]).unwrap(), &all);
+    let lines = ["16,3,1,7,0", "16,3,2,9,0", "16,3,2,8,0", "16,3,2,10,0", "16,3,4,0,0", "16,3,5,0,0"];
+    // Notar-fallbacks as they came, not by number.
+    assert_eq!(vouched(shows(), five()), format!("0 6 {}", lines.join(" ")));
+    assert_eq!(vouched(shows(), with(five(), &all)), "0 0");
+    // A vote for another block, or of another kind, does not do for one.
+    assert_eq!(vouched(shows(), with(five(), &all[1..])), "0 1 16,3,1,7,0");
+    assert_eq!(vouched(shows(), with(five(), &[Skip, NotarFallback(7), NotarFallback(8)])), {
+        let lacked: Vec<&str> = [0, 1, 3, 4, 5].map(|i| lines[i]).to_vec();
+        format!("0 5 {}", lacked.join(" "))
+    });
+    assert_eq!(vouched(with(five(), &[Skip]), five()), "0 1 16,3,3,0,0");
+}
+
+/// By the mask that names the firm; kinds 1, 2, 4 and 5, then 3.
+#[test]
+fn kept_certificates_that_count_what_is_lacked() {
+    let take = |lines: &[&str]| {
+        let taken: Vec<String> = lines.iter().map(|hex| format!("take {hex}\n")).collect();
+        let script = format!("start 0 1 6 4\n{}aside\nstart 1 1 6 4\nvouched", taken.concat());
+        run(&script).last().unwrap().clone()
+    };
+    // Kind 3 for 9 and 8, kinds 4, 5 and 2 of slot 3; 3 and 4 name node 1 by mask B.
+    let of_slot = ["0303090102", "0303080102", "0403000102", "0503000300", "0203070300"];
+    assert_eq!(take(&of_slot), "0 5 3,1,1,7,2 3,1,4,0,4 3,1,5,0,5 3,1,2,9,3 3,1,2,8,3");
+    // By mask A kind 3 counts a notar vote, kind 4 a skip; who is not named is not asked.
+    assert_eq!(take(&["0303090300", "0404000300"]), "0 2 3,1,1,9,3 4,1,3,0,4");
+    assert_eq!(take(&["0303090100", "0503000100"]), "0 0");
+    assert_eq!(take(&["0105070300"]), "0 1 5,1,1,7,1");
+    // A record beside itself: a certificate may count its own node for what it did not cast.
+    assert_eq!(run("start 1 1 6 4\ntake 0403000102\naside\nvouched").last().unwrap(), "0 1 3,1,4,0,4");
+}
+
+#[test]
+fn packets_that_count_what_is_lacked() {
+    let of = |hex: &str| run(&format!("start 1 1 6 4\nvouched {hex}")).last().unwrap().clone();
+    assert_eq!(of("0203070300"), "0 1 3,1,1,7,2");
+    assert_eq!(of("02030703000503000300"), "0 2 3,1,1,7,2 3,1,5,0,5");
+    assert_eq!(of("0303090102"), "0 1 3,1,2,9,3");
+    assert_eq!(of("0403000100"), "0 0");
+    assert_eq!(run("watch 1 6 4\nvouched 0203070300").last().unwrap(), "0 0");
+    // What the node has cast itself is not lacked.
+    assert_eq!(run("start 1 1 1 4\nblock 1 7 0 1\nvouched 0101070300\nproof 1 7")[2], "0 0");
+    // The checker's refusals, 15 with 0 beside it too.
+    assert_eq!(
+        ["-", "8000", "0203070200", "020307030005", "03030901020203070300"].map(of),
+        ["12 0", "13 0", "15 0", "12 0", "16 0"]
+    );
+}
+
+#[test]
+fn large_rings_lack_by_kinds_1_to_5() {
+    let stakes = vec!["1"; 65].join(" ");
+    let masks = |named: bool| if named { "FFFFFFFFFFFFFFFFFF01" } else { "00" };
+    let hex = format!("0D0309{}01{}", masks(true), "00".repeat(62));
+    let script = format!("start 64 1 {stakes}\nvouched {hex}\nvouched 0303090300");
+    assert_eq!(run(&script), ["0", "0 1 3,64,1,9,3", "4 0"]);
+}
+
 // ---- which votes differ ----
 
 #[test]
@@ -1800,6 +1894,7 @@ const POSSIBLE: &[(&str, &[u64])] = &[
     ("aside", &[0, 17]),
     ("differ", &[0, 17]),
     ("stands", &[0]),
+    ("vouched", &[0, 1, 3, 4, 5, 12, 13, 14, 15, 16, 17]),
     ("piece", &[1]),
     ("end", &[0, 4, 12, 13, 14, 15, 16]),
     ("votes", &[0, 17]),
@@ -1958,6 +2053,22 @@ const BRANCHES: &[&str] = &[
     "stands: an own vote of kind 3",
     "stands: an own vote of kind 4",
     "stands: an own vote of kind 5",
+    "vouched: no line",
+    "vouched: a watcher",
+    "vouched: kind 1 by 1",
+    "vouched: kind 1 by 2",
+    "vouched: kind 1 by 3",
+    "vouched: kind 2 by 3",
+    "vouched: kind 5 by 5",
+    "vouched of a packet: no line",
+    "vouched of a packet: a watcher",
+    "vouched of a packet: lines, large table",
+    "vouched of a packet: kind 1 by 1",
+    "vouched of a packet: kind 1 by 2",
+    "vouched of a packet: kind 1 by 3",
+    "vouched of a packet: kind 2 by 3",
+    "vouched of a packet: kind 4 by 4",
+    "vouched of a packet: kind 5 by 5",
     "differ: no line",
     "differ: lines of one side",
     "differ: lines of both sides",
@@ -2034,6 +2145,16 @@ const SELDOM: &[&str] = &[
     "D by a vote in the parent's slot, large table",
     "D by a timeout in another slot, large table",
     "D past a lower block that waits, large table",
+    "vouched: 1 0",
+    "vouched: lines, large table",
+    "vouched: kind 3 by 4",
+    "vouched: kind 4 by 4",
+    "vouched of a packet: kind 3 by 4",
+    "vouched: kind 1 by 0",
+    "vouched: kind 2 by 0",
+    "vouched: kind 3 by 0",
+    "vouched: kind 4 by 0",
+    "vouched: kind 5 by 0",
 ];
 
 /// Scripts of very many votes, which are few.

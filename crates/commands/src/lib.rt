@@ -33,6 +33,7 @@ pub enum Command {
     Help,
     Quit,
     Stands,
+    Vouched,
     Other,
 }
 
@@ -152,6 +153,9 @@ fn inquest_of(word: &[u8]) -> Command
 {
     if same(word, b"stands") {
         return Command::Stands;
+    }
+    if same(word, b"vouched") {
+        return Command::Vouched;
     }
     view_of(word)
 }
@@ -277,6 +281,7 @@ fn arguments_fit(c: Command, line: &[u8], at: usize) -> bool
         Command::Help => exactly(line, at, 0),
         Command::Quit => exactly(line, at, 0),
         Command::Stands => exactly(line, at, 0),
+        Command::Vouched => exactly(line, at, 0) | packet_alone(line, at),
         Command::Other => false,
     }
 }

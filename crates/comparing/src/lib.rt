@@ -1,5 +1,5 @@
-// The commands by which nodes are compared: a node set aside, its stored votes beside the present one's, own votes that do not stand, and a
-// record saved.
+// The commands by which nodes are compared: a node set aside, its stored votes beside the present one's, own votes that do not stand, votes
+// that the node lacks, and a record saved.
 ghost use mathlib.Core.Path.{_≡_};
 ghost use Prim.Native.Nat.{_+_, _*_, _%_, _≤_};
 ghost use lib.Dec.{eqb};
@@ -9,12 +9,15 @@ ghost use Rattle.lines.specs.Put.{Put};
 ghost use Rattle.comparing.specs.Compared.{lineText, linesText, differLine, wordBytes, wordsBytes, SetAside};
 use door::send;
 use door::send_to;
+use hex::read_hex;
 use lines::put_byte;
 use lines::put_decimal;
 use lines::put_named;
 use lines::put_text;
 use quointrowel::qr_differ;
 use quointrowel::qr_stands;
+use quointrowel::qr_vouched;
+use quointrowel::qr_vouched_packet;
 use replies::malformed;
 use replies::number;
 use script::word_at;
@@ -28,6 +31,12 @@ const LIST_WORDS: usize = 76800;
 
 // The words of 96 lines: six own votes in each of sixteen slots.
 const FALLEN_WORDS: usize = 480;
+
+// The words of 528 lines: seven votes in each of sixteen slots, and two for each of thirteen certificates.
+const LACKED_WORDS: usize = 2640;
+
+// The words of two lines: a proof has two certificates, and each counts a firm by one mask.
+const SHOWN_WORDS: usize = 10;
 
 // So many words of a record are written at a time: their bytes have room in a page.
 const PIECE_WORDS: usize = 8192;
@@ -119,6 +128,43 @@ pub fn stands(page: &mut [u8], rec: &[u64]) -> bool {
     let n = qr_stands(&rec[0..words], &mut list, &mut beside);
     let used = differ_line(page, n, beside, &list);
     send(page, used)
+}
+
+// ---- which votes the node lacks
+
+// The node aside counts them in its name.
+fn vouched_aside(page: &mut [u8], kept: &[u64], rec: &[u64]) -> bool {
+    let mut list = [0u64; LACKED_WORDS];
+    let mut beside = 0;
+    let first = node_words(kept);
+    let second = node_words(rec);
+    let n = qr_vouched(&kept[0..first], &rec[0..second], &mut list, &mut beside);
+    let used = differ_line(page, n, beside, &list);
+    send(page, used)
+}
+
+// A packet does.
+fn vouched_packet(page: &mut [u8], packet: &[u8], rec: &[u64]) -> bool {
+    let mut list = [0u64; SHOWN_WORDS];
+    let mut beside = 0;
+    let words = node_words(rec);
+    let n = qr_vouched_packet(&rec[0..words], packet, &mut list, &mut beside);
+    let used = differ_line(page, n, beside, &list);
+    send(page, used)
+}
+
+// vouched, vouched HEX; a line has no room for more than 32,768 bytes of packet.
+pub fn vouched(page: &mut [u8], line: &[u8], at: usize, kept: &[u64], rec: &[u64]) -> bool {
+    let w = word_at(line, at);
+    let from = w.from;
+    let to = w.to;
+    if to <= from {
+        return vouched_aside(page, kept, rec);
+    }
+    let mut bytes = [0u8; 32768];
+    let hex = read_hex(&line[from..to], &mut bytes);
+    let length = hex.size;
+    vouched_packet(page, &bytes[0..length], rec)
 }
 
 // ---- a record saved

@@ -103,10 +103,15 @@ fn comparisons(page: &mut [u8], at: usize) -> usize {
         q,
         b"save FILE                            0; the node's record, as ./differ reads it",
     );
-    tell_line(
+    let s = tell_line(
         page,
         r,
         b"stands                               0 N slot,node,kind,block,rule .., own votes that do not stand, rule 2 to 5 for B to E; 9 LINES",
+    );
+    tell_line(
+        page,
+        s,
+        b"vouched | vouched HEX                0 N slot,node,kind,block,source .., votes of the node that the node aside or a packet counts and it lacks; 17 SIDE",
     )
 }
 

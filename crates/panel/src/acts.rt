@@ -5,6 +5,7 @@ use commands::command_of;
 use comparing::differ;
 use comparing::save;
 use comparing::stands;
+use comparing::vouched;
 use piecing::end;
 use piecing::piece;
 use replies::Turn;
@@ -40,6 +41,7 @@ fn others(
         Command::Differ => answered(differ(page, aside, rec)),
         Command::Save => answered(save(page, line, at, rec)),
         Command::Stands => answered(stands(page, rec)),
+        Command::Vouched => answered(vouched(page, line, at, aside, rec)),
         _ => ask(page, c, line, at, rec),
     }
 }

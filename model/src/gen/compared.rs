@@ -95,6 +95,7 @@ fn go_on(w: &mut Writer, numbers: &Numbers, most_slots: u64) {
         w.say(line);
     }
     w.say("differ");
+    w.say("vouched");
 }
 
 /// The same table, perhaps seen by another node or from another genesis, or a

@@ -97,6 +97,7 @@ fn begin_any(mut random: Random, mut ring: Ring, least: u64, most: u64) -> Write
 fn end(mut w: Writer) -> Script {
     w.ask_for_votes();
     w.say("stands");
+    ask_what_is_lacked(&mut w);
     if w.random.percent(11) {
         malformed::long_silence(&mut w);
     }
@@ -104,6 +105,20 @@ fn end(mut w: Writer) -> Script {
         quit(&mut w);
     }
     w.into_script()
+}
+
+/// Of the node aside, and of the packets that were said last.
+fn ask_what_is_lacked(w: &mut Writer) {
+    if w.panel.aside.is_some() {
+        w.say("vouched");
+    }
+    for command in ["take ", "check ", "checkproof "] {
+        let said = w.said_with(command).pop();
+        let packet = said.and_then(|line| line.split(' ').nth(1).map(str::to_string));
+        if let (Some(packet), true) = (packet, w.panel.node.is_some()) {
+            w.say(format!("vouched {packet}"));
+        }
+    }
 }
 
 /// Lines of every sort may follow; none is read.
@@ -315,6 +330,7 @@ fn before_start(mut random: Random) -> Script {
         "take -",
         "timeout 1",
         "timeout 99",
+        "timeout 16",
         "look",
         "look",
         "cert 1 1 7",
@@ -335,6 +351,8 @@ fn before_start(mut random: Random) -> Script {
         "aside",
         "differ",
         "differ",
+        "vouched",
+        "vouched 0101070100",
     ];
     let ring = Ring::small(&mut random);
     let budget = random.range(3, 40) as usize;

@@ -173,6 +173,15 @@ exactly-requires-20 c κs = search needs
 enum-told-27 : tie.Need-enum-told-27
 enum-told-27 c = search needs
 
+exactly-requires-21 : tie.Need-exactly-requires-21
+exactly-requires-21 c κs = search needs
+
+packet-alone-requires-2 : tie.Need-packet-alone-requires-2
+packet-alone-requires-2 c κs = search needs
+
+enum-told-28 : tie.Need-enum-told-28
+enum-told-28 c = search needs
+
 returns : tie.Need-returns
 unfolding argumentsFit
 returns c =
@@ -306,7 +315,12 @@ returns-26 c =
 returns-27 : tie.Need-returns-27
 unfolding argumentsFit
 returns-27 c =
-    simp (c .enum-told27 .given .1)
+    simp (c .before .before .enum-told27 .given .1, c .before .exactly21 .ensures, c .packet-alone2 .ensures)
+
+returns-28 : tie.Need-returns-28
+unfolding argumentsFit
+returns-28 c =
+    simp (c .enum-told28 .given .1)
 
 pub arguments-fit-spec : {M : Type 1} → statement M
 arguments-fit-spec =
@@ -368,6 +382,9 @@ arguments-fit-spec =
     enum-told-26
     exactly-requires-20
     enum-told-27
+    exactly-requires-21
+    packet-alone-requires-2
+    enum-told-28
     returns
     returns-2
     returns-3
@@ -394,4 +411,5 @@ arguments-fit-spec =
     returns-24
     returns-25
     returns-26
-    returns-27)
+    returns-27
+    returns-28)
