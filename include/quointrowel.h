@@ -16,6 +16,9 @@
  *     qr_check_certificate, qr_check_proof, qr_end           1,216
  *     qr_read_vote                                             288
  *     qr_start, qr_watch, qr_write_vote, qr_piece, sizes        64
+ * At three nodes alone were measured qr_vouched_packet, 18,128, qr_vouched, 17,568, and qr_stands, 17,504. Not measured are
+ * qr_kept_blocks, qr_slot_marks and qr_head, which are made as qr_card is; and of qr_take, qr_check_certificate, qr_check_proof and qr_end
+ * the table of 64 stakes that they have since: by their frames up to 740 bytes more.
  *
  * Node. A node is its record: qr_record_words(stake_count) words, owned by the host, which may copy it, keep it and lend
  * it again, always with that length. qr_start makes lent words a fresh node, qr_watch a fresh watcher, a node that never
