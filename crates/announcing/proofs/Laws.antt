@@ -5,7 +5,7 @@ use mathlib.Core.List.{List}
 use Prim.Native.Nat.{ℕ, ◌≤◌}
 use native.Mathlib.Omega.{arith}
 use lib.Dec.{leb}
-use borrow.Author.Tests.{leb-true, not_false}
+use borrow.Author.Tests.{leb-true, not-false}
 use Rattle.rulebook.specs.declared.Block.{Block}
 use Rattle.rulebook.specs.declared.Refusal.{Refusal}
 use Rattle.rulebook.specs.declared.Refusal.TheVariants as refusal
@@ -49,7 +49,7 @@ module _ (l : Ledger) (s : ℕ) (b : Block) (fine : block_verdict l s b ≡ Fine
   pub fine_slot : (1 ≤ s) × (s ≤ last_slot)
   unfolding slot_ok
   fine_slot =
-      let h = and_both (leb 1 s) (leb s last_slot) (not_false (slot_ok s) tests.0) in
+      let h = and_both (leb 1 s) (leb s last_slot) (not-false (slot_ok s) tests.0) in
       (leb-true 1 s h.0, leb-true s last_slot h.1)
 
   fine_new : some_block (has_number b.number) (blocks_at l s) ≡ false

@@ -4,7 +4,7 @@ use mathlib.Core.Bool.{Bool, true, false, not, ◌&&◌, ◌||◌}
 use Prim.Native.Nat.{ℕ, ◌+◌, ◌≤◌, ◌<◌}
 use native.Mathlib.Omega.{arith}
 use lib.Dec.{eqb, leb}
-use borrow.Author.Tests.{eq-eqb, ne_eqb, eqb-true, eqb-false, leb-true, leb-false, not_true, not_false}
+use borrow.Author.Tests.{eq-eqb, ne_eqb, eqb-true, eqb-false, leb-true, leb-false, not-true, not-false}
 use Rattle.rulebook.specs.declared.Who.TheVariants as who
 use Rattle.rulebook.specs.Tools.{part, some_to}
 use Rattle.rulebook.specs.Weights.{stake_in, weight}
@@ -86,7 +86,7 @@ module _ (l : Ledger) (s : ℕ) where
         let f = some_find l.count (λ i. rivals l s b v (cell_at l s i).notar) t in
         let m = (cell_at l s f.0).notar in
         let p = and_both (not (none m)) (leads m (weigh l s (who.Notar m)) b v) f.2 in
-        let h : 1 ≤ m = omega (arith, eqb-false m 0 (not_true (none m) p.0)) in
+        let h : 1 ≤ m = omega (arith, eqb-false m 0 (not-true (none m) p.0)) in
         leads_on m (weigh l s (who.Notar m)) b v p.1 (λ i. absurd (omega (arith, g.above m h))) (λ i j. absurd (omega (arith, g.lower m h x (sym i)))))
         (λ t. t)
 
@@ -125,7 +125,7 @@ module _ (l : Ledger) (s : ℕ) where
     pub fits_light : (w : ℕ) → w ≡ weigh l s (who.Notar b) → (b ≡ 0 → ⊥) → (eqb v 0 || not (eqb w v)) ≡ true → false ≡ fits
     fits_light w e ne t =
         unfit (λ g. or_cases (eqb v 0) (not (eqb w v)) t (λ u. ne (g.empty (eqb-true v 0 u)))
-        (λ u. by_test (leb 1 v) (λ i. eqb-false w v (not_true (eqb w v) u) (e ∙ g.weight (leb-true 1 v i))) (λ i. ne (g.empty (omega (arith, leb-false 1 v i))))))
+        (λ u. by_test (leb 1 v) (λ i. eqb-false w v (not-true (eqb w v) u) (e ∙ g.weight (leb-true 1 v i))) (λ i. ne (g.empty (omega (arith, leb-false 1 v i))))))
 
     module _ (w : ℕ) (e : w ≡ weigh l s (who.Notar b)) (ne : b ≡ 0 → ⊥) (t : (eqb v 0 || not (eqb w v)) ≡ false) where
       -- it has weight, and that is on the card
@@ -133,7 +133,7 @@ module _ (l : Ledger) (s : ℕ) where
       claim_some = omega (arith, eqb-false v 0 (or_none (eqb v 0) (not (eqb w v)) t).0)
 
       pub claim_same : w ≡ v
-      claim_same = eqb-true w v (not_false (eqb w v) (or_none (eqb v 0) (not (eqb w v)) t).1)
+      claim_same = eqb-true w v (not-false (eqb w v) (or_none (eqb v 0) (not (eqb w v)) t).1)
 
       -- more than all the others together
       pub fits_quick : (any : ℕ) → any ≡ weigh l s who.AnyNotar → any < w + w → true ≡ fits
@@ -144,5 +144,5 @@ module _ (l : Ledger) (s : ℕ) where
       fits_unled r f =
           ap not f
           ∙ same_test (not (has_rival l s b v l.count)) fits
-          (λ u. leads_fits (unled_leads (omega arith) claim_some (sym e ∙ claim_same) (not_true (has_rival l s b v l.count) u)))
+          (λ u. leads_fits (unled_leads (omega arith) claim_some (sym e ∙ claim_same) (not-true (has_rival l s b v l.count) u)))
           (λ u. ap not (leads_unled claim_some (fits_leads u)))

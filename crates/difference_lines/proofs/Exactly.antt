@@ -6,7 +6,7 @@ use Prim.Native.Nat.{ℕ, zero, suc, ◌+◌, ◌≤◌, ◌<◌}
 use native.Mathlib.Omega.{arith}
 use lib.Dec.{eqb, leb, ltb}
 use lib.ListN.{length}
-use borrow.Author.Tests.{eq-eqb, ne_eqb, eqb-true, eqb-false, ltb-true, lt-ltb, le-leb, leb-true, not_true}
+use borrow.Author.Tests.{eq-eqb, ne_eqb, eqb-true, eqb-false, ltb-true, lt-ltb, le-leb, leb-true, not-true}
 use Rattle.rulebook.specs.declared.Cell.{Cell}
 use Rattle.rulebook.specs.declared.Vote.{Vote}
 use Rattle.rulebook.specs.declared.VoteKind.{VoteKind}
@@ -170,7 +170,7 @@ any_join p (x ∷ xs) ys = ap (λ (b : Bool). p x || b) (any_join p xs ys) ∙ s
 above_zero : (b : ℕ) → ltb 0 b ≡ not (none b)
 above_zero b =
     same_test (ltb 0 b) (not (none b)) (λ e. let h = ltb-true 0 b e in rw (ne_eqb b 0 (λ q. omega arith)))
-    (λ e. lt-ltb 0 b (omega (arith, eqb-false b 0 (not_true (none b) e))))
+    (λ e. lt-ltb 0 b (omega (arith, eqb-false b 0 (not-true (none b) e))))
 
 enough : (a any z alone : Bool) → a ≡ z → (alone ≡ true → any ≡ true) → ((a && any) && alone) ≡ (z && alone)
 enough true true z alone e f = ap (λ (x : Bool). x && alone) e

@@ -8,7 +8,7 @@ use native.Mathlib.Numerals.{add-one}
 use lib.ListN.{length, set, length-append}
 use lib.Seq.{sets, length-sets}
 use lib.Dec.{eqb, ltb}
-use borrow.Author.Tests.{ne_eqb, eqb-true, not_true}
+use borrow.Author.Tests.{ne_eqb, eqb-true, not-true}
 use Rattle.rulebook.specs.declared.Cell.{Cell}
 use Rattle.rulebook.specs.declared.Vote.{Vote}
 use Rattle.rulebook.specs.declared.VoteKind.{VoteKind}
@@ -91,14 +91,14 @@ module _ (v : Vote) {list left : List ℕ} {at next : ℕ} (a b x y : Bool) (p :
   unfolding line_of
   told_first e w =
       let f = and_both x (not y) e in
-      let k : line_for v side.First ∷ [] ≡ line_of v a b = rw (← p, ← q, f.0, not_true y f.1) in
+      let k : line_for v side.First ∷ [] ≡ line_of v a b = rw (← p, ← q, f.0, not-true y f.1) in
       laid_as k w
 
   pub told_second : (y && not x) ≡ true → Laid list at (line_for v side.Second ∷ []) left next → Laid list at (line_of v a b) left next
   unfolding line_of
   told_second e w =
       let f = and_both y (not x) e in
-      let k : line_for v side.Second ∷ [] ≡ line_of v a b = rw (← p, ← q, f.0, not_true x f.1) in
+      let k : line_for v side.Second ∷ [] ≡ line_of v a b = rw (← p, ← q, f.0, not-true x f.1) in
       laid_as k w
 
 no_line : (v : Vote) (x y : Bool) → (x && not y) ≡ false → (y && not x) ≡ false → line_of v x y ≡ []

@@ -6,7 +6,7 @@ use Prim.Native.Nat.{ℕ, zero, suc, ◌+◌, ◌-◌, ◌≤◌}
 use native.Mathlib.Omega.{arith}
 use lib.ListN.{length, get_or}
 use lib.Dec.{eqb}
-use borrow.Author.Tests.{eqb-true, eqb-false, eq-eqb, ne_eqb, not_true, not_false}
+use borrow.Author.Tests.{eqb-true, eqb-false, eq-eqb, ne_eqb, not-true, not-false}
 use Rattle.rulebook.specs.declared.Block.{Block}
 use Rattle.rulebook.specs.declared.CertificateKind.{CertificateKind}
 use Rattle.rulebook.specs.declared.CertificateKind.TheVariants as certificate
@@ -48,7 +48,7 @@ kept_nameless [] bs e = refl
 kept_nameless (q ∷ qs) bs e =
     let f : ℕ → Bool = λ n. not (none (get_or (q ∷ qs) n no_kept).block) in
     let h = or_none (not (none q.block)) (some_to (length qs) (λ n. f (suc n))) (sym (some_first (length qs) f) ∙ e) in
-    named_off q.block (kept_names qs bs) (not_false (none q.block) h.0) ∙ kept_nameless qs bs h.1
+    named_off q.block (kept_names qs bs) (not-false (none q.block) h.0) ∙ kept_nameless qs bs h.1
 
 -- Nor does one of them hold anything.
 pub kept_unheld : (p : ℕ → Bool) (qs : List Kept) → some_to (length qs) (λ n. not (none (get_or qs n no_kept).block)) ≡ false → some_kept_holds p qs ≡ false
@@ -68,7 +68,7 @@ module _ (l : Ledger) (q : ℕ) (looks : List ℕ) (b : Bounds l looks) (e : is_
   idle_parts =
       let h = and_both (is_short l looks q) (not (names_kept l q) && not (held l certificate.Skip q 0)) e in
       let g = and_both (not (names_kept l q)) (not (held l certificate.Skip q 0)) h.1 in
-      (h.0, not_true (names_kept l q) g.0, not_true (held l certificate.Skip q 0) g.1)
+      (h.0, not-true (names_kept l q) g.0, not-true (held l certificate.Skip q 0) g.1)
 
   no_blocks : any_of (held l certificate.NotarFallback q) (certifiable l q) ≡ false
   unfolding names_kept
@@ -199,7 +199,7 @@ module _ (o : State) (looks : List ℕ) (bounds : Bounds o.ledger looks) (s : �
       (λ t.
       let idle = is_idle o.ledger looks (s - 1) in
       let h = or_none (eqb s 1) (not idle) ((λ k. sym t k && (eqb s 1 || not idle)) ∙ e) in
-      A-none o s t (unready o.ledger (s - 1) looks bounds (not_false idle h.1) s (omega (arith, eqb-false s 1 h.0)) (omega arith)))
+      A-none o s t (unready o.ledger (s - 1) looks bounds (not-false idle h.1) s (omega (arith, eqb-false s 1 h.0)) (omega arith)))
       (A-off o s)
 
   module _ (fits : blocks_fit o.ledger s (blocks_at o.ledger s) ≡ true) where
@@ -216,8 +216,8 @@ module _ (o : State) (looks : List ℕ) (bounds : Bounds o.ledger looks) (s : �
         let h = and_both (not (seeks_parent l looks s)) ((not (names_kept l s) && is_bare l s) && not (leads_anew l s)) e in
         let i = and_both (not (names_kept l s) && is_bare l s) (not (leads_anew l s)) h.1 in
         let f = and_both (not (names_kept l s)) (is_bare l s) i.0 in
-        let none-new = nobody_new l s k (not_true (names_kept l s) f.0) (not_true (leads_anew l s) i.1) in
-        pass o s 1 6 0 (sym (only_a o s) ∙ parentless (not_true (seeks_parent l looks s) h.0))
+        let none-new = nobody_new l s k (not-true (names_kept l s) f.0) (not-true (leads_anew l s) i.1) in
+        pass o s 1 6 0 (sym (only_a o s) ∙ parentless (not-true (seeks_parent l looks s) h.0))
         ∙ pass o s 4 2 1 (bare_quiet o s f.1)
         ∙ pass o s 1 1 5 (sym (only_f o s) ∙ F-off o s (eq-eqb _ 0 none-new))
         ∙ sym (only_g o s)

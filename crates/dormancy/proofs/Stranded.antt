@@ -6,7 +6,7 @@ use Prim.Native.Nat.{ℕ, ◌+◌, ◌-◌, ◌≤◌, ◌<◌}
 use native.Mathlib.Omega.{arith}
 use lib.ListN.{get_or}
 use lib.Dec.{eqb, ltb}
-use borrow.Author.Tests.{eqb-false, ltb-true, ltb-false, not_true, ne_eqb, eq-eqb}
+use borrow.Author.Tests.{eqb-false, ltb-true, ltb-false, not-true, ne_eqb, eq-eqb}
 use Rattle.rulebook.specs.declared.Block.{Block}
 use Rattle.rulebook.specs.declared.CertificateKind.TheVariants as certificate
 use Rattle.rulebook.specs.Weights.{is_first}
@@ -60,7 +60,7 @@ pub some_parent : (l : Ledger) (s : ℕ) (k : Block) → is_free k ≡ false →
 unfolding kept_fits
 some_parent l s k free fits =
     let g = sym (given_on (not (is_free k)) (none k.parentslot.0 && none k.parent) (λ _. not (none k.parent) && not (bad_parent l s k)) (ap not free)) ∙ fits in
-    not_true (none k.parent) (and_both (not (none k.parent)) (not (bad_parent l s k)) g).0
+    not-true (none k.parent) (and_both (not (none k.parent)) (not (bad_parent l s k)) g).0
 
 -- ---- neither A nor B
 
@@ -77,7 +77,7 @@ module _ (o : State) (looks : List ℕ) (bounds : Bounds o.ledger looks) (s : �
   parts =
       let h = and_both (is_first s && not (eqb s 1)) (is_idle o.ledger looks (s - 1)) e in
       let g = and_both (is_first s) (not (eqb s 1)) h.0 in
-      (g.0, not_true (eqb s 1) g.1, h.1)
+      (g.0, not-true (eqb s 1) g.1, h.1)
 
   quiet_a : rule_a o s ≡ o
   quiet_a =
@@ -91,7 +91,7 @@ module _ (o : State) (looks : List ℕ) (bounds : Bounds o.ledger looks) (s : �
   unfit n =
       let l = o.ledger in
       let bs = blocks_at l s in
-      let free : is_free (first_block l s) ≡ false = not_true (is_free (first_block l s)) n in
+      let free : is_free (first_block l s) ≡ false = not-true (is_free (first_block l s)) n in
       let kept = first_fits (kept_fits l s) bs (and_both (all_blocks (kept_fits l s) bs) (blocks_apart bs) fits).0 free in
       ap (λ (x : Bool). parent_fits l s x (first_block l s)) parts.0
       ∙ nothing_ready l (s - 1) looks bounds parts.2 s (first_block l s).parentslot.0 (first_block l s).parent (omega (arith, eqb-false s 1 parts.1)) (omega arith) (some_parent l s (first_block l s) free kept)

@@ -5,7 +5,7 @@ use mathlib.Core.List.{List, [], ◌∷◌}
 use Prim.Native.Nat.{ℕ, ◌≤◌, ◌<◌}
 use native.Mathlib.Omega.{arith}
 use lib.Dec.{eqb, leb, ltb}
-use borrow.Author.Tests.{eqb-true, leb-true, leb-false, lt-ltb, le-ltb, not_false}
+use borrow.Author.Tests.{eqb-true, leb-true, leb-false, lt-ltb, le-ltb, not-false}
 use Rattle.rulebook.specs.declared.Block.{Block}
 use Rattle.rulebook.specs.Tools.{whenever, choose, lowest}
 use Rattle.rulebook.specs.Ledger.{Ledger, none, no_block, row_at, blocks_at, is_free, has_number, put_final, put_clash}
@@ -151,7 +151,7 @@ walk_off o s h low high below e =
     by_test (eqb p 0 || leb s p) (G-halts o s low k refl)
     (λ t.
     let w = walk_to_lem o s low k refl h high t in
-    let same : eqb f x ≡ true = not_false (eqb f x) (begins_below l s k refl f refl t ∙ e) in
+    let same : eqb f x ≡ true = not-false (eqb f x) (begins_below l s k refl f refl t ∙ e) in
     let told : tell_final o p x ≡ o = final_same o p x (ap none (eqb-true f x same) ∙ w.number) same in
     G-on o s low k refl t (ap (λ (q : State). eqb (row_at q.ledger p).final x) told ∙ same)
     ∙ ap (λ (q : State). rule_g q p) told

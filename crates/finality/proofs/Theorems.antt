@@ -8,7 +8,7 @@ use native.Mathlib.Omega.{arith}
 use lib.ListN.{length, length-append}
 use lib.Dec.{eqb, leb}
 use lib.Arith.{lt_of_le-ne}
-use borrow.Author.Tests.{eqb-true, eqb-false, ne_eqb, not_true, leb-false, lt-leb}
+use borrow.Author.Tests.{eqb-true, eqb-false, ne_eqb, not-true, leb-false, lt-leb}
 use Rattle.rulebook.specs.declared.Block.{Block}
 use Rattle.rulebook.specs.Tools.{lowest}
 use Rattle.rulebook.specs.Ledger.{Ledger, none, row_at, certificates_at, blocks_at, some_block, all_blocks, is_free, has_number, is_block, keeps_block, put_final, put_clash}
@@ -58,7 +58,7 @@ certified_is_told o h t s b low high nb e =
     let some : 1 ≤ x = (low_le (is_newcomer l s) bs b few (final_leads l s t.sum t.some b pos e) (both_and (is_final l s b) (not (eqb b f)) e (ap not u))).0 in
     let found : lowest (is_newcomer l s) (certifiable l s) ≡ x = newcomer_lead l s t.sum t.some in
     let nx : none x ≡ false = ne_eqb x 0 (λ z. omega arith) in
-    let other : eqb x f ≡ false = not_true (eqb x f) (and_both (is_final l s x) (not (eqb x f)) (low_find (is_newcomer l s) bs some).1).1 in
+    let other : eqb x f ≡ false = not-true (eqb x f) (and_both (is_final l s x) (not (eqb x f)) (low_find (is_newcomer l s) bs some).1).1 in
     ⊎_elim (λ (q : f ≡ x). absurd (eqb-false x f other (sym q))) (λ q. inr q)
     (told_already o s x (ap (tell_final o s) (sym found) ∙ sym (F-on o s (ap none found ∙ nx)) ∙ sym (rule_f_lem o s) ∙ h.same 5 s low high)))
 
@@ -82,7 +82,7 @@ kept_below : (l : Ledger) (s : ℕ) (k : Block) → is_free k ≡ false → kept
 unfolding kept_fits bad_parent
 kept_below l s k free fits =
     let g = sym (given_on (not (is_free k)) (none k.parentslot.0 && none k.parent) (λ _. not (none k.parent) && not (bad_parent l s k)) (ap not free)) ∙ fits in
-    let b = not_true (bad_parent l s k) (and_both (not (none k.parent)) (not (bad_parent l s k)) g).1 in
+    let b = not-true (bad_parent l s k) (and_both (not (none k.parent)) (not (bad_parent l s k)) g).1 in
     leb-false s k.parentslot.0 (or_none (leb s k.parentslot.0) (none k.parentslot.0 && not (eqb k.parent l.genesis)) b).0
 
 -- Of two blocks of a list one passes a test that the other may not.
@@ -101,8 +101,8 @@ not_twice c d b p x ec o ed =
     let g = and_both (not (is_free d)) (has_number b d && (eqb d.parentslot.0 p && eqb d.parent x)) ed in
     let m = eqb-true d.number b (and_both (has_number b d) (eqb d.parentslot.0 p && eqb d.parent x) g.1).0 in
     or_cases (none d.number) (not (none c.number) && not (eqb c.number d.number)) o
-    (λ t. true_not_false (none d.number) t (not_true (is_free d) g.0))
-    (λ t. eqb-false c.number d.number (not_true (eqb c.number d.number) (and_both (not (none c.number)) (not (eqb c.number d.number)) t).1) (n ∙ sym m))
+    (λ t. true_not_false (none d.number) t (not-true (is_free d) g.0))
+    (λ t. eqb-false c.number d.number (not-true (eqb c.number d.number) (and_both (not (none c.number)) (not (eqb c.number d.number)) t).1) (n ∙ sym m))
 
 -- The block that is found is the one that is kept, with its parent.
 find_only : (b p x : ℕ) (ks : List Block) → blocks_apart ks ≡ true → some_block (is_block b p x) ks ≡ true

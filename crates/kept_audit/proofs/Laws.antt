@@ -7,7 +7,7 @@ use native.Mathlib.Omega.{arith}
 use lib.ListN.{length, get_or, take}
 use lib.Seq.{get_or-take, length-take-le}
 use lib.Dec.{eqb, leb, ltb}
-use borrow.Author.Tests.{ltb-true, ltb-false, not_true, le-leb, lt-leb, eq-eqb, ne_eqb}
+use borrow.Author.Tests.{ltb-true, ltb-false, not-true, le-leb, lt-leb, eq-eqb, ne_eqb}
 use Rattle.rulebook.specs.declared.CertificateKind.{CertificateKind}
 use Rattle.rulebook.specs.declared.CertificateKind.TheVariants as certificate
 use Rattle.rulebook.specs.Certificates.{Kept}
@@ -185,7 +185,7 @@ module _ (qs : List Kept) (n : ℕ) where
   pub behind_repeat : (m x y : ℕ) → kept n ≡ true → 4 ≤ m → m < n → x ≡ (get_or qs m no_kept).block → y ≡ (get_or qs n no_kept).block → x ≡ y → false ≡ behind
   behind_repeat m x y e l h ex ey f =
       by_test behind
-      (λ t. true_not_false (same m) (eq-eqb _ _ (sym ex ∙ f ∙ ey)) (not_true (same m) (and_both (kept m) (not (same m))
+      (λ t. true_not_false (same m) (eq-eqb _ _ (sym ex ∙ f ∙ ey)) (not-true (same m) (and_both (kept m) (not (same m))
       (sym (turn_tested m h (both_and (kept n) (leb 4 m) e (le-leb 4 m l))) ∙ all_at n m (λ m. turn_at qs m n) t h)).1))
       (λ t. sym t)
 
@@ -204,7 +204,7 @@ module _ (qs : List Kept) (n : ℕ) where
       let f = sym e ∙ t in
       all_more n _ ∙ both_and (filled_to qs n) _ (and_both (filled_to qs n) (apart_to n) (sym (behind_is f) ∙ b)).0 (or_right (not (leb 4 n)) (kept n) f))
       (λ t. e ∙ or_cases (not (leb 4 n)) (kept n) (all_at (n + 1) n (λ m. not (leb 4 m) || kept m) t (omega arith))
-      (λ f. true_not_false (leb 4 n) (le-leb 4 n (omega arith)) (not_true (leb 4 n) f)) (λ f. f))
+      (λ f. true_not_false (leb 4 n) (le-leb 4 n (omega arith)) (not-true (leb 4 n) f)) (λ f. f))
 
 -- ---- all places
 

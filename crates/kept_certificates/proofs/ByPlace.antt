@@ -6,7 +6,7 @@ use Prim.Native.Nat.{ℕ, zero, suc, ◌+◌, ◌*◌, ◌<◌, ◌≤◌}
 use native.Mathlib.Omega.{arith}
 use native.Mathlib.Nat.{add-zero, zero-mul}
 use lib.ListN.{length, get_or, take, drop}
-use borrow.Author.Tests.{not_true}
+use borrow.Author.Tests.{not-true}
 use Rattle.rulebook.specs.Tools.{whenever, all_to, some_to}
 use Rattle.rulebook.specs.Certificates.{Kept}
 use Rattle.rulebook.specs.Ledger.{none, no_kept, is_kept, most_certificates, places, certificates_at}
@@ -101,7 +101,7 @@ each_mono p r i (q ∷ qs) h e =
 blank_unkept : (q : Kept) → kept_blank q ≡ true → (is_kept q ≡ false) × (none q.block ≡ true)
 unfolding kept_blank
 blank_unkept q e =
-    let k = and_both (not (is_kept q)) (none q.block) e in (not_true (is_kept q) k.0, k.1)
+    let k = and_both (not (is_kept q)) (none q.block) e in (not-true (is_kept q) k.0, k.1)
 
 blank_one : (stakes : List ℕ) (s i : ℕ) (q : Kept) → kept_blank q ≡ true → certificate_fits stakes s i q ≡ true
 unfolding certificate_fits

@@ -7,7 +7,7 @@ use native.Mathlib.Omega.{arith}
 use lib.ListN.{length, get_or, set, length-set}
 use lib.Seq.{get_or-set_same, get_or-set_other}
 use lib.Dec.{eqb, ltb}
-use borrow.Author.Tests.{not_true, ltb-true, ltb-false, eqb-true, eqb-false}
+use borrow.Author.Tests.{not-true, ltb-true, ltb-false, eqb-true, eqb-false}
 use Rattle.rulebook.specs.Weights.{reaches, missing, weight, stake_in}
 use Rattle.rulebook.specs.Ledger.{Ledger, cell_at}
 use Rattle.rule_laws.proofs.ToolLaws.{by_test, and_both, or_right, true_not_false, part_on, part_off}
@@ -36,7 +36,7 @@ module _ (l : Ledger) (s : ℕ) where
       by_test (reaches 3 l.total (named_weight l s))
       (λ t. true_not_false (reaches 3 l.total (get_or looks s 0))
       (reaches_more 3 l.total (named_weight l s) (get_or looks s 0) (omega (arith, named_within, b.each s (ltb-true s (length looks) h.0))) t)
-      (not_true (reaches 3 l.total (get_or looks s 0)) h.1))
+      (not-true (reaches 3 l.total (get_or looks s 0)) h.1))
       (λ t. t)
 
   -- ---- the look at a word

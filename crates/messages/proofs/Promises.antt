@@ -8,7 +8,7 @@ use native.Mathlib.Omega.{arith}
 use lib.ListN.{length, take, drop, length-append}
 use lib.Seq.{drop-length}
 use lib.Dec.{eqb, ltb}
-use borrow.Author.Tests.{leb-false, lt-leb, le-ltb, ltb-false, eqb-true, not_false}
+use borrow.Author.Tests.{leb-false, lt-leb, le-ltb, ltb-false, eqb-true, not-false}
 use Rattle.rulebook.specs.declared.Vote.{Vote}
 use Rattle.rulebook.specs.declared.VoteKind.{VoteKind}
 use Rattle.rulebook.specs.declared.VoteKind.TheVariants as vote
@@ -219,7 +219,7 @@ taken_tested l v e =
     let block = refuse_fine (misfits v.kind v.block) refusal.BadBlock _ own.1 in
     record {
       kind = kind.0;
-      slot = not_false (slot_ok v.slot.0) slot.0;
+      slot = not-false (slot_ok v.slot.0) slot.0;
       node = leb-false l.count v.node.0 node.0;
       fits = block.0;
       rest = refl;

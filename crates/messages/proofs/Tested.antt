@@ -6,7 +6,7 @@ use native.Mathlib.Omega.{arith}
 use native.Mathlib.Nat.{pow-suc}
 use lib.ListN.{length, length-append}
 use lib.Dec.{leb, ltb}
-use borrow.Author.Tests.{leb-true, leb-false, lt-leb, ltb-false, le-ltb, not_false}
+use borrow.Author.Tests.{leb-true, leb-false, lt-leb, ltb-false, le-ltb, not-false}
 use Rattle.rulebook.specs.declared.Vote.{Vote}
 use Rattle.rulebook.specs.declared.VoteKind.{VoteKind}
 use Rattle.rulebook.specs.declared.VoteKind.TheVariants as vote
@@ -39,7 +39,7 @@ tests_fine count v later e =
     let block = refuse_fine (misfits v.kind v.block) refusal.BadBlock _ node.1 in
     record {
       kind = kind.0;
-      slot = not_false (slot_ok v.slot.0) slot.0;
+      slot = not-false (slot_ok v.slot.0) slot.0;
       node = leb-false count v.node.0 node.0;
       fits = block.0;
       rest = block.1;
@@ -55,7 +55,7 @@ unfolding message_verdict
 message_fine count room v e =
     let one = refuse_fine (not (count_fits count)) refusal.BadSizes _ e in
     let nine = refuse_fine (ltb room 16) refusal.NoRoom _ one.1 in
-    (not_false (count_fits count) one.0, ltb-false room 16 nine.0, tests_fine count v Fine nine.1)
+    (not-false (count_fits count) one.0, ltb-false room 16 nine.0, tests_fine count v Fine nine.1)
 
 pub fine_message : (count room : ℕ) (v : Vote) → count_fits count ≡ true → 16 ≤ room → Tested count v Fine → message_verdict count room v ≡ Fine
 unfolding message_verdict refuse_if

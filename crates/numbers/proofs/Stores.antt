@@ -2,7 +2,7 @@
 use mathlib.Core.Path.{◌≡◌, refl, sym, ap, ap₂, ◌∙◌}
 use mathlib.Core.List.{List, [], ◌∷◌, ◌++◌, append_assoc}
 use Prim.Native.Nat.{ℕ, suc, ◌+◌, ◌≤◌}
-use native.Mathlib.Nat.{add-zero, zero_add}
+use native.Mathlib.Nat.{add-zero, zero-add}
 use native.Mathlib.Omega.{arith}
 use lib.ListN.{length, take, drop, set, length-append}
 use lib.Seq.{sets, sets-eq, length-sets}
@@ -21,7 +21,7 @@ stores_lay buffer at bytes h = sets-eq bytes buffer at h ∙ append_assoc (take 
 -- At the front of the buffer.
 pub laid_front : (buffer bytes : List ℕ) → laid buffer 0 bytes ≡ over bytes buffer
 unfolding laid over
-laid_front buffer bytes = rw (zero_add (length bytes))
+laid_front buffer bytes = rw (zero-add (length bytes))
 
 -- A writer that refuses leaves the buffer as found.
 pub writes_refused : (wrote : Wrote) (bytes buffer : List ℕ) (r : Refusal) → wrote ≡ wrote_on (Refused r) bytes → Writes wrote buffer (write.Refused r) buffer

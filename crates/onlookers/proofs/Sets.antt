@@ -3,7 +3,7 @@ use mathlib.Core.Path.{◌≡◌, refl, sym, ap, ◌∙◌, subst}
 use mathlib.Core.Bool.{Bool, true, false, not, ◌&&◌, ◌||◌}
 use Prim.Native.Nat.{ℕ, ◌+◌}
 use lib.Dec.{T, eqb}
-use borrow.Author.Tests.{eqb-true, eqb-false, eq-eqb, not_true}
+use borrow.Author.Tests.{eqb-true, eqb-false, eq-eqb, not-true}
 use Rattle.rulebook.specs.declared.Cell.{Cell}
 use Rattle.rulebook.specs.declared.CertificateKind.{CertificateKind}
 use Rattle.rulebook.specs.declared.Who.{Who}
@@ -61,7 +61,7 @@ last_free c ok h =
     or_cases (eqb c.fallback1 0) (eqb c.fallback2 0 || eqb c.fallback3 0) h
     (λ u. T_true (none c.fallback3) (ok.front (true_t (none c.fallback1) u)).1)
     (λ u. or_cases (eqb c.fallback2 0) (eqb c.fallback3 0) u
-    (λ w. true_not_false (none c.fallback2) w (not_true (none c.fallback2) (T_true (not (none c.fallback2)) a.0)))
+    (λ w. true_not_false (none c.fallback2) w (not-true (none c.fallback2) (T_true (not (none c.fallback2)) a.0)))
     (λ w. w)))
 
 -- Where every fallback of d is one of c's, and c has a place free, so has d.

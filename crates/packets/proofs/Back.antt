@@ -3,12 +3,12 @@ use mathlib.Core.Path.{◌≡◌, refl, sym, ap, ap₂, ◌∙◌, subst}
 use mathlib.Core.Bool.{Bool, true, false, not, ◌&&◌, ◌||◌}
 use mathlib.Core.List.{List, [], ◌∷◌, ◌++◌, append-nil}
 use Prim.Native.Nat.{ℕ, ◌+◌, ◌*◌, ◌^◌, ◌≤◌, ◌<◌}
-use native.Mathlib.Nat.{zero_add}
+use native.Mathlib.Nat.{zero-add}
 use native.Mathlib.Omega.{arith}
 use lib.ListN.{length, length-append}
 use lib.Pow.{pow_mono}
 use lib.Dec.{eqb, leb, ltb, lit<}
-use borrow.Author.Tests.{lt-leb, le-ltb, leb-true, not_false, eq-eqb}
+use borrow.Author.Tests.{lt-leb, le-ltb, leb-true, not-false, eq-eqb}
 use Rattle.rulebook.specs.declared.Cell.{Cell}
 use Rattle.rulebook.specs.declared.Accepted.{Accepted}
 use Rattle.rulebook.specs.Certificates.{Certificate, Kept}
@@ -332,7 +332,7 @@ module _ (l : Ledger) (stakes : List ℕ) (t : TableIs l stakes) where
       -- The certificate at the front of a packet.
       reads : is_other_kind k ≡ false → b < 2 ^ 64 → slot_ok s ≡ true → (rest : List ℕ) → certificate_at (certificate_bytes c ++ rest) 0 ≡ found.Whole c (length (certificate_bytes c))
       reads z h so rest =
-          certificate_in_lem (certificate_bytes c ++ rest) [] c rest 0 refl refl (fits64 z h so) ∙ ap (found.Whole c) (zero_add (length (certificate_bytes c)))
+          certificate_in_lem (certificate_bytes c ++ rest) [] c rest 0 refl refl (fits64 z h so) ∙ ap (found.Whole c) (zero-add (length (certificate_bytes c)))
 
       reads_alone : is_other_kind k ≡ false → b < 2 ^ 64 → slot_ok s ≡ true → certificate_at (certificate_bytes c) 0 ≡ found.Whole c (length (certificate_bytes c))
       reads_alone z h so =
@@ -400,7 +400,7 @@ certificate_back l stakes t room k s b n h e =
     let p5 = refuse_fine (not (held l k s b)) refusal.NotHeld _ p4.1 in
     subst (λ (x : List ℕ). (parts x ≡ certificate_for l k s b ∷ []) × (check_certificate stakes x ≡ check.Accepted (accepted_for l k s b)))
     (sym (wrote_bytes (certificate_verdict l room k s b) bytes v))
-    (certificate_on_lem l stakes t k s b h p2.0 (not_false (slot_ok s) p3.0) p4.0 (not_false (held l k s b) p5.0))
+    (certificate_on_lem l stakes t k s b h p2.0 (not-false (slot_ok s) p3.0) p4.0 (not-false (held l k s b) p5.0))
 
 -- What is promised of the bytes of a proof.
 abbrev ProofOn : Ledger → List ℕ → ℕ → ℕ → List ℕ → List Certificate → CertificateKind → Type 0
@@ -419,13 +419,13 @@ proof_back l stakes t room s b n h e =
     let p2 = refuse_fine (not (slot_ok s)) refusal.BadSlot _ p1.1 in
     let p3 = refuse_fine (none b) refusal.BadBlock _ p2.1 in
     let p4 = refuse_fine (not (fast || slow)) refusal.NotHeld _ p3.1 in
-    let so = not_false (slot_ok s) p2.0 in
+    let so = not-false (slot_ok s) p2.0 in
     subst (λ (x : List ℕ). ProofOn l stakes s b x (proof_parts l s b) (proof_kind l s b)) (sym (wrote_bytes (proof_verdict l room s b) (proof_bytes l s b) v))
     (by_test fast
     (λ f. rw (given_on fast (certificate_bytes c2 ++ certificate_bytes c5) (λ _. certificate_bytes c1) f, given_on fast (c2 ∷ c5 ∷ []) (λ _. c1 ∷ []) f, choose_on fast certificate.FastFinal certificate.Notar f)
     (fast_on l stakes t s b h so p3.0 f))
     (λ f.
     let w = and_both (held l certificate.Notar s b) (held l certificate.Final s 0)
-    (or_cases fast slow (not_false (fast || slow) p4.0) (λ q. true_not_false fast q f) (λ q. q)) in
+    (or_cases fast slow (not-false (fast || slow) p4.0) (λ q. true_not_false fast q f) (λ q. q)) in
     rw (given_off fast (certificate_bytes c2 ++ certificate_bytes c5) (λ _. certificate_bytes c1) f, given_off fast (c2 ∷ c5 ∷ []) (λ _. c1 ∷ []) f, choose_off fast certificate.FastFinal certificate.Notar f)
     (slow_on l stakes t s b h so p3.0 w.0 w.1)))

@@ -6,7 +6,7 @@ use Prim.Native.Nat.{ℕ, ◌+◌, ◌<◌}
 use native.Mathlib.Omega.{arith}
 use lib.ListN.{length, get_or}
 use lib.Dec.{eqb}
-use borrow.Author.Tests.{eqb-true, eqb-false, not_true}
+use borrow.Author.Tests.{eqb-true, eqb-false, not-true}
 use Rattle.rulebook.specs.declared.Who.TheVariants as who
 use Rattle.rulebook.specs.declared.CertificateKind.TheVariants as certificate
 use Rattle.rulebook.specs.Tools.{some_to, any_of}
@@ -43,7 +43,7 @@ module _ (l : Ledger) (s : ℕ) where
   module _ (table : Tabled l) (k : some_kept_holds holds (certificates_at l s) ≡ false) where
     name_facts : (b : ℕ) → named_holds holds b ≡ true → (none b ≡ false) × (holds b ≡ true)
     unfolding named_holds
-    name_facts b t = let p = and_both (not (none b)) (holds b) t in (not_true (none b) p.0, p.1)
+    name_facts b t = let p = and_both (not (none b)) (holds b) t in (not-true (none b) p.0, p.1)
 
     -- a block that holds kind 3 is a name
     held_named : (b : ℕ) → named_holds holds b ≡ true → any_of holds (names l s) ≡ true

@@ -5,7 +5,7 @@ use mathlib.Core.List.{List}
 use Prim.Native.Nat.{ℕ, ◌≤◌}
 use native.Mathlib.Omega.{arith}
 use lib.Dec.{eqb, leb}
-use borrow.Author.Tests.{eqb-true, eqb-false, ne_eqb, leb-true, leb-false, not_true}
+use borrow.Author.Tests.{eqb-true, eqb-false, ne_eqb, leb-true, leb-false, not-true}
 use Rattle.rulebook.specs.declared.Tally.{Tally}
 use Rattle.rulebook.specs.declared.Who.{Who}
 use Rattle.rulebook.specs.declared.Who.TheVariants as who
@@ -61,7 +61,7 @@ module _ (l : Ledger) (s : ℕ) where
   unfolding is_on_card on_card lead_weight recount
   shown_whole (who.Notar b) e =
       let h = and_both (not (none b)) (eqb b (leader l s)) e in
-      part_on (eqb b (leader l s)) (most l s) h.1 ∙ sym (lead_weighs b (omega (arith, eqb-false b 0 (not_true (none b) h.0))) h.1)
+      part_on (eqb b (leader l s)) (most l s) h.1 ∙ sym (lead_weighs b (omega (arith, eqb-false b 0 (not-true (none b) h.0))) h.1)
   shown_whole (who.NotarOrFallback b) e = true_not_false false e refl
   shown_whole who.Skip e = refl
   shown_whole who.SkipOrFallback e = refl
@@ -73,8 +73,8 @@ module _ (l : Ledger) (s : ℕ) where
   unfolding is_behind recount
   shown_behind t k h (who.Notar b) e =
       let p = and_both (not (none b)) (not (eqb b (leader l s))) e in
-      let z = eqb-false b (leader l s) (not_true (eqb b (leader l s)) p.1) in
-      notar_card l s t.sum t.some k b h (omega (arith, eqb-false b 0 (not_true (none b) p.0)))
+      let z = eqb-false b (leader l s) (not-true (eqb b (leader l s)) p.1) in
+      notar_card l s t.sum t.some k b h (omega (arith, eqb-false b 0 (not-true (none b) p.0)))
       ∙ ap (λ (x : Bool). x && reaches k l.total (most l s)) (ne_eqb (leader l s) b (λ q. z (sym q)))
   shown_behind t k h (who.NotarOrFallback b) e = true_not_false false e refl
   shown_behind t k h who.Skip e = true_not_false false e refl

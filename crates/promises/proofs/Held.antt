@@ -5,7 +5,7 @@ use mathlib.Core.List.{List}
 use Prim.Native.Nat.{ℕ}
 use native.Mathlib.Omega.{arith}
 use lib.ListN.{length}
-use borrow.Author.Tests.{eq-eqb, ltb-false, not_true, not_false}
+use borrow.Author.Tests.{eq-eqb, ltb-false, not-true, not-false}
 use Rattle.rulebook.specs.declared.CertificateKind.{CertificateKind}
 use Rattle.rulebook.specs.declared.Refusal.{Refusal}
 use Rattle.rulebook.specs.declared.Refusal.TheVariants as refusal
@@ -119,10 +119,10 @@ module _ (ws buffer : List ℕ) (k : CertificateKind) (s b : ℕ) (so : sound_wo
           sound = so;
           room = ltb-false (length buffer) (certificate_room (ledger_of ws).count) p.0;
           kind = q.0;
-          slot = not_false (slot_ok s) r.0;
+          slot = not-false (slot_ok s) r.0;
           block = t.0;
         },
-        not_true (held (ledger_of ws) k s b) (last _ t.1),
+        not-true (held (ledger_of ws) k s b) (last _ t.1),
       )
 
 pub certificate_exactly : CertificateExactly
@@ -150,8 +150,8 @@ module _ (ws buffer : List ℕ) (s b : ℕ) (so : sound_words ws ≡ true) where
       let p = later _ _ _ other_room e in
       let q = later _ _ _ other_slot p.1 in
       let r = later _ _ _ other_block q.1 in (
-        record { sound = so; room = ltb-false (length buffer) (proof_room (ledger_of ws).count) p.0; slot = not_false (slot_ok s) q.0; block = r.0 },
-        not_true (is_final (ledger_of ws) s b) (last _ r.1),
+        record { sound = so; room = ltb-false (length buffer) (proof_room (ledger_of ws).count) p.0; slot = not-false (slot_ok s) q.0; block = r.0 },
+        not-true (is_final (ledger_of ws) s b) (last _ r.1),
       )
 
 -- A block that there is.

@@ -4,7 +4,7 @@ use mathlib.Core.Bool.{true, false}
 use mathlib.Core.List.{List, [], ◌∷◌, ◌++◌, map}
 use Prim.Native.Nat.{ℕ, zero, suc, ◌+◌, ◌*◌, ◌<◌}
 use native.Mathlib.Omega.{arith}
-use native.Mathlib.Nat.{zero_add, suc-add, zero-mul, add-zero, mul_comm, mul-suc, mul-le-mul_left, not-suc-le-zero, le_of_suc-le-suc}
+use native.Mathlib.Nat.{zero-add, suc-add, zero-mul, add-zero, mul_comm, mul-suc, mul-le-mul_left, not-suc-le-zero, le_of_suc-le-suc}
 use lib.ListN.{length, get_or, length-append, length-map, get_or-append}
 use lib.Seq.{get_or-append-add}
 use lib.Dec.{eqb}
@@ -31,7 +31,7 @@ use Rattle.record.proofs.Replacing.{row_other}
 module _ {A : Type 0} where
   tabulate_add : (a b : ℕ) (f : ℕ → A) → tabulate (a + b) f ≡ tabulate a f ++ tabulate b (λ j. f (a + j))
   unfolding tabulate
-  tabulate_add zero b f = rw zero_add (tabulate_same b f (λ j. f (0 + j)) (λ j l. ap f (omega arith)))
+  tabulate_add zero b f = rw zero-add (tabulate_same b f (λ j. f (0 + j)) (λ j l. ap f (omega arith)))
   tabulate_add (suc a) b f =
       rw suc-add
       (λ i. f zero

@@ -7,7 +7,7 @@ use Prim.Native.Nat.{ℕ, ◌+◌, ◌≤◌, ◌<◌}
 use native.Mathlib.Omega.{arith}
 use native.Mathlib.Nat.{max-eq_left, max-eq_right}
 use lib.Dec.{eqb, leb, ltb}
-use borrow.Author.Tests.{eq-eqb, ne_eqb, eqb-true, eqb-false, leb-true, leb-false, ltb-true, ltb-false, not_true}
+use borrow.Author.Tests.{eq-eqb, ne_eqb, eqb-true, eqb-false, leb-true, leb-false, ltb-true, ltb-false, not-true}
 use Rattle.rulebook.specs.declared.Who.TheVariants as who
 use Rattle.rulebook.specs.Tools.{any_of, choose, part, largest}
 use Rattle.rulebook.specs.Ledger.{Ledger, none}
@@ -72,7 +72,7 @@ module _ (l : Ledger) (s : ℕ) where
   most_fact b e =
       let w = weigh l s (who.Notar b) in
       let h = and_both (not (none w)) (eqb w (most l s)) e in
-      (omega (arith, eqb-false w 0 (not_true (none w) h.0)), eqb-true w (most l s) h.1)
+      (omega (arith, eqb-false w 0 (not-true (none w) h.0)), eqb-true w (most l s) h.1)
 
   fact_most : (b : ℕ) → 1 ≤ weigh l s (who.Notar b) → weigh l s (who.Notar b) ≡ most l s → is_most l s b ≡ true
   unfolding is_most

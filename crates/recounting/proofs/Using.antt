@@ -7,7 +7,7 @@ use Prim.Native.Nat.{ℕ, zero, suc, ◌+◌, ◌-◌, ◌≤◌, ◌<◌, ◌^�
 use native.Mathlib.Omega.{arith}
 use lib.ListN.{get_or}
 use lib.Dec.{eqb, leb}
-use borrow.Author.Tests.{eq-eqb, ne_eqb, eqb-true, eqb-false, leb-true, leb-false, not_true}
+use borrow.Author.Tests.{eq-eqb, ne_eqb, eqb-true, eqb-false, leb-true, leb-false, not-true}
 use Rattle.rulebook.specs.declared.Tally.{Tally}
 use Rattle.rulebook.specs.declared.Who.{Who}
 use Rattle.rulebook.specs.declared.Who.TheVariants as who
@@ -229,8 +229,8 @@ module _ (l : Ledger) (s : ℕ) (sum : total_to l.stakes l.count ≡ l.total) (s
         weight_apart_lem l.stakes l.count (λ n. not (none (cell_at l s n).skip)) (λ n. not (none (cell_at l s n).notar))
             (λ i d p q.
             or_cases (none (cell_at l s i).notar) (none (cell_at l s i).skip) (one i d)
-            (λ t. true_not_false (none (cell_at l s i).notar) t (not_true (none (cell_at l s i).notar) q))
-            (λ t. true_not_false (none (cell_at l s i).skip) t (not_true (none (cell_at l s i).skip) p))),
+            (λ t. true_not_false (none (cell_at l s i).notar) t (not-true (none (cell_at l s i).notar) q))
+            (λ t. true_not_false (none (cell_at l s i).skip) t (not-true (none (cell_at l s i).skip) p))),
       )
 
   pub skip_card : skip_weights l s ≡ reaches 2 l.total (weigh l s who.Skip + weigh l s who.AnyNotar - most l s)

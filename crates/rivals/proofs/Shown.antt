@@ -3,7 +3,7 @@ use mathlib.Core.Path.{◌≡◌, refl, sym, subst, ◌∙◌}
 use mathlib.Core.Bool.{true, false, not}
 use Prim.Native.Nat.{ℕ}
 use native.Mathlib.Omega.{arith}
-use borrow.Author.Tests.{eqb-false, not_true}
+use borrow.Author.Tests.{eqb-false, not-true}
 use Rattle.rulebook.specs.declared.Who.TheVariants as who
 use Rattle.rulebook.specs.Ledger.{Ledger, none, cell_at}
 use Rattle.rulebook.specs.Pool.{weigh}
@@ -22,7 +22,7 @@ unled_none l s b v u =
     let f = some_find l.count (λ i. rivals l s b v (cell_at l s i).notar) t in
     let m = (cell_at l s f.0).notar in
     let p = and_both (not (none m)) (leads m (weigh l s (who.Notar m)) b v) f.2 in
-    let z = eqb-false m 0 (not_true (none m) p.0) in
+    let z = eqb-false m 0 (not-true (none m) p.0) in
     true_not_false (leads m (weigh l s (who.Notar m)) b v) p.1 (u m (omega arith)))
     (λ t. t)
 

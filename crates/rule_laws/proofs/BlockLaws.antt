@@ -5,7 +5,7 @@ use mathlib.Core.List.{List, [], ◌∷◌}
 use Prim.Native.Nat.{ℕ, suc}
 use lib.ListN.{length}
 use lib.Dec.{eqb}
-use borrow.Author.Tests.{not_true, eq-eqb}
+use borrow.Author.Tests.{not-true, eq-eqb}
 use Rattle.rulebook.specs.declared.Block.{Block}
 use Rattle.rulebook.specs.Tools.{choose}
 use Rattle.rulebook.specs.Ledger.{none, some_block, all_blocks, is_free, has_number, is_block, fill_block}
@@ -46,7 +46,7 @@ empty_order : (x c y : ℕ) → none c ≡ true → in_order c y ≡ true → in
 unfolding in_order
 empty_order x c y t e =
     or_cases (none y) (not (none c) && not (eqb c y)) e (λ q. or_left (none y) (not (none x) && not (eqb x y)) q)
-    (λ q. true_not_false (none c) t (not_true (none c) (and_both (not (none c)) (not (eqb c y)) q).0))
+    (λ q. true_not_false (none c) t (not-true (none c) (and_both (not (none c)) (not (eqb c y)) q).0))
 
 -- Two numbers that differ are in order.
 apart_order : (x y : ℕ) → none x ≡ false → eqb x y ≡ false → in_order x y ≡ true
@@ -83,7 +83,7 @@ find_all p b (k ∷ ks) e t = go (not (is_free k) && has_number b k) refl (and_b
     go : (z : Bool) → (not (is_free k) && has_number b k) ≡ z → (p k ≡ true) × (all_blocks p ks ≡ true)
         → (all_blocks p ks ≡ true → none (find_block b ks).parentslot.0 ≡ false → (is_free (find_block b ks) ≡ false) × (p (find_block b ks) ≡ true))
         → none (choose z k (find_block b ks)).parentslot.0 ≡ false → (is_free (choose z k (find_block b ks)) ≡ false) × (p (choose z k (find_block b ks)) ≡ true)
-    go true q a ih u = (not_true (is_free k) (and_both (not (is_free k)) (has_number b k) q).0, a.0)
+    go true q a ih u = (not-true (is_free k) (and_both (not (is_free k)) (has_number b k) q).0, a.0)
     go false q a ih u = ih a.1 u
 
 -- It is kept with its parent.

@@ -7,7 +7,7 @@ use Prim.Native.Nat.{ℕ, zero, suc, ◌+◌, ◌-◌, ◌^◌, ◌≤◌, ◌<�
 use native.Mathlib.Omega.{arith}
 use lib.ListN.{length, get_or}
 use lib.Dec.{eqb, leb}
-use borrow.Author.Tests.{not_true, not_false, leb-true, leb-false, eqb-true, eqb-false, eq-eqb}
+use borrow.Author.Tests.{not-true, not-false, leb-true, leb-false, eqb-true, eqb-false, eq-eqb}
 use Rattle.rulebook.specs.declared.CertificateKind.{CertificateKind}
 use Rattle.rulebook.specs.declared.CertificateKind.TheVariants as certificate
 use Rattle.rulebook.specs.declared.Refusal.TheVariants as refusal
@@ -174,7 +174,7 @@ fill_at {X} k i p (q ∷ qs) n f g = go (is_room k i q) refl (λ m c d. fill_at 
         → (get_or (choose z (p ∷ qs) (q ∷ fill_kept k (suc i) p qs)) m no_kept ≡ p → is_kept (get_or (q ∷ qs) m no_kept) ≡ false → same_kind (place_kind (i + m)) k ≡ true → X) → X
     go true e ih zero c d =
         let a = and_both (same_kind (place_kind i) k) (not (is_kept q)) e in
-        d refl (not_true (is_kept q) a.1) (subst (λ (j : ℕ). same_kind (place_kind j) k ≡ true) (omega arith) a.0)
+        d refl (not-true (is_kept q) a.1) (subst (λ (j : ℕ). same_kind (place_kind j) k ≡ true) (omega arith) a.0)
     go true e ih (suc m) c d = c refl
     go false e ih zero c d = c refl
     go false e ih (suc m) c d = ih m c (λ x y w. d x y (subst (λ (j : ℕ). same_kind (place_kind j) k ≡ true) (omega arith) w))
@@ -242,7 +242,7 @@ fill_kept_apart k i p (q ∷ qs) d e =
         → (some_kept (is_repeat k p.block) (suc i) qs ≡ false → certificates_apart (suc i) qs ≡ true → certificates_apart (suc i) (fill_kept k (suc i) p qs) ≡ true)
         → certificates_apart i (choose z (p ∷ qs) (q ∷ fill_kept k (suc i) p qs)) ≡ true
     go true z n a ih =
-        let t = not_true (is_kept q) (and_both (same_kind (place_kind i) k) (not (is_kept q)) z).1 in
+        let t = not-true (is_kept q) (and_both (same_kind (place_kind i) k) (not (is_kept q)) z).1 in
         both_and (each_kept (apart_test i p) (suc i) qs) (certificates_apart (suc i) qs)
         (each_mono (apart_test i q) (apart_test i p) (suc i) qs (λ j r u. empty_turn i j p q r t u) a.0) a.1
     go false z n a ih =
@@ -444,7 +444,7 @@ serves_judged stakes j k c d s z m es ea eb e =
     let p3 = refuse_fine (block_misfits j c.block) refusal.BadBlock _ p2.1 in
     let p4 = refuse_fine (bad_signers n j c) refusal.BadSigners _ p3.1 in
     let p5 = refuse_fine (not (reaches (fifths_of j) t w)) _ Fine p4.1 in
-    let heavy = reaches_fewer (fifths_of k) (fifths_of j) t w (serves_fifths j k s) (not_false (reaches (fifths_of j) t w) p5.0) in
+    let heavy = reaches_fewer (fifths_of k) (fifths_of j) t w (serves_fifths j k s) (not-false (reaches (fifths_of j) t w) p5.0) in
     let good = serves_signers n j k c d s ea eb p4.0 in (
       good,
       refuse_none (is_other_kind k) refusal.BadKind _ z

@@ -6,7 +6,7 @@ use mathlib.Core.List.{List}
 use Prim.Native.Nat.{ℕ, ◌+◌, ◌*◌, ◌≤◌, ◌<◌}
 use native.Mathlib.Omega.{arith}
 use lib.Dec.{eqb}
-use borrow.Author.Tests.{not_true, eqb-true, eqb-false}
+use borrow.Author.Tests.{not-true, eqb-true, eqb-false}
 use Rattle.rulebook.specs.declared.Cell.{Cell}
 use Rattle.rulebook.specs.Weights.{weight, total_to, reaches, d_weights}
 use Rattle.rulebook.specs.Ledger.{Ledger, none, cell_at}
@@ -103,7 +103,7 @@ module _ (l : Ledger) (s : ℕ) (h : Counted l s) where
       let c : Cell = cell_at l s n in
       or_cases (none c.notar) (none c.skip) (h.initial n k)
       (λ q. eqb-false d 0 nd (sym (eqb-true c.notar d t) ∙ eqb-true c.notar 0 q))
-      (λ q. true_not_false (none c.skip) q (not_true (none c.skip) u))
+      (λ q. true_not_false (none c.skip) q (not-true (none c.skip) u))
 
   -- "a fourth cannot arise": no slot has four blocks that all reach rule D's weights.
   pub no_four_blocks : (a b c d : ℕ) → eqb a b ≡ false → eqb a c ≡ false → eqb a d ≡ false → eqb b c ≡ false → eqb b d ≡ false → eqb c d ≡ false

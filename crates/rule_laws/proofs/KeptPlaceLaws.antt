@@ -6,7 +6,7 @@ use Prim.Native.Nat.{ℕ, zero, suc, ◌+◌, ◌<◌}
 use native.Mathlib.Omega.{arith}
 use lib.ListN.{length, get_or, set, drop}
 use lib.Dec.{eqb}
-use borrow.Author.Tests.{not_true}
+use borrow.Author.Tests.{not-true}
 use Rattle.rulebook.specs.declared.CertificateKind.{CertificateKind}
 use Rattle.rulebook.specs.Certificates.{Kept}
 use Rattle.rulebook.specs.Tools.{choose, whenever, all_to, some_to}
@@ -72,7 +72,7 @@ room_index k qs =
     let n = r.0 in
     let a = and_both (same_kind (place_kind n) k) (not (is_kept (get_or qs n no_kept))) r.2 in
     by_test (has_room k 0 qs) (λ t. t)
-    (λ t. true_not_false (is_kept (get_or qs n no_kept)) (no_room k 0 qs n r.1 t (subst (λ (j : ℕ). same_kind (place_kind j) k ≡ true) (sym (from_zero n)) a.0)) (not_true (is_kept (get_or qs n no_kept)) a.1)))
+    (λ t. true_not_false (is_kept (get_or qs n no_kept)) (no_room k 0 qs n r.1 t (subst (λ (j : ℕ). same_kind (place_kind j) k ≡ true) (sym (from_zero n)) a.0)) (not-true (is_kept (get_or qs n no_kept)) a.1)))
 
 -- A certificate in the first free place for its kind is stored there.
 fill_from : (k : CertificateKind) (i : ℕ) (p : Kept) (qs : List Kept) (n : ℕ) → n < length qs → is_room k (i + n) (get_or qs n no_kept) ≡ true

@@ -8,7 +8,7 @@ use Prim.Native.Nat.{ℕ, zero, suc, ◌≤◌, ◌<◌}
 use native.Mathlib.Omega.{arith}
 use native.Mathlib.Nat.{eq-or-lt_of_le, min-eq_left, min-eq_right, le-max_left, le-max_right}
 use lib.Dec.{eqb, leb, ltb}
-use borrow.Author.Tests.{eq-eqb, ne_eqb, eqb-true, eqb-false, leb-true, leb-false, ltb-true, lt-ltb, not_true}
+use borrow.Author.Tests.{eq-eqb, ne_eqb, eqb-true, eqb-false, leb-true, leb-false, ltb-true, lt-ltb, not-true}
 use Rattle.rulebook.specs.Tools.{any_of, some_to, lower, lowest, largest}
 use Rattle.rulebook.specs.declared.Who.TheVariants as who
 use Rattle.rulebook.specs.Ledger.{Ledger, none, cell_at}
@@ -80,7 +80,7 @@ lower_off b m = refl
 pub lower_stays : (t : Bool) (b m : ℕ) → t ≡ true → (not (eqb m 0) && ltb m b) ≡ true → lower t b m ≡ m
 lower_stays t b m e d =
     let h = and_both (not (eqb m 0)) (ltb m b) d in
-    let f = eqb-false m 0 (not_true (eqb m 0) h.0) in
+    let f = eqb-false m 0 (not-true (eqb m 0) h.0) in
     let i = ltb-true m b h.1 in
     ap (λ (x : Bool). lower x b m) e ∙ lower_cases b m (λ q k. absurd (f q)) (λ q j k. absurd (omega arith)) (λ q j k. k)
 

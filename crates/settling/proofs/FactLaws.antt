@@ -5,7 +5,7 @@ use Prim.Native.Nat.{ℕ, suc, ◌-◌, ◌≤◌}
 use native.Mathlib.Omega.{arith}
 use lib.ListN.{get_or}
 use lib.Dec.{eqb, leb, ltb}
-use borrow.Author.Tests.{not_true, leb-true, le-leb, ltb-true, ltb-false, lt-ltb, le-ltb, eqb-true, eq-eqb}
+use borrow.Author.Tests.{not-true, leb-true, le-leb, ltb-true, ltb-false, lt-ltb, le-ltb, eqb-true, eq-eqb}
 use Rattle.rulebook.specs.declared.Cell.{Cell}
 use Rattle.rulebook.specs.declared.Tally.{Tally}
 use Rattle.rulebook.specs.Tools.{whenever, all_to}
@@ -61,7 +61,7 @@ unfolding timeout_fits
 timeout_facts l x e =
     let p = and_both (flag x) (none x || not (is_watcher l)) e in (
       leb-true x 1 p.0,
-      λ w. or_cases (none x) (not (is_watcher l)) p.1 (λ t. eqb-true x 0 t) (λ t. true_not_false (is_watcher l) w (not_true (is_watcher l) t)),
+      λ w. or_cases (none x) (not (is_watcher l)) p.1 (λ t. eqb-true x 0 t) (λ t. true_not_false (is_watcher l) w (not-true (is_watcher l) t)),
     )
 
 facts_timeout : (l : Ledger) (x : ℕ) → x ≤ 1 → (is_watcher l ≡ true → x ≡ 0) → timeout_fits l x ≡ true
@@ -141,7 +141,7 @@ head_facts l e =
       sum = sum;
       small = subst (λ (t : ℕ). t ≤ most_stake) sum (leb-true (total_to l.stakes l.count) most_stake stakes.1);
       mine = leb-true l.own l.count own.0;
-      genesis = not_true (none l.genesis) own.1;
+      genesis = not-true (none l.genesis) own.1;
       armed = λ w h. leb-true (get_or l.armed w 0) 1 (all_at windows w (λ w. flag (get_or l.armed w 0)) r.1 h);
     }
 

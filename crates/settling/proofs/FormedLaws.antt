@@ -7,7 +7,7 @@ use native.Mathlib.Omega.{arith}
 use lib.ListN.{length, get_or, set, take}
 use lib.Seq.{get_or-set_same, get_or-set_other}
 use lib.Dec.{eqb, ltb}
-use borrow.Author.Tests.{not_true, eqb-true, eqb-false}
+use borrow.Author.Tests.{not-true, eqb-true, eqb-false}
 use Rattle.rulebook.specs.declared.Cell.{Cell}
 use Rattle.rulebook.specs.declared.Block.{Block}
 use Rattle.rulebook.specs.declared.VoteKind.{VoteKind}
@@ -40,7 +40,7 @@ pub order_none : (x y : ℕ) → in_order x y ≡ true → none x ≡ true → n
 unfolding in_order
 order_none x y e t =
     or_cases (none y) (not (none x) && not (eqb x y)) e (λ q. q)
-    (λ q. true_not_false (none x) t (not_true (none x) (and_both (not (none x)) (not (eqb x y)) q).0))
+    (λ q. true_not_false (none x) t (not-true (none x) (and_both (not (none x)) (not (eqb x y)) q).0))
 
 -- An empty later place is in order; so is another block after a block.
 pub none_order : (x y : ℕ) → none y ≡ true → in_order x y ≡ true

@@ -7,7 +7,7 @@ use Prim.Native.Nat.{ℕ, ◌<◌, ◌≤◌}
 use native.Mathlib.Omega.{arith}
 use lib.ListN.{length}
 use lib.Seq.{get_or-take, length-take-le}
-use borrow.Author.Tests.{not_false, eqb-true}
+use borrow.Author.Tests.{not-false, eqb-true}
 use Rattle.rulebook.specs.declared.CertificateKind.{CertificateKind}
 use Rattle.rulebook.specs.declared.CertificateKind.TheVariants as certificate
 use Rattle.rulebook.specs.declared.Refusal.TheVariants as refusal
@@ -77,7 +77,7 @@ judged_kept stakes k c pos e =
     let d = refuse_fine (block_misfits k c.block) refusal.BadBlock _ b.1 in
     let f = refuse_fine (bad_signers (length stakes) k c) refusal.BadSigners _ d.1 in
     let g = refuse_fine (not (reaches (fifths_of k) all (weight stakes (length stakes) signs))) _ Fine f.1 in
-    let heavy = not_false (reaches (fifths_of k) all (weight stakes (length stakes) signs)) g.0 in
+    let heavy = not-false (reaches (fifths_of k) all (weight stakes (length stakes) signs)) g.0 in
     by_test (none c.maska && none c.maskb)
     (λ t.
     let z = and_both (none c.maska) (none c.maskb) t in

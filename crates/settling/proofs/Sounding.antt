@@ -7,7 +7,7 @@ use Prim.Native.Nat.{ℕ, ◌<◌, ◌≤◌}
 use native.Mathlib.Omega.{arith}
 use lib.ListN.{set, length-set}
 use lib.Dec.{ltb}
-use borrow.Author.Tests.{not_true, eqb-false, ltb-true}
+use borrow.Author.Tests.{not-true, eqb-false, ltb-true}
 use lib.Arith.{lt_of_le-ne}
 use Rattle.rulebook.specs.declared.Cell.{Cell}
 use Rattle.rulebook.specs.declared.Block.{Block}
@@ -159,14 +159,14 @@ walk_parent l h s low high b e =
     let p : ℕ = k.parentslot.0 in
     let t = and_both (not (none p)) (ltb p s) e in
     let fits = (and_both (all_blocks (kept_fits l s) bs) (blocks_apart bs) ((formed l h.formed).rows s low high).blocks).0 in
-    let f = find_all (kept_fits l s) b bs fits (not_true (none p) t.0) in
+    let f = find_all (kept_fits l s) b bs fits (not-true (none p) t.0) in
     let g =
     sym (given_on (not (is_free k)) (none p && none k.parent) (λ _. not (none k.parent) && not (bad_parent l s k)) (ap not f.0)) ∙ f.1
     in
     let lower : p < s = ltb-true p s t.1 in
     record {
-      low = lt_of_le-ne (omega arith) (λ z. eqb-false p 0 (not_true (none p) t.0) (sym z));
+      low = lt_of_le-ne (omega arith) (λ z. eqb-false p 0 (not-true (none p) t.0) (sym z));
       lower = lower;
       high = omega arith;
-      number = not_true (none k.parent) (and_both (not (none k.parent)) (not (bad_parent l s k)) g).0;
+      number = not-true (none k.parent) (and_both (not (none k.parent)) (not (bad_parent l s k)) g).0;
     }

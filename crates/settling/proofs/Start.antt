@@ -6,7 +6,7 @@ use Prim.Native.Nat.{ℕ, zero, suc, ◌+◌, ◌-◌, ◌<◌, ◌≤◌}
 use native.Mathlib.Omega.{arith}
 use lib.ListN.{length, get_or, replicate, length-append, length-replicate, get_or-append, get_or-replicate}
 use lib.Dec.{leb, ltb}
-use borrow.Author.Tests.{not_false, leb-true, leb-false, le-ltb}
+use borrow.Author.Tests.{not-false, leb-true, leb-false, le-ltb}
 use Rattle.rulebook.specs.declared.Refusal.TheVariants as refusal
 use Rattle.rulebook.specs.declared.Verdict.TheVariants.{Fine}
 use Rattle.rulebook.specs.Tools.{whenever, all_to}
@@ -173,7 +173,7 @@ module _ (stakes : List ℕ) (own genesis : ℕ) (e : start_verdict stakes own g
       let p = refuse_fine (not (stakes_fit stakes (length stakes)) || (leb (length stakes) own || none genesis)) refusal.BadSizes Fine e in
       let q = or_none (not (stakes_fit stakes (length stakes))) (leb (length stakes) own || none genesis) p.0 in
       let r = or_none (leb (length stakes) own) (none genesis) q.1 in
-      (not_false (stakes_fit stakes (length stakes)) q.0, leb-false (length stakes) own r.0, r.1)
+      (not-false (stakes_fit stakes (length stakes)) q.0, leb-false (length stakes) own r.0, r.1)
 
   start_begun : Begun stakes own genesis
   start_begun = record { fits = start_fine.0; mine = omega (arith, start_fine.1); first = start_fine.2 }
@@ -203,7 +203,7 @@ module _ (stakes : List ℕ) (genesis : ℕ) (e : watch_verdict stakes genesis �
   watch_fine =
       let p = refuse_fine (not (stakes_fit stakes (length stakes)) || none genesis) refusal.BadSizes Fine e in
       let q = or_none (not (stakes_fit stakes (length stakes))) (none genesis) p.0 in
-      (not_false (stakes_fit stakes (length stakes)) q.0, q.1)
+      (not-false (stakes_fit stakes (length stakes)) q.0, q.1)
 
   watch_begun : Begun stakes (length stakes) genesis
   watch_begun = record { fits = watch_fine.0; mine = omega arith; first = watch_fine.1 }

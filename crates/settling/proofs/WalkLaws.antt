@@ -4,7 +4,7 @@ use mathlib.Core.Bool.{Bool, true, false, not, ◌&&◌}
 use Prim.Native.Nat.{ℕ, zero, suc, ◌-◌, ◌<◌, ◌≤◌}
 use native.Mathlib.Omega.{arith}
 use lib.Dec.{eqb, ltb}
-use borrow.Author.Tests.{not_true, eqb-false, ltb-true}
+use borrow.Author.Tests.{not-true, eqb-false, ltb-true}
 use lib.Arith.{lt_of_le-ne}
 use Rattle.rulebook.specs.declared.Block.{Block}
 use Rattle.rulebook.specs.Tools.{whenever}
@@ -28,7 +28,7 @@ step_same next other o s e =
     given_same (not (none p) && ltb p s) o _ _
     (λ t.
     let c = and_both (not (none p)) (ltb p s) t in
-    let low : 1 ≤ p = lt_of_le-ne (omega arith) (λ z. eqb-false p 0 (not_true (none p) c.0) (sym z)) in
+    let low : 1 ≤ p = lt_of_le-ne (omega arith) (λ z. eqb-false p 0 (not-true (none p) c.0) (sym z)) in
     given_same (eqb (row_at q.ledger p).final k.parent) q _ _ (λ _. e q p low (ltb-true p s c.1)))
 
 -- More steps than there are lower slots change nothing.

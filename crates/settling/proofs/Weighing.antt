@@ -6,7 +6,7 @@ use Prim.Native.Nat.{ℕ, ◌<◌, ◌≤◌}
 use native.Mathlib.Omega.{arith}
 use lib.ListN.{length, get_or, set}
 use lib.Dec.{eqb}
-use borrow.Author.Tests.{not_true, eqb-true, eqb-false}
+use borrow.Author.Tests.{not-true, eqb-true, eqb-false}
 use Rattle.rulebook.specs.declared.Cell.{Cell}
 use Rattle.rulebook.specs.declared.VoteKind.{VoteKind}
 use Rattle.rulebook.specs.declared.VoteKind.TheVariants as vote
@@ -74,7 +74,7 @@ module _ (l m : Ledger) (same : SameTable l m) (s : ℕ) (grown : (n : ℕ) → 
       let gx : x ≤ u = weight_grow l.stakes m.stakes l.count m.count (λ n. eqb (cell_at l s n).notar b) (λ n. eqb (cell_at m s n).notar b)
       same.stakes same.count (λ i h t. (grown i h).notar b nb t) in
       let gy : y ≤ v = weight_grow l.stakes m.stakes l.count m.count (λ n. not (none (cell_at l s n).skip)) (λ n. not (none (cell_at m s n).skip))
-      same.stakes same.count (λ i h t. ap not ((grown i h).skip (not_true (none (cell_at l s i).skip) t))) in
+      same.stakes same.count (λ i h t. ap not ((grown i h).skip (not-true (none (cell_at l s i).skip) t))) in
       subst (λ (j : ℕ). d_weights j u v ≡ true) (sym same.total) (weights_more t x y u v gx gy e)
 
   pub backs_grow : (b : ℕ) → backs l s b ≡ true → backs m s b ≡ true
@@ -206,7 +206,7 @@ order_parts : (x y : ℕ) → in_order x y ≡ true → none y ≡ false → (no
 unfolding in_order
 order_parts x y e t =
     or_cases (none y) (not (none x) && not (eqb x y)) e (λ q. true_not_false (none y) q t)
-    (λ q. let p = and_both (not (none x)) (not (eqb x y)) q in (not_true (none x) p.0, not_true (eqb x y) p.1))
+    (λ q. let p = and_both (not (none x)) (not (eqb x y)) q in (not-true (none x) p.0, not-true (eqb x y) p.1))
 
 -- Where a block that is not among the own fallbacks has rule D's weights, the third place is free: so the rule need not test it.
 pub third_free : (l : Ledger) (s b : ℕ) → Counted l s → CellFacts (own_cell l s) → own_fits l s ≡ true → Weighty l s b → has_fallback b (own_cell l s) ≡ false
@@ -223,7 +223,7 @@ third_free l s b h k f w new =
     (λ z.
     let y = order_parts f2 f3 k.third z in
     let x = order_parts f1 f2 k.second y.0 in
-    let far : eqb f1 f3 ≡ false = or_cases (none f3) (not (eqb f1 f3)) k.apart (λ q. true_not_false (none f3) q z) (λ q. not_true (eqb f1 f3) q) in
+    let far : eqb f1 f3 ≡ false = or_cases (none f3) (not (eqb f1 f3)) k.apart (λ q. true_not_false (none f3) q z) (λ q. not-true (eqb f1 f3) q) in
     let out = or_none (eqb f1 b) (eqb f2 b || eqb f3 b) new in
     let out' = or_none (eqb f2 b) (eqb f3 b) out.1 in
     let p = and_both (none f1 || fallback_weights l s f1) ((none f2 || fallback_weights l s f2) && (none f3 || fallback_weights l s f3)) f in

@@ -8,7 +8,7 @@ use Prim.Native.Nat.{ℕ, suc, ◌+◌, ◌-◌, ◌*◌, ◌≤◌, ◌<◌}
 use native.Mathlib.Omega.{arith}
 use lib.ListN.{length, get_or, replicate, length-replicate, get_or-eq_default, get_or-replicate}
 use lib.Dec.{leb, ltb}
-use borrow.Author.Tests.{not_true, not_false, ltb-true, ltb-false, leb-true, leb-false}
+use borrow.Author.Tests.{not-true, not-false, ltb-true, ltb-false, leb-true, leb-false}
 use Rattle.rulebook.specs.declared.Cell.{Cell}
 use Rattle.rulebook.specs.Tools.{choose, whenever, part, sum_to, some_to}
 use Rattle.rulebook.specs.Weights.{last_slot, slot_ok}
@@ -74,7 +74,7 @@ module _ (ws : List ℕ) (long : Bool) (e : long ≡ is_spelled ws) where
     -- words that are not as many as a record's
     pub short_ledger : ledger_in ws ≡ no_ledger 0
     unfolding ledger_in
-    short_ledger = given_off (is_spelled ws) (no_ledger 0) (λ _. ledger_of ws) (sym e ∙ not_true long q)
+    short_ledger = given_off (is_spelled ws) (no_ledger 0) (λ _. ledger_of ws) (sym e ∙ not-true long q)
 
     pub short_row : (s : ℕ) → no_row ≡ row_at (ledger_in ws) s
     short_row s = sym (ap (λ (l : Ledger). row_at l s) short_ledger ∙ none_row s)
@@ -88,10 +88,10 @@ module _ (ws : List ℕ) (long : Bool) (e : long ≡ is_spelled ws) where
   -- words of a record's length
   pub whole_ledger : not long ≡ false → ledger_of ws ≡ ledger_in ws
   unfolding ledger_in
-  whole_ledger q = sym (given_on (is_spelled ws) (no_ledger 0) (λ _. ledger_of ws) (sym e ∙ not_false long q))
+  whole_ledger q = sym (given_on (is_spelled ws) (no_ledger 0) (λ _. ledger_of ws) (sym e ∙ not-false long q))
 
   pub whole_long : not long ≡ false → Long ws
-  whole_long q = spelled_long ws (sym e ∙ not_false long q)
+  whole_long q = spelled_long ws (sym e ∙ not-false long q)
 
   module _ (q : not long ≡ false) where
     -- slots and nodes past the last

@@ -5,7 +5,7 @@ use mathlib.Core.Bool.{Bool, true, false, not, ◌&&◌, ◌||◌}
 use Prim.Native.Nat.{ℕ, ◌+◌, ◌-◌, ◌*◌, ◌≤◌, ◌<◌}
 use native.Mathlib.Omega.{arith}
 use lib.Dec.{eqb, leb}
-use borrow.Author.Tests.{not_true, lt-ltb, le-ltb, le-leb, leb-true, eqb-false, ne_eqb}
+use borrow.Author.Tests.{not-true, lt-ltb, le-ltb, le-leb, leb-true, eqb-false, ne_eqb}
 use Rattle.rulebook.specs.declared.Cell.{Cell}
 use Rattle.rulebook.specs.Tools.{part, lower}
 use Rattle.rulebook.specs.Ledger.{Ledger, none, cell_at}
@@ -28,7 +28,7 @@ pub lower_kept : (t : Bool) (b m : ℕ) → (not (eqb m 0) && leb m b) ≡ true 
 lower_kept false b m h = sym (lower_off b m)
 lower_kept true b m h =
     let e = and_both (not (eqb m 0)) (leb m b) h in
-    let f = eqb-false m 0 (not_true (eqb m 0) e.0) in
+    let f = eqb-false m 0 (not-true (eqb m 0) e.0) in
     let g = leb-true m b e.1 in
     lower_cases b m (λ z k. absurd (f z)) (λ z i k. omega arith) (λ z i k. sym k)
 

@@ -8,7 +8,7 @@ use native.Mathlib.Numerals.{add-one}
 use lib.ListN.{length, get_or, set, take, replicate}
 use lib.Seq.{take-suc, take-length, length-take-le, set_at, append_snoc}
 use lib.Dec.{eqb, leb}
-use borrow.Author.Tests.{eq-eqb, ne_eqb, not_false}
+use borrow.Author.Tests.{eq-eqb, ne_eqb, not-false}
 use Rattle.rulebook.specs.declared.StartAnswer.{StartAnswer}
 use Rattle.rulebook.specs.declared.StartAnswer.TheVariants as start
 use Rattle.rulebook.specs.declared.Verdict.{Verdict}
@@ -173,7 +173,7 @@ begun_watch ws stakes genesis a l p = record { answered = p.answered; words = p.
 pub begun_ready : (ws stakes : List ℕ) (made : Made) (rest : Bool) → made ≡ made_of stakes → (not made.fits || rest) ≡ false → length ws ≡ record_words (places_for (length stakes))
     → SetUp ws stakes made.table.total.0
 begun_ready ws stakes made rest e t long =
-    let f : (made_of stakes).fits ≡ true = ap (λ (x : Made). x.fits) (sym e) ∙ not_false made.fits (or_none (not made.fits) rest t).0 in
+    let f : (made_of stakes).fits ≡ true = ap (λ (x : Made). x.fits) (sym e) ∙ not-false made.fits (or_none (not made.fits) rest t).0 in
     let g : stakes_fit stakes (length stakes) ≡ true = sym (made_fits stakes) ∙ f in
     record {
       long = long;

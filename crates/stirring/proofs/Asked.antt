@@ -5,7 +5,7 @@ use mathlib.Core.List.{List}
 use Prim.Native.Nat.{ℕ, ◌+◌, ◌-◌, ◌≤◌, ◌<◌}
 use native.Mathlib.Omega.{arith}
 use lib.Dec.{eqb}
-use borrow.Author.Tests.{eq-eqb, ne_eqb, not_false, eqb-true, eqb-false}
+use borrow.Author.Tests.{eq-eqb, ne_eqb, not-false, eqb-true, eqb-false}
 use Rattle.rulebook.specs.declared.Block.{Block}
 use Rattle.rulebook.specs.declared.Cell.{Cell}
 use Rattle.rulebook.specs.declared.Tally.{Tally}
@@ -46,7 +46,7 @@ module _ (l : Ledger) (t : ℕ) (c : Cell) (own : c ≡ own_cell l t) where
   first_done first x n ex en b eb e =
       let h = or_none (not x) (n && not (none b.number)) e in
       record {
-        armed = λ _. sym ex ∙ not_false x h.0;
+        armed = λ _. sym ex ∙ not-false x h.0;
         voted = λ _. (λ i. no_initial (sym own i) && not (none (sym eb i).number)) ∙ (λ i. sym en i && not (none b.number)) ∙ h.1;
         alone = λ f _. true_not_false (is_first t) first f;
       }

@@ -8,7 +8,7 @@ use native.Mathlib.Omega.{arith}
 use lib.ListN.{length, get_or}
 use lib.Seq.{get_or-set_other}
 use lib.Dec.{eqb, ltb}
-use borrow.Author.Tests.{eqb-true, eqb-false, ne_eqb, not_true, not_false}
+use borrow.Author.Tests.{eqb-true, eqb-false, ne_eqb, not-true, not-false}
 use Rattle.rulebook.specs.declared.Block.{Block}
 use Rattle.rulebook.specs.declared.Cell.{Cell}
 use Rattle.rulebook.specs.declared.CertificateKind.{CertificateKind}
@@ -147,7 +147,7 @@ module _ (l : Ledger) (s : ℕ) (r : Row) where
           let fits : parent_fits changed t (is_first t) (first_block changed t) ≡ parent_fits changed t (is_first t) (first_block l t) = (λ i. parent_fits changed t (is_first t) (same_first t i)) in
           back_both (may changed) (parent_fits changed t (is_first t) (first_block changed t)) p (cast p t vote.Notar (first_block changed t).number)
           (λ u v. off_both (may l) (parent_fits l t (is_first t) (first_block l t)) o (cast o t vote.Notar (first_block l t).number) e (λ _ _. cast_grows o t vote.Notar (first_block l t).number)
-          (sym same ∙ u) (h (not_true (none (first_block l t).number) (and_both (no_initial (own_cell l t)) (not (none (first_block l t).number)) (sym same ∙ u)).1) (sym fits ∙ v)))
+          (sym same ∙ u) (h (not-true (none (first_block l t).number) (and_both (no_initial (own_cell l t)) (not (none (first_block l t).number)) (sym same ∙ u)).1) (sym fits ∙ v)))
 
       -- ---- D: where a block that it applies to is one that it applied to before
 
@@ -159,7 +159,7 @@ module _ (l : Ledger) (s : ℕ) (r : Row) where
           let same : not (no_initial (own_cell changed t)) ≡ not (no_initial (own_cell l t)) = (λ i. not (no_initial (same_own t i))) in
           back_both (not (no_initial (own_cell changed t))) (not (none b)) p (cast_fallback p t b)
           (λ u v. off_both (not (no_initial (own_cell l t))) (not (none d)) o (cast_fallback o t d) e
-          (λ _ w. falls_grow l rs t (not_true (none d) w)) (sym same ∙ u) (ap not (h (not_true (none b) v))))
+          (λ _ w. falls_grow l rs t (not-true (none d) w)) (sym same ∙ u) (ap not (h (not-true (none b) v))))
 
       module _ (ne : t ≡ s → ⊥) where
         pub C-stays : rule_c o t ≡ o → rule_c p t ≡ p

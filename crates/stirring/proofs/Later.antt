@@ -6,7 +6,7 @@ use Prim.Native.Nat.{ℕ, zero, suc, ◌+◌, ◌-◌, ◌≤◌, ◌<◌}
 use native.Mathlib.Omega.{arith}
 use lib.ListN.{length, get_or}
 use lib.Dec.{eqb, ltb, leb}
-use borrow.Author.Tests.{eqb-true, eqb-false, eq-eqb, ne_eqb, lt-ltb, ltb-true, leb-true, leb-false, not_true}
+use borrow.Author.Tests.{eqb-true, eqb-false, eq-eqb, ne_eqb, lt-ltb, ltb-true, leb-true, leb-false, not-true}
 use Rattle.rulebook.specs.declared.Block.{Block}
 use Rattle.rulebook.specs.declared.Cell.{Cell}
 use Rattle.rulebook.specs.declared.CertificateKind.TheVariants as certificate
@@ -192,7 +192,7 @@ module _ (l : Ledger) (s : ℕ) (r : Row) where
         let q = j.parentslot.0 in
         let a = given_both kept (λ _. whenever (not (none q) && ltb q t) (λ _. held m certificate.NotarFallback q j.parent) false) e in
         let c = given_both (not (none q) && ltb q t) (λ _. held m certificate.NotarFallback q j.parent) a.1 in
-        let some = some_parent l t j (not_true (is_free j) (and_both (not (is_free j)) (has_number b j) a.0).0) fits in
+        let some = some_parent l t j (not-true (is_free j) (and_both (not (is_free j)) (has_number b j) a.0).0) fits in
         given_on kept false (λ _. whenever (not (none q) && ltb q t) (λ _. held l certificate.NotarFallback q j.parent) false) a.0
         ∙ given_on (not (none q) && ltb q t) false (λ _. held l certificate.NotarFallback q j.parent) c.0
         ∙ three q j.parent (ltb-true q t (and_both (not (none q)) (ltb q t) c.0).1) some c.1

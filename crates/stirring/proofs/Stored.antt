@@ -7,7 +7,7 @@ use native.Mathlib.Omega.{arith}
 use lib.ListN.{length, get_or, set}
 use lib.Seq.{get_or-set_other}
 use lib.Dec.{eqb}
-use borrow.Author.Tests.{eqb-true, eqb-false, eq-eqb, ne_eqb, not_true, not_false}
+use borrow.Author.Tests.{eqb-true, eqb-false, eq-eqb, ne_eqb, not-true, not-false}
 use Rattle.rulebook.specs.declared.Cell.{Cell}
 use Rattle.rulebook.specs.declared.CertificateKind.{CertificateKind}
 use Rattle.rulebook.specs.declared.CertificateKind.TheVariants as certificate
@@ -222,14 +222,14 @@ module _ (l : Ledger) (h : Sound l) (table : Tabled l) (rs : List Record) (rest 
           named_by e
           (λ z t.
           by_test (is_short l looks s) (λ u. short_by u z t)
-          (λ u. led_by (not_false led ((λ i. not (sym u i) && not led) ∙ o)) z))
+          (λ u. led_by (not-false led ((λ i. not (sym u i) && not led) ∙ o)) z))
 
       pub calm_shut : (j : VoteKind) → k ≡ j → opens l looks s j b ≡ false → Calm stored rs s
       unfolding opens names_block for_skip
       calm_shut vote.Notar e o = block_shut (ap names_block e) o
       calm_shut vote.NotarFallback e o = block_shut (ap names_block e) o
-      calm_shut vote.Skip e o = unnamed_by (ap names_block e) (λ _. not_false (held l certificate.Skip s 0) o)
-      calm_shut vote.SkipFallback e o = unnamed_by (ap names_block e) (λ _. not_false (held l certificate.Skip s 0) o)
+      calm_shut vote.Skip e o = unnamed_by (ap names_block e) (λ _. not-false (held l certificate.Skip s 0) o)
+      calm_shut vote.SkipFallback e o = unnamed_by (ap names_block e) (λ _. not-false (held l certificate.Skip s 0) o)
       calm_shut vote.Final e o = unnamed_by (ap names_block e) (four_other (ap for_skip e))
       calm_shut vote.Other e o = unnamed_by (ap names_block e) (four_other (ap for_skip e))
 

@@ -6,7 +6,7 @@ use Prim.Native.Nat.{ℕ, suc, ◌≤◌, ◌<◌}
 use native.Mathlib.Omega.{arith}
 use lib.ListN.{length, take}
 use lib.Dec.{eqb, ltb}
-use borrow.Author.Tests.{lt-ltb, le-ltb, not_false}
+use borrow.Author.Tests.{lt-ltb, le-ltb, not-false}
 use Rattle.rulebook.specs.declared.Accepted.{Accepted}
 use Rattle.rulebook.specs.declared.CertificateKind.{CertificateKind}
 use Rattle.rulebook.specs.declared.CheckAnswer.{CheckAnswer}
@@ -155,7 +155,7 @@ module _ (ws packet : List ℕ) (told : Accepted) (k : Accepting ws packet told)
   unfolding judge judge_kind
   front_slot =
       let later = (refuse_fine (is_other_kind (kind_in (length (table_of ledger)) front.kind)) refusal.BadKind _ front_fine).1 in
-      (slot_range front.slot (not_false (slot_ok front.slot) (refuse_fine (not (slot_ok front.slot)) refusal.BadSlot _ later).0)).1
+      (slot_range front.slot (not-false (slot_ok front.slot) (refuse_fine (not (slot_ok front.slot)) refusal.BadSlot _ later).0)).1
 
   pub told_placed : InSlot ws told.slot.0
   told_placed = record { long = sound_long ws k.sound; slot = omega (arith, told_slot, front_slot) }

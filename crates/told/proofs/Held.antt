@@ -7,7 +7,7 @@ use Prim.Native.Nat.{ℕ, suc, ◌+◌, ◌*◌, ◌≤◌}
 use native.Mathlib.Omega.{arith}
 use lib.ListN.{length, get_or}
 use lib.Dec.{eqb, leb, ltb}
-use borrow.Author.Tests.{eqb-true, eq-eqb, leb-true, leb-false, le-ltb, not_false}
+use borrow.Author.Tests.{eqb-true, eq-eqb, leb-true, leb-false, le-ltb, not-false}
 use Rattle.rulebook.specs.declared.Accepted.{Accepted}
 use Rattle.rulebook.specs.declared.CertificateKind.{CertificateKind}
 use Rattle.rulebook.specs.declared.Refusal.TheVariants as refusal
@@ -132,7 +132,7 @@ module _ (stakes : List ℕ) (k : CertificateKind) (c : Certificate) (fine : jud
       let d = refuse_fine (block_misfits k c.block) refusal.BadBlock _ b.1 in
       let e = refuse_fine (bad_signers (length stakes) k c) refusal.BadSigners _ d.1 in
       let f = refuse_fine (not (reaches (fifths_of k) (total_to stakes (length stakes)) (signed_weight stakes c))) _ Fine e.1 in
-      (a.0, not_false (slot_ok c.slot) b.0, d.0, not_false _ f.0)
+      (a.0, not-false (slot_ok c.slot) b.0, d.0, not-false _ f.0)
 
   pub some_signer : 1 ≤ total_to stakes (length stakes) → is_kept (kept_of c) ≡ true
   unfolding signed_weight signed reaches

@@ -7,7 +7,7 @@ use native.Mathlib.Omega.{arith}
 use lib.ListN.{length, get_or, set, replicate}
 use lib.Seq.{get_or-set_same, get_or-set_other}
 use lib.Dec.{T, eqb}
-use borrow.Author.Tests.{eqb-true, eqb-false, eq-eqb, ne_eqb, not_false}
+use borrow.Author.Tests.{eqb-true, eqb-false, eq-eqb, ne_eqb, not-false}
 use Rattle.rulebook.specs.declared.Cell.{Cell}
 use Rattle.rulebook.specs.declared.VoteKind.{VoteKind}
 use Rattle.rulebook.specs.declared.VoteKind.TheVariants as vote
@@ -318,11 +318,11 @@ as_ballot c vote.NotarFallback b e m f =
     (right_off (not (none b)) (has_fallback b c) p.0)
 as_ballot c vote.Skip b e m f =
     let p = place_free (not (none c.skip)) (no_initial c) e in
-    f skip refl (eqb-true b 0 (not_false (none b) m)) (true_t (no_initial c) p.1) p.0
+    f skip refl (eqb-true b 0 (not-false (none b) m)) (true_t (no_initial c) p.1) p.0
 as_ballot c vote.SkipFallback b e m f =
-    let p = place_free (not (none c.skipfallback)) true e in f skip_fallback refl (eqb-true b 0 (not_false (none b) m)) tt p.0
+    let p = place_free (not (none c.skipfallback)) true e in f skip_fallback refl (eqb-true b 0 (not-false (none b) m)) tt p.0
 as_ballot c vote.Final b e m f =
-    let p = place_free (not (none c.finalvote)) true e in f final refl (eqb-true b 0 (not_false (none b) m)) tt p.0
+    let p = place_free (not (none c.finalvote)) true e in f final refl (eqb-true b 0 (not-false (none b) m)) tt p.0
 as_ballot c vote.Other b e m f = no_place e
 
 -- The kind and block of a ballot.

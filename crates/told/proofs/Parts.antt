@@ -5,11 +5,11 @@ use mathlib.Core.List.{List, [], ◌∷◌, ◌++◌, append-nil}
 use mathlib.Core.Logic.{◌⊎◌, inl, inr}
 use Prim.Native.Nat.{ℕ, ◌+◌, ◌-◌, ◌≤◌, ◌<◌}
 use native.Mathlib.Omega.{arith}
-use native.Mathlib.Nat.{zero_add}
+use native.Mathlib.Nat.{zero-add}
 use lib.Dec.{T, eqb, leb, ltb}
 use lib.ListN.{length, get_or, take, drop, length-append, length-drop}
 use lib.Seq.{drop-length, take-append_seam}
-use borrow.Author.Tests.{eqb-true, eq-eqb, leb-true, le-leb, le-ltb, not_false}
+use borrow.Author.Tests.{eqb-true, eq-eqb, leb-true, le-leb, le-ltb, not-false}
 use Rattle.rulebook.specs.declared.Accepted.{Accepted}
 use Rattle.rulebook.specs.declared.CertificateKind.{CertificateKind}
 use Rattle.rulebook.specs.declared.CertificateKind.TheVariants as certificate
@@ -66,7 +66,7 @@ fronts xs ys n h e =
 
 -- A certificate alone is read as it stands.
 alone : (c : Certificate) → Fits64 c → certificate_at (certificate_bytes c) 0 ≡ found.Whole c (length (certificate_bytes c))
-alone c f = subst (λ (bytes : List ℕ). certificate_at bytes 0 ≡ found.Whole c (length (certificate_bytes c))) (append-nil (certificate_bytes c)) (certificate_back [] c [] f ∙ ap (found.Whole c) (zero_add (length (certificate_bytes c))))
+alone c f = subst (λ (bytes : List ℕ). certificate_at bytes 0 ≡ found.Whole c (length (certificate_bytes c))) (append-nil (certificate_bytes c)) (certificate_back [] c [] f ∙ ap (found.Whole c) (zero-add (length (certificate_bytes c))))
 
 module _ (packet : List ℕ) (bytes : (i : ℕ) → get_or packet i 0 < 256) where
   first_part : (c : Certificate) (n : ℕ) → certificate_at packet 0 ≡ found.Whole c n → certificate_at (take n packet) 0 ≡ found.Whole c (length (take n packet))
@@ -102,7 +102,7 @@ final_none stakes d e p =
     let slot = refuse_fine (is_other_kind certificate.Final) refusal.BadKind _ j in
     let block = refuse_fine (not (slot_ok d.slot)) refusal.BadSlot _ slot.1 in
     let none_is = refuse_fine (not (ledger.none d.block)) refusal.BadBlock _ block.1 in
-    eqb-true d.block 0 (not_false (ledger.none d.block) none_is.0)
+    eqb-true d.block 0 (not-false (ledger.none d.block) none_is.0)
 
 end_is : (packet : List ℕ) (c : Certificate) (n : ℕ) → certificate_at packet 0 ≡ found.Whole c n → first_end packet ≡ n
 unfolding end_in
@@ -222,7 +222,7 @@ module _ (stakes : List ℕ) (me genesis : ℕ) (size : Sized stakes me) (came :
       let long : length (certificates_at now s) ≡ 13 = ready.shaped.certificates s high in
       let there : is_kept (kept_at now s 3) ≡ true = no_room certificate.Final 0 (certificates_at now s) 3 (omega (arith, long)) full refl in
       let fine = ready.inv.certificates s 3 (true_t (is_kept (kept_at now s 3)) there) in
-      let nameless : (kept_at now s 3).block ≡ 0 = eqb-true (kept_at now s 3).block 0 (not_false (ledger.none (kept_at now s 3).block) (right (table_of now) certificate.Final (kept_in s (kept_at now s 3)) fine).2) in
+      let nameless : (kept_at now s 3).block ≡ 0 = eqb-true (kept_at now s 3).block 0 (not-false (ledger.none (kept_at now s 3).block) (right (table_of now) certificate.Final (kept_in s (kept_at now s 3)) fine).2) in
       place_some (is_repeat certificate.Final 0) 0 (certificates_at now s) 3 there (eq-eqb (kept_at now s 3).block 0 nameless)
 
 -- What meets a repeat or a free place is answered 7 or 0.

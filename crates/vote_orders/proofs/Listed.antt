@@ -5,7 +5,7 @@ use mathlib.Core.Bool.{Bool, true, false, not, ◌&&◌, ◌||◌}
 use Prim.Native.Nat.{ℕ, ◌+◌, ◌-◌, ◌≤◌, ◌<◌}
 use native.Mathlib.Omega.{arith}
 use lib.Dec.{eqb, leb, ltb}
-use borrow.Author.Tests.{eq-eqb, ne_eqb, eqb-true, eqb-false, not_true, ltb-true, leb-true}
+use borrow.Author.Tests.{eq-eqb, ne_eqb, eqb-true, eqb-false, not-true, ltb-true, leb-true}
 use Rattle.rulebook.specs.declared.Who.TheVariants as who
 use Rattle.rulebook.specs.Tools.{part, sum_to}
 use Rattle.rulebook.specs.Weights.{weight, stake_in}
@@ -94,7 +94,7 @@ module _ (l : Ledger) (s b v any : ℕ) (nodeAt : ℕ → ℕ) where
     unfolding comes_next
     cases f g =
         let p = and_both (not (none m)) (ltb last m || (eqb m last && leb from n)) follows in
-        let z = eqb-false m 0 (not_true (none m) p.0) in
+        let z = eqb-false m 0 (not-true (none m) p.0) in
         let some : 1 ≤ m = omega arith in
         or_cases (ltb last m) (eqb m last && leb from n) p.1 (λ t. f some (ltb-true last m t))
         (λ t. let q = and_both (eqb m last) (leb from n) t in g some (eqb-true m last q.0) (leb-true from n q.1))
@@ -198,7 +198,7 @@ module _ (l : Ledger) (s b v any : ℕ) (nodeAt : ℕ → ℕ) where
           weight_none l.stakes l.count (λ n. p n && other m n)
               (λ n h. by_test (p n && other m n)
               (λ t. let z = and_both (p n) (other m n) t in
-              true_not_false (p n) z.0 (not_true (p n) (and_both (not (none (vote_of n))) (not (eqb (vote_of n) m)) z.1).1))
+              true_not_false (p n) z.0 (not-true (p n) (and_both (not (none (vote_of n))) (not (eqb (vote_of n) m)) z.1).1))
               (λ t. t)),
           weight_mono l.stakes l.count (λ n. p n || other m n) (λ n. not (none (vote_of n)))
               (λ n h t. or_cases (p n) (other m n) t (λ u. ap not (ne_eqb (vote_of n) 0 (λ z. omega (arith, eqb-true (vote_of n) m u))))

@@ -4,7 +4,7 @@ use mathlib.Core.Bool.{Bool, true, false, not}
 use Prim.Native.Nat.{ℕ, suc, ◌≤◌, ◌<◌}
 use native.Mathlib.Omega.{arith}
 use lib.Dec.{leb}
-use borrow.Author.Tests.{lt-ltb, le-ltb, leb-true, ltb-false, eq-eqb, ne_eqb, not_false}
+use borrow.Author.Tests.{lt-ltb, le-ltb, leb-true, ltb-false, eq-eqb, ne_eqb, not-false}
 use Rattle.rulebook.specs.declared.CertificateKind.{CertificateKind}
 use Rattle.rulebook.specs.declared.Refusal.{Refusal}
 use Rattle.rulebook.specs.declared.Refusal.TheVariants as refusal
@@ -99,9 +99,9 @@ certificate_fine l room k s b e =
     record {
       room = ltb-false room (certificate_room l.count) p.0;
       kind = q.0;
-      slot = not_false (slot_ok s) r.0;
+      slot = not-false (slot_ok s) r.0;
       block = t.0;
-      there = not_false (held l k s b) u.0;
+      there = not-false (held l k s b) u.0;
     }
 
 -- What a proof that is written has passed.
@@ -120,9 +120,9 @@ proof_fine l room s b e =
     let t = not_refused _ _ _ r.1 in
     record {
       room = ltb-false room (proof_room l.count) p.0;
-      slot = not_false (slot_ok s) q.0;
+      slot = not-false (slot_ok s) q.0;
       block = r.0;
-      final = not_false (is_final l s b) t.0;
+      final = not-false (is_final l s b) t.0;
     }
 
 -- One of the slots 1 to 16.

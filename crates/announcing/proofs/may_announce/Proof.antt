@@ -1,6 +1,6 @@
 -- Each way through the question.
 use mathlib.Core.Path.{◌≡◌, sym, ap, ◌∙◌}
-use borrow.Author.Tests.{not_true, not_false}
+use borrow.Author.Tests.{not-true, not-false}
 use borrow.Author.Rules.{rules}
 use mathlib.Core.Bool.{true}
 use Rattle.record.specs.Layout.{ledger_of}
@@ -12,13 +12,13 @@ use Rattle.announcing.proofs.may_announce.Tie as tie
 
 -- What the tests passed leave known.
 is-sound : (c : tie.Else1) → sound_words c.before.before.before.args.rec.now ≡ true
-is-sound c = sym c.before.sound.ensures ∙ not_false _ c.if1.false
+is-sound c = sym c.before.sound.ensures ∙ not-false _ c.if1.false
 
 sound-requires : tie.Need-sound-requires
 sound-requires c κs = search rules
 
 returns : tie.Need-returns
-returns c = asked_unsound _ _ _ (sym c.before.sound.ensures ∙ not_true _ c.if1.true)
+returns c = asked_unsound _ _ _ (sym c.before.sound.ensures ∙ not-true _ c.if1.true)
 
 block-verdict-requires : tie.Need-block-verdict-requires
 block-verdict-requires c κs = sound_counted _ (is-sound c)

@@ -1,7 +1,7 @@
 -- The cells and the three sums, then the leader.
 use mathlib.Core.Path.{◌∙◌}
 use borrow.Author.Rules.{rules}
-use borrow.Author.Tests.{not_true, not_false}
+use borrow.Author.Tests.{not-true, not-false}
 use Rattle.record.specs.Layout.{ledger_of}
 use Rattle.audit.proofs.Summing.{votes_off, votes_on_lem}
 use Rattle.audit.proofs.votes_fit.Statement.{statement}
@@ -18,7 +18,7 @@ returns c =
     let a = c.before.before.before.before.before.before.before.before.before.before.before.before.before.before.before.before.before in
     let t = c.before.before.before.before.before.before.before.before.before.before.before.before.before.before.before.load-card in
     let x = c.before.before.before.before.before.before.before.before.before.before.before.sums-of in
-    votes_off (ledger_of a.args.rec.now) a.args.s.0 a.requires.full t.result x.result t.ensures x.ensures (not_true _ c.if1.true)
+    votes_off (ledger_of a.args.rec.now) a.args.s.0 a.requires.full t.result x.result t.ensures x.ensures (not-true _ c.if1.true)
 
 leader-fits-requires : tie.Need-leader-fits-requires
 leader-fits-requires c κs =
@@ -29,7 +29,7 @@ returns-2 c =
     let a = c.before.before.before.before.before.before.before.before.before.before.before.before.before.before.before.before.before.before in
     let t = c.before.before.before.before.before.before.before.before.before.before.before.before.before.before.before.before.load-card in
     let x = c.before.before.before.before.before.before.before.before.before.before.before.before.sums-of in
-    c.leader-fits.ensures ∙ votes_on_lem (ledger_of a.args.rec.now) a.args.s.0 a.requires.full t.result x.result t.ensures x.ensures (not_false _ c.before.if1.false)
+    c.leader-fits.ensures ∙ votes_on_lem (ledger_of a.args.rec.now) a.args.s.0 a.requires.full t.result x.result t.ensures x.ensures (not-false _ c.before.if1.false)
 
 pub votes-fit-spec : {M : Type 1} → statement M
 votes-fit-spec = tie.close (tie.spec load-card-requires sums-of-requires returns leader-fits-requires returns-2)

@@ -2,7 +2,7 @@
 use Prim.Native.Nat.{ℕ, ◌-◌}
 use native.Mathlib.Omega.{arith}
 use lib.ListN.{length-replicate}
-use borrow.Author.Tests.{not_true, not_false}
+use borrow.Author.Tests.{not-true, not-false}
 use borrow.Author.Rules.{rules}
 use Rattle.commands.proofs.Laws.{no_packet, bad_packet, good_packet}
 use Rattle.commands.proofs.packet_and_stakes.Statement.{statement}
@@ -32,14 +32,14 @@ read-hex-requires c κs = search rules
 
 returns-2 : tie.Need-returns-2
 returns-2 c =
-    bad_packet _ _ c.before.before.before.before.before.before.before.word_at.result c.before.before.before.before.before.before.before.word_at.ensures (omega (arith, c.before.before.before.before.before.before.if1.false)) c.before.before.before.read-hex.result _ (length-replicate {A = ℕ} 32768 0) c.before.before.before.read-hex.ensures.answer (not_true _ c.if2.true)
+    bad_packet _ _ c.before.before.before.before.before.before.before.word_at.result c.before.before.before.before.before.before.before.word_at.ensures (omega (arith, c.before.before.before.before.before.before.if1.false)) c.before.before.before.read-hex.result _ (length-replicate {A = ℕ} 32768 0) c.before.before.before.read-hex.ensures.answer (not-true _ c.if2.true)
 
 at-least-requires : tie.Need-at-least-requires
 at-least-requires c κs = search rules
 
 returns-3 : tie.Need-returns-3
 returns-3 c =
-    good_packet _ _ c.before.before.before.before.before.before.before.before.word_at.result c.before.before.before.before.before.before.before.before.word_at.ensures (omega (arith, c.before.before.before.before.before.before.before.if1.false)) c.before.before.before.before.read-hex.result _ (length-replicate {A = ℕ} 32768 0) c.before.before.before.before.read-hex.ensures.answer _ (not_false _ c.before.if2.false) c.at_least.ensures
+    good_packet _ _ c.before.before.before.before.before.before.before.before.word_at.result c.before.before.before.before.before.before.before.before.word_at.ensures (omega (arith, c.before.before.before.before.before.before.before.if1.false)) c.before.before.before.before.read-hex.result _ (length-replicate {A = ℕ} 32768 0) c.before.before.before.before.read-hex.ensures.answer _ (not-false _ c.before.if2.false) c.at_least.ensures
 
 pub packet-and-stakes-spec : {M : Type 1} → statement M
 packet-and-stakes-spec =

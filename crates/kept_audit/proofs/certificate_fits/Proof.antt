@@ -2,7 +2,7 @@
 use mathlib.Core.Path.{◌∙◌, sym, ap}
 use Prim.Native.Nat.{ℕ}
 use borrow.Author.Rules.{rules}
-use borrow.Author.Tests.{not_true, not_false}
+use borrow.Author.Tests.{not-true, not-false}
 use Rattle.rulebook.specs.Ledger.{none, table_of, kept_at}
 use Rattle.record.specs.Layout.{ledger_of}
 use Rattle.kept_audit.proofs.Laws.{kept_judgeable, judged_same, fits_none, fits_kept}
@@ -19,7 +19,7 @@ returns c =
     let a = start.args in
     let l = ledger_of a.rec.now in
     ap (λ (x : ℕ). none x) c.before.block_at.ensures
-    ∙ fits_none (table_of l) a.s.0 a.n (kept_at l a.s.0 a.n) (sym start.requires.asked ∙ not_true _ c.if1.true)
+    ∙ fits_none (table_of l) a.s.0 a.n (kept_at l a.s.0 a.n) (sym start.requires.asked ∙ not-true _ c.if1.true)
 
 stakes-of-requires : tie.Need-stakes-of-requires
 stakes-of-requires c κs =
@@ -50,7 +50,7 @@ returns-2 c =
     c.accepts.ensures
     ∙ judged_same _ (table_of l) _ a.s.0 a.n _ _ _ q c.before.before.before.before.stakes-of.ensures c.before.place-kind.ensures
     c.before.before.before.before.before.before.block_at.ensures c.before.before.before.mask-a.ensures.spells c.before.before.mask-b.ensures.spells
-    ∙ fits_kept (table_of l) a.s.0 a.n q (sym start.requires.asked ∙ not_false _ c.before.before.before.before.before.if1.false)
+    ∙ fits_kept (table_of l) a.s.0 a.n q (sym start.requires.asked ∙ not-false _ c.before.before.before.before.before.if1.false)
 
 pub certificate-fits-spec : {M : Type 1} → statement M
 certificate-fits-spec =

@@ -6,7 +6,7 @@ use Prim.Native.Nat.{ℕ, ◌-◌, ◌≤◌, ◌<◌}
 use native.Mathlib.Omega.{arith}
 use lib.ListN.{length}
 use borrow.Author.Rules.{rules}
-use borrow.Author.Tests.{not_true, not_false}
+use borrow.Author.Tests.{not-true, not-false}
 use Rattle.rule_laws.proofs.ToolLaws.{and_both, both_and, all_none, all_more}
 use Rattle.rulebook.specs.Ledger.{table_of, certificates_at, kept_at}
 use Rattle.rulebook.specs.Tools.{all_to}
@@ -69,7 +69,7 @@ returns-2 c =
     let l = ledger_of a.rec.now in
     let n = c.before.before.before.before.loop.n in
     unfit (table_of l) a.s.0 (certificates_at l a.s.0) n (omega (arith, (ledger_shaped a.rec.now).certificates a.s.0 start.requires.slot))
-    _ (λ e. c.before.is-behind.ensures ∙ (and_both (certificate_fits (table_of l) a.s.0 n (kept_at l a.s.0 n)) _ e).1) (not_true _ c.if2.true)
+    _ (λ e. c.before.is-behind.ensures ∙ (and_both (certificate_fits (table_of l) a.s.0 n (kept_at l a.s.0 n)) _ e).1) (not-true _ c.if2.true)
 
 certificate-fits-requires : tie.Need-certificate-fits-requires invariant-loop decreases-loop
 certificate-fits-requires c κs =
@@ -87,7 +87,7 @@ returns-3 c =
     let l = ledger_of a.rec.now in
     let n = c.before.before.before.before.before.before.loop.n in
     unfit (table_of l) a.s.0 (certificates_at l a.s.0) n (omega (arith, (ledger_shaped a.rec.now).certificates a.s.0 start.requires.slot))
-    _ (λ e. c.before.certificate-fits.ensures ∙ (and_both _ _ e).0) (not_true _ c.if3.true)
+    _ (λ e. c.before.certificate-fits.ensures ∙ (and_both _ _ e).0) (not-true _ c.if3.true)
 
 add-n : tie.Need-overflow-add-n invariant-loop decreases-loop
 add-n c = search rules
@@ -100,8 +100,8 @@ loop-again c =
     let a = c.before.before.before.before.before.before.before.before.before.before.before.before.args in
     let l = ledger_of a.rec.now in
     let k = c.before.before.before.before.before.before.loop in
-    let fits = sym c.before.certificate-fits.ensures ∙ not_false _ c.if3.false in
-    let behind = sym c.before.before.before.is-behind.ensures ∙ not_false _ c.before.before.if2.false in (
+    let fits = sym c.before.certificate-fits.ensures ∙ not-false _ c.if3.false in
+    let behind = sym c.before.before.before.is-behind.ensures ∙ not-false _ c.before.before.if2.false in (
       omega arith,
       (
         k.invariant.1.0,

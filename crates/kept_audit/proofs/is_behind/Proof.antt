@@ -4,7 +4,7 @@ use mathlib.Core.Bool.{true}
 use Prim.Native.Nat.{ℕ, ◌-◌, ◌≤◌, ◌<◌}
 use native.Mathlib.Omega.{arith}
 use borrow.Author.Rules.{rules}
-use borrow.Author.Tests.{not_true, not_false}
+use borrow.Author.Tests.{not-true, not-false}
 use Rattle.rulebook.specs.Ledger.{certificates_at, is_kept, kept_at}
 use Rattle.record.specs.Layout.{ledger_of}
 use Rattle.kept_audit.proofs.Laws.{apart_to, behind_free, past_first, apart_none, apart_more, behind_repeat, behind_apart}
@@ -25,13 +25,13 @@ past : (c : tie.Else1 invariant-loop decreases-loop)
 past c =
     let start = c.before.before in
     let a = start.args in
-    past_first (certificates_at (ledger_of a.rec.now) a.s.0) a.n _ start.requires.asked (not_false _ c.if1.false)
+    past_first (certificates_at (ledger_of a.rec.now) a.s.0) a.n _ start.requires.asked (not-false _ c.if1.false)
 
 returns : tie.Need-returns invariant-loop decreases-loop
 returns c =
     let start = c.before.before in
     let a = start.args in
-    behind_free (certificates_at (ledger_of a.rec.now) a.s.0) a.n _ start.requires.asked (not_true _ c.if1.true)
+    behind_free (certificates_at (ledger_of a.rec.now) a.s.0) a.n _ start.requires.asked (not-true _ c.if1.true)
 
 block-at-requires : tie.Need-block-at-requires invariant-loop decreases-loop
 block-at-requires c κs = c.before.before.requires.place

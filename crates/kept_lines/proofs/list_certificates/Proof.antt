@@ -1,7 +1,7 @@
 -- 17, 3, or the list.
 use mathlib.Core.Path.{◌∙◌, sym}
 use borrow.Author.Rules.{rules}
-use borrow.Author.Tests.{not_true, not_false}
+use borrow.Author.Tests.{not-true, not-false}
 use Rattle.kept_lines.proofs.Signers.{judgeable}
 use Rattle.kept_lines.proofs.Laws.{unsound_told, none_told, slot_told}
 use Rattle.kept_lines.proofs.list_certificates.Statement.{statement}
@@ -14,7 +14,7 @@ returns : tie.Need-returns
 returns c =
     let a = c.before.before.before.before.args in
     let tested = c.before.sound in
-    unsound_told a.rec.now a.s.0 a.list.now (sym tested.ensures ∙ not_true tested.result c.if1.true)
+    unsound_told a.rec.now a.s.0 a.list.now (sym tested.ensures ∙ not-true tested.result c.if1.true)
 
 slot-ok-requires : tie.Need-slot-ok-requires
 slot-ok-requires c κs = search rules
@@ -25,14 +25,14 @@ returns-2 c =
     let a = fine.before.before.before.before.args in
     let tested = fine.before.sound in
     let asked = c.before.slot_ok in
-    none_told a.rec.now a.s.0 a.list.now (sym tested.ensures ∙ not_false tested.result fine.if1.false) (sym asked.ensures ∙ not_true asked.result c.if2.true)
+    none_told a.rec.now a.s.0 a.list.now (sym tested.ensures ∙ not-false tested.result fine.if1.false) (sym asked.ensures ∙ not-true asked.result c.if2.true)
 
 list-places-requires : tie.Need-list-places-requires
 list-places-requires c κs =
     let fine = c.before.before.before in
     let tested = fine.before.sound in
     let asked = c.before.before.slot_ok in
-    judgeable _ _ (sym asked.ensures ∙ not_false asked.result c.before.if2.false) (sym tested.ensures ∙ not_false tested.result fine.if1.false)
+    judgeable _ _ (sym asked.ensures ∙ not-false asked.result c.before.if2.false) (sym tested.ensures ∙ not-false tested.result fine.if1.false)
 
 same_length : tie.Need-same-length
 same_length c = search rules
@@ -44,7 +44,7 @@ returns-3 c =
     let a = fine.before.before.before.before.args in
     let tested = fine.before.sound in
     let asked = there.before.slot_ok in
-    slot_told a.rec.now a.s.0 a.list.now (sym tested.ensures ∙ not_false tested.result fine.if1.false) (sym asked.ensures ∙ not_false asked.result there.if2.false) c.before.before.list-places.ensures
+    slot_told a.rec.now a.s.0 a.list.now (sym tested.ensures ∙ not-false tested.result fine.if1.false) (sym asked.ensures ∙ not-false asked.result there.if2.false) c.before.before.list-places.ensures
 
 pub list-certificates-spec : {M : Type 1} → statement M
 list-certificates-spec =

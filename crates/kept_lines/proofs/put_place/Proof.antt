@@ -1,7 +1,7 @@
 -- Nothing kept; else its line.
 use mathlib.Core.Path.{◌∙◌, sym}
 use borrow.Author.Rules.{rules}
-use borrow.Author.Tests.{not_true, not_false}
+use borrow.Author.Tests.{not-true, not-false}
 use Rattle.record.specs.Layout.{ledger_of}
 use Rattle.kept_lines.proofs.Laws.{free_line, kept_line}
 use Rattle.kept_lines.proofs.put_place.Statement.{statement}
@@ -13,7 +13,7 @@ is-kept-requires c κs = search rules
 returns : tie.Need-returns
 returns c =
     let a = c.before.before.before.before.args in
-    free_line _ (ledger_of a.rec.now) a.s.0 a.n (sym c.before.is-kept.ensures ∙ not_true c.before.is-kept.result c.if1.true)
+    free_line _ (ledger_of a.rec.now) a.s.0 a.n (sym c.before.is-kept.ensures ∙ not-true c.before.is-kept.result c.if1.true)
 
 told-of-requires : tie.Need-told-of-requires
 told-of-requires c κs = search rules
@@ -32,7 +32,7 @@ returns-2 c =
     let counted = c.before.before.before.before in
     let k = counted.before.before in
     let a = k.before.before.before.before.args in
-    kept_line _ (ledger_of a.rec.now) a.s.0 a.n _ _ (sym k.before.is-kept.ensures ∙ not_false k.before.is-kept.result k.if1.false) counted.before.told_of.ensures counted.count.ensures
+    kept_line _ (ledger_of a.rec.now) a.s.0 a.n _ _ (sym k.before.is-kept.ensures ∙ not-false k.before.is-kept.result k.if1.false) counted.before.told_of.ensures counted.count.ensures
     c.before.before.put_told.ensures
 
 pub put-place-spec : {M : Type 1} → statement M

@@ -4,7 +4,7 @@ use Prim.Native.Nat.{ℕ, ◌+◌}
 use native.Mathlib.Omega.{arith}
 use lib.ListN.{get_or, set}
 use borrow.Author.Rules.{rules}
-use borrow.Author.Tests.{not_true}
+use borrow.Author.Tests.{not-true}
 use Rattle.rulebook.specs.Votes.{store_vote}
 use Rattle.record.specs.Layout.{ledger_of}
 use Rattle.storing.proofs.Laws.{storing_weighs, storing_placed, storing_stake, stake_small}
@@ -27,7 +27,7 @@ returns-2 : tie.Need-returns-2
 returns-2 c =
     let a = c.before.before.before.before.before in
     let p = a.requires.storing in
-    λ x f. noted_other (ledger_of a.args.rec.now) p.sound a.args.s.0 a.args.n.0 a.args.k x p.high (storing_placed p).node f a.args.looks.now a.requires.bounds (sym c.before.names-block.ensures ∙ not_true _ c.if2.true)
+    λ x f. noted_other (ledger_of a.args.rec.now) p.sound a.args.s.0 a.args.n.0 a.args.k x p.high (storing_placed p).node f a.args.looks.now a.requires.bounds (sym c.before.names-block.ensures ∙ not-true _ c.if2.true)
 
 load-cell-requires : tie.Need-load-cell-requires
 load-cell-requires c κs = storing_placed c.before.before.before.before.before.requires.storing

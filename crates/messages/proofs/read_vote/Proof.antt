@@ -1,7 +1,7 @@
 -- `read_vote` answers `read_vote`: each number that was read leads on to the next, and the first that was not decides. Assumes nothing.
 use mathlib.Core.Path.{sym, ◌∙◌}
 use borrow.Author.Rules.{rules}
-use borrow.Author.Tests.{not_true, not_false}
+use borrow.Author.Tests.{not-true, not-false}
 use Rattle.rulebook.specs.Tools.{whenever}
 use Rattle.rulebook.specs.Messages.{as_read, read_to, read_vote}
 use Rattle.messages.proofs.Fell.{fell}
@@ -13,7 +13,7 @@ count-fits-requires c κs = search rules
 
 returns : tie.Need-returns
 unfolding read_vote whenever
-returns c = rw (sym c.before.count-fits.ensures ∙ not_true _ c.if1.true)
+returns c = rw (sym c.before.count-fits.ensures ∙ not-true _ c.if1.true)
 
 read-number-requires : tie.Need-read-number-requires
 read-number-requires c κs = search rules
@@ -29,7 +29,7 @@ unfolding read_vote whenever as_read
 returns-2 c =
     let r = c.before.before in
     let i = r.before in
-    rw (sym i.before.count-fits.ensures ∙ not_false _ i.if1.false)
+    rw (sym i.before.count-fits.ensures ∙ not-false _ i.if1.false)
     (c.unread.ensures ∙ fell _ _ _ c.before.match.keys2 r.read_number.ensures)
 
 read-number-requires-2 : tie.Need-read-number-requires-2
@@ -47,7 +47,7 @@ returns-3 c =
     let r = c.before.before in
     let k1 = r.before in
     let i = k1.before.before.before.before in
-    rw (sym i.before.count-fits.ensures ∙ not_false _ i.if1.false)
+    rw (sym i.before.count-fits.ensures ∙ not-false _ i.if1.false)
     (simp (sym k1.before.before.before.read_number.ensures ∙ k1.before.n1.given.1)
     (c.unread2.ensures ∙ fell _ _ _ c.before.match2.keys2 r.read-number2.ensures))
 
@@ -67,7 +67,7 @@ returns-4 c =
     let k2 = r.before in
     let k1 = k2.before.before.before.before in
     let i = k1.before.before.before.before in
-    rw (sym i.before.count-fits.ensures ∙ not_false _ i.if1.false)
+    rw (sym i.before.count-fits.ensures ∙ not-false _ i.if1.false)
     (simp (sym k1.before.before.before.read_number.ensures ∙ k1.before.n1.given.1, sym k2.before.before.before.read-number2.ensures ∙ k2.before.n2.given.1)
     (c.unread3.ensures ∙ fell _ _ _ c.before.match3.keys2 r.read-number3.ensures))
 
@@ -88,7 +88,7 @@ returns-5 c =
     let k2 = k3.before.before.before.before in
     let k1 = k2.before.before.before.before in
     let i = k1.before.before.before.before in
-    rw (sym i.before.count-fits.ensures ∙ not_false _ i.if1.false)
+    rw (sym i.before.count-fits.ensures ∙ not-false _ i.if1.false)
     (simp (sym k1.before.before.before.read_number.ensures ∙ k1.before.n1.given.1, sym k2.before.before.before.read-number2.ensures ∙ k2.before.n2.given.1, sym k3.before.before.before.read-number3.ensures ∙ k3.before.n3.given.1)
     (c.unread4.ensures ∙ fell _ _ _ c.before.match4.keys2 r.read-number4.ensures))
 
@@ -115,7 +115,7 @@ returns-6 c =
     let k2 = k3.before.before.before.before in
     let k1 = k2.before.before.before.before in
     let i = k1.before.before.before.before in
-    rw (sym i.before.count-fits.ensures ∙ not_false _ i.if1.false)
+    rw (sym i.before.count-fits.ensures ∙ not-false _ i.if1.false)
     (simp (sym k1.before.before.before.read_number.ensures ∙ k1.before.n1.given.1, sym k2.before.before.before.read-number2.ensures ∙ k2.before.n2.given.1, sym k3.before.before.before.read-number3.ensures ∙ k3.before.n3.given.1, sym k4.before.before.before.read-number4.ensures ∙ k4.before.n4.given.1)
     (rw (← w.vote-of.ensures, ← o.left_over.ensures, ← m.vote-tests.ensures) c.read-on.ensures))
 

@@ -1,7 +1,7 @@
 -- The tests in their order, then the whole check and a state of zeros.
 use Rattle.pieces.proofs.Ways.{end_broken, end_nothing, end_checked_lem}
 use Rattle.pieces.proofs.Tests.{ready_words, ready_bytes, ready_within, whole_ready, whole_held, table_held}
-use borrow.Author.Tests.{not_true, not_false}
+use borrow.Author.Tests.{not-true, not-false}
 use mathlib.Core.Path.{◌∙◌, sym}
 use native.Mathlib.Omega.{arith}
 use borrow.Author.Rules.{rules}
@@ -19,11 +19,11 @@ same-length-2 c = search rules
 
 returns : tie.Need-returns
 returns c =
-    end_broken _ _ (sym c.before.is_whole.ensures ∙ not_true _ c.if1.true)
+    end_broken _ _ (sym c.before.is_whole.ensures ∙ not-true _ c.if1.true)
 
 slice-read-if2 : tie.Need-slice-read-if2
 slice-read-if2 c =
-    omega (arith, ready_words _ _ (whole_ready _ _ (sym c.before.before.is_whole.ensures ∙ not_false _ c.before.if1.false)))
+    omega (arith, ready_words _ _ (whole_ready _ _ (sym c.before.before.is_whole.ensures ∙ not-false _ c.before.if1.false)))
 
 same-length-3 : tie.Need-same-length-3
 same-length-3 c = search rules
@@ -33,22 +33,22 @@ same-length-4 c = search rules
 
 returns-2 : tie.Need-returns-2
 returns-2 c =
-    end_nothing _ _ (sym c.before.before.before.is_whole.ensures ∙ not_false _ c.before.before.if1.false) c.if2.true
+    end_nothing _ _ (sym c.before.before.before.is_whole.ensures ∙ not-false _ c.before.before.if1.false) c.if2.true
 
 slice-read-kept : tie.Need-slice-read-kept
 slice-read-kept c =
-    omega (arith, ready_words _ _ (whole_ready _ _ (sym c.before.before.before.before.is_whole.ensures ∙ not_false _ c.before.before.before.if1.false)))
+    omega (arith, ready_words _ _ (whole_ready _ _ (sym c.before.before.before.before.is_whole.ensures ∙ not-false _ c.before.before.before.if1.false)))
 
 sub-kept : tie.Need-overflow-sub-kept
 sub-kept c = search rules
 
 slice-read-past : tie.Need-slice-read-past
 slice-read-past c =
-    omega (arith, ready_words _ _ (whole_ready _ _ (sym c.before.before.before.before.before.is_whole.ensures ∙ not_false _ c.before.before.before.before.if1.false)))
+    omega (arith, ready_words _ _ (whole_ready _ _ (sym c.before.before.before.before.before.is_whole.ensures ∙ not-false _ c.before.before.before.before.if1.false)))
 
 add-past : tie.Need-overflow-add-past
 add-past c =
-    omega (arith, (table_held _ (whole_held _ _ (sym c.before.before.before.before.before.is_whole.ensures ∙ not_false _ c.before.before.before.before.if1.false) c.before.before.if2.false).0).few)
+    omega (arith, (table_held _ (whole_held _ _ (sym c.before.before.before.before.before.is_whole.ensures ∙ not-false _ c.before.before.before.before.if1.false) c.before.before.if2.false).0).few)
 
 sub-check-proof : tie.Need-overflow-sub-check-proof
 sub-check-proof c = search rules
@@ -58,7 +58,7 @@ part-check-proof-start c = search rules
 
 part-check-proof-end : tie.Need-slice-bounds-check-proof-end
 part-check-proof-end c =
-    omega (arith, (table_held _ (whole_held _ _ (sym c.before.before.before.before.before.before.is_whole.ensures ∙ not_false _ c.before.before.before.before.before.if1.false) c.before.before.before.if2.false).0).few, ready_words _ _ (whole_ready _ _ (sym c.before.before.before.before.before.before.is_whole.ensures ∙ not_false _ c.before.before.before.before.before.if1.false)))
+    omega (arith, (table_held _ (whole_held _ _ (sym c.before.before.before.before.before.before.is_whole.ensures ∙ not-false _ c.before.before.before.before.before.if1.false) c.before.before.before.if2.false).0).few, ready_words _ _ (whole_ready _ _ (sym c.before.before.before.before.before.before.is_whole.ensures ∙ not-false _ c.before.before.before.before.before.if1.false)))
 
 sub-check-proof-2 : tie.Need-overflow-sub-check-proof-2
 sub-check-proof-2 c = search rules
@@ -68,7 +68,7 @@ part-check-proof-start-2 c = search rules
 
 part-check-proof-end-2 : tie.Need-slice-bounds-check-proof-end-2
 part-check-proof-end-2 c =
-    omega (arith, ready_bytes _ _ (whole_ready _ _ (sym c.before.before.before.before.before.before.before.before.is_whole.ensures ∙ not_false _ c.before.before.before.before.before.before.before.if1.false)), ready_within _ _ (whole_ready _ _ (sym c.before.before.before.before.before.before.before.before.is_whole.ensures ∙ not_false _ c.before.before.before.before.before.before.before.if1.false)) c.before.before.before.before.before.if2.false)
+    omega (arith, ready_bytes _ _ (whole_ready _ _ (sym c.before.before.before.before.before.before.before.before.is_whole.ensures ∙ not-false _ c.before.before.before.before.before.before.before.if1.false)), ready_within _ _ (whole_ready _ _ (sym c.before.before.before.before.before.before.before.before.is_whole.ensures ∙ not-false _ c.before.before.before.before.before.before.before.if1.false)) c.before.before.before.before.before.if2.false)
 
 check-proof-requires : tie.Need-check-proof-requires
 check-proof-requires c κs = search rules
@@ -87,7 +87,7 @@ same-length-6 c = search rules
 
 returns-3 : tie.Need-returns-3
 returns-3 c =
-    end_checked_lem _ _ (sym c.before.before.before.before.before.before.before.before.before.before.before.before.before.before.before.before.before.before.is_whole.ensures ∙ not_false _ c.before.before.before.before.before.before.before.before.before.before.before.before.before.before.before.before.before.if1.false) c.before.before.before.before.before.before.before.before.before.before.before.before.before.before.before.if2.false c.before.before.before.before.before.before.before.before.check-proof.ensures c.before.before.before.before.before.before.clear-words.ensures c.before.before.clear-bytes.ensures
+    end_checked_lem _ _ (sym c.before.before.before.before.before.before.before.before.before.before.before.before.before.before.before.before.before.before.is_whole.ensures ∙ not-false _ c.before.before.before.before.before.before.before.before.before.before.before.before.before.before.before.before.before.if1.false) c.before.before.before.before.before.before.before.before.before.before.before.before.before.before.before.if2.false c.before.before.before.before.before.before.before.before.check-proof.ensures c.before.before.before.before.before.before.clear-words.ensures c.before.before.clear-bytes.ensures
 
 pub end-spec : {M : Type 1} → statement M
 end-spec =

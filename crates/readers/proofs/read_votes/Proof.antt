@@ -1,6 +1,6 @@
 -- Each way through the question.
 use mathlib.Core.Path.{sym, ap, ◌∙◌}
-use borrow.Author.Tests.{not_true, not_false}
+use borrow.Author.Tests.{not-true, not-false}
 use borrow.Author.Rules.{rules}
 use Rattle.soundness.proofs.Laws.{sound_long}
 use Rattle.readers.specs.declared.VotesAnswer.TheVariants as votes
@@ -14,7 +14,7 @@ sound-requires c κs = search rules
 
 returns : tie.Need-returns
 unfolding votes_on
-returns c = sym (slot_unsound votes.Refused _ _ _ (sym c.before.sound.ensures ∙ not_true _ c.if1.true))
+returns c = sym (slot_unsound votes.Refused _ _ _ (sym c.before.sound.ensures ∙ not-true _ c.if1.true))
 
 slot-ok-requires : tie.Need-slot-ok-requires
 slot-ok-requires c κs = search rules
@@ -22,10 +22,10 @@ slot-ok-requires c κs = search rules
 returns-2 : tie.Need-returns-2
 unfolding votes_on
 returns-2 c =
-    sym (slot_none votes.Refused _ _ _ (sym c.before.before.before.sound.ensures ∙ not_false _ c.before.before.if1.false) (sym c.before.slot_ok.ensures ∙ not_true _ c.if2.true))
+    sym (slot_none votes.Refused _ _ _ (sym c.before.before.before.sound.ensures ∙ not-false _ c.before.before.if1.false) (sym c.before.slot_ok.ensures ∙ not-true _ c.if2.true))
 
 count-requires : tie.Need-count-requires
-count-requires c κs = sound_long _ (sym c.before.before.before.sound.ensures ∙ not_false _ c.before.before.if1.false)
+count-requires c κs = sound_long _ (sym c.before.before.before.sound.ensures ∙ not-false _ c.before.before.if1.false)
 
 not-in-table-requires : tie.Need-not-in-table-requires
 not-in-table-requires c κs = search rules
@@ -33,18 +33,18 @@ not-in-table-requires c κs = search rules
 returns-3 : tie.Need-returns-3
 returns-3 c =
     let k = c.before.before.before in
-    sym (votes_none _ _ (sym k.before.before.before.sound.ensures ∙ not_false _ k.before.before.if1.false) (sym k.before.slot_ok.ensures ∙ not_false _ k.if2.false) _ (in_table_lem _ _ _ _ c.before.before.count.ensures c.before.not-in-table.ensures ∙ c.if3.true))
+    sym (votes_none _ _ (sym k.before.before.before.sound.ensures ∙ not-false _ k.before.before.if1.false) (sym k.before.slot_ok.ensures ∙ not-false _ k.if2.false) _ (in_table_lem _ _ _ _ c.before.before.count.ensures c.before.not-in-table.ensures ∙ c.if3.true))
 
 load-cell-requires : tie.Need-load-cell-requires
 load-cell-requires c κs =
     let k = c.before.before.before in
-    votes_placed _ _ (sym k.before.before.before.sound.ensures ∙ not_false _ k.before.before.if1.false) (sym k.before.slot_ok.ensures ∙ not_false _ k.if2.false) _ (in_table_lem _ _ _ _ c.before.before.count.ensures c.before.not-in-table.ensures ∙ c.if3.false)
+    votes_placed _ _ (sym k.before.before.before.sound.ensures ∙ not-false _ k.before.before.if1.false) (sym k.before.slot_ok.ensures ∙ not-false _ k.if2.false) _ (in_table_lem _ _ _ _ c.before.before.count.ensures c.before.not-in-table.ensures ∙ c.if3.false)
 
 returns-4 : tie.Need-returns-4
 returns-4 c =
     let k = c.before.before.before.before in
     ap votes.Votes c.load-Cell.ensures
-    ∙ sym (votes_there _ _ (sym k.before.before.before.sound.ensures ∙ not_false _ k.before.before.if1.false) (sym k.before.slot_ok.ensures ∙ not_false _ k.if2.false) _ (in_table_lem _ _ _ _ c.before.before.before.count.ensures c.before.before.not-in-table.ensures ∙ c.before.if3.false))
+    ∙ sym (votes_there _ _ (sym k.before.before.before.sound.ensures ∙ not-false _ k.before.before.if1.false) (sym k.before.slot_ok.ensures ∙ not-false _ k.if2.false) _ (in_table_lem _ _ _ _ c.before.before.before.count.ensures c.before.before.not-in-table.ensures ∙ c.before.if3.false))
 
 pub read-votes-spec : {M : Type 1} → statement M
 read-votes-spec =

@@ -1,7 +1,7 @@
 -- No group has enough, or the votes in their order show it, or the blocks are weighed.
 use mathlib.Core.Path.{sym}
 use borrow.Author.Rules.{rules}
-use borrow.Author.Tests.{not_true}
+use borrow.Author.Tests.{not-true}
 use Rattle.record.specs.Layout.{ledger_of}
 use Rattle.rivals.proofs.Shown.{shown_unled, shown_led}
 use Rattle.rivals.proofs.is_led_over.Statement.{statement}
@@ -14,7 +14,7 @@ same_length : tie.Need-same-length
 same_length c = search rules
 
 returns : tie.Need-returns
-returns c = sym (c.before.before.before.group-leads.ensures (not_true _ c.if1.true))
+returns c = sym (c.before.before.before.group-leads.ensures (not-true _ c.if1.true))
 
 shown-in-order-requires : tie.Need-shown-in-order-requires
 shown-in-order-requires c κs = search rules

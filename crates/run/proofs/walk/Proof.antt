@@ -1,6 +1,6 @@
 -- The walk where it begins; where it does not it has nothing to tell.
 use borrow.Author.Rules.{rules}
-use borrow.Author.Tests.{not_true}
+use borrow.Author.Tests.{not-true}
 use Rattle.run.proofs.ScanLaws.{walk_passes}
 use Rattle.run.proofs.walk.Statement.{statement}
 use Rattle.run.proofs.walk.Tie as tie
@@ -13,7 +13,7 @@ same_length c = search rules
 
 returns : tie.Need-returns
 returns c =
-    walk_passes c.before.before.before.before.before.requires _ c.before.walk_begins.ensures (not_true c.before.walk_begins.result c.if1.true)
+    walk_passes c.before.before.before.before.before.requires _ c.before.walk_begins.ensures (not-true c.before.walk_begins.result c.if1.true)
 
 rule-g-requires : tie.Need-rule-g-requires
 rule-g-requires c κs = search rules

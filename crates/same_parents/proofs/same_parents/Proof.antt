@@ -2,7 +2,7 @@
 use mathlib.Core.Bool.{true}
 use mathlib.Core.Path.{◌≡◌, ◌∙◌, sym}
 use borrow.Author.Rules.{rules}
-use borrow.Author.Tests.{not_true, not_false}
+use borrow.Author.Tests.{not-true, not-false}
 use Rattle.soundness.specs.Sound.{sound_words}
 use Rattle.differences.specs.Lent.{Sounds, Alike}
 use Rattle.vouching.proofs.Laws.{first_bad, second_bad, tables_differ, both_told}
@@ -13,13 +13,13 @@ use Rattle.same_parents.proofs.same_parents.Tie as tie
 
 -- What each test passed leaves known.
 first-sound : (c : tie.Else1) → sound_words c.before.before.before.before.before.args.one.now ≡ true
-first-sound c = sym c.before.sound.ensures ∙ not_false _ c.if1.false
+first-sound c = sym c.before.sound.ensures ∙ not-false _ c.if1.false
 
 both-sound : (c : tie.Else2) → Sounds c.before.before.before.before.before.before.before.args.one.now c.before.before.before.before.before.before.before.args.two.now
-both-sound c = record { first = first-sound c.before.before; second = sym c.before.sound2.ensures ∙ not_false _ c.if2.false }
+both-sound c = record { first = first-sound c.before.before; second = sym c.before.sound2.ensures ∙ not-false _ c.if2.false }
 
 alike : (c : tie.Else3) → Alike c.before.before.before.before.before.before.before.before.before.args.one.now c.before.before.before.before.before.before.before.before.before.args.two.now
-alike c = record { sounds = both-sound c.before.before; same = sym c.before.same_tables.ensures ∙ not_false _ c.if3.false }
+alike c = record { sounds = both-sound c.before.before; same = sym c.before.same_tables.ensures ∙ not-false _ c.if3.false }
 
 sound-requires : tie.Need-sound-requires
 sound-requires c κs = search rules
@@ -27,7 +27,7 @@ sound-requires c κs = search rules
 returns : tie.Need-returns
 unfolding parents_on
 returns c =
-    let a = c.before.before.before.before.before.args in first_bad a.one.now a.two.now a.list.now (asked a.one.now a.two.now a.list.now) (sym c.before.sound.ensures ∙ not_true _ c.if1.true)
+    let a = c.before.before.before.before.before.args in first_bad a.one.now a.two.now a.list.now (asked a.one.now a.two.now a.list.now) (sym c.before.sound.ensures ∙ not-true _ c.if1.true)
 
 sound-requires-2 : tie.Need-sound-requires-2
 sound-requires-2 c κs = search rules
@@ -36,7 +36,7 @@ returns-2 : tie.Need-returns-2
 unfolding parents_on
 returns-2 c =
     let a = c.before.before.before.before.before.before.before.args in
-    second_bad a.one.now a.two.now a.list.now (asked a.one.now a.two.now a.list.now) (first-sound c.before.before) (sym c.before.sound2.ensures ∙ not_true _ c.if2.true)
+    second_bad a.one.now a.two.now a.list.now (asked a.one.now a.two.now a.list.now) (first-sound c.before.before) (sym c.before.sound2.ensures ∙ not-true _ c.if2.true)
 
 same-tables-requires : tie.Need-same-tables-requires
 same-tables-requires c κs =
@@ -47,7 +47,7 @@ unfolding parents_on
 returns-3 c =
     let a = c.before.before.before.before.before.before.before.before.before.args in
     let s = both-sound c.before.before in
-    tables_differ a.one.now a.two.now a.list.now (asked a.one.now a.two.now a.list.now) s.first s.second (sym c.before.same_tables.ensures ∙ not_true _ c.if3.true)
+    tables_differ a.one.now a.two.now a.list.now (asked a.one.now a.two.now a.list.now) s.first s.second (sym c.before.same_tables.ensures ∙ not-true _ c.if3.true)
 
 list-twice-requires : tie.Need-list-twice-requires
 list-twice-requires c κs =

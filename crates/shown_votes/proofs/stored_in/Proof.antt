@@ -1,6 +1,6 @@
 -- The record is sound, so its votes can be counted.
 use mathlib.Core.Path.{◌∙◌, sym}
-use borrow.Author.Tests.{not_true, not_false}
+use borrow.Author.Tests.{not-true, not-false}
 use borrow.Author.Rules.{rules}
 use Rattle.rulebook.specs.Weights.{slot_ok}
 use Rattle.record.specs.Layout.{ledger_of}
@@ -17,7 +17,7 @@ returns : tie.Need-returns
 unfolding stored_shown
 returns c =
     let a = c.before.before.before.args in
-    first_off (slot_ok a.s.0) (sound_words a.rec.now) (record { votes = 0; nodes = 0; weight = record { 0 = 0 } }) (λ _. stored_in (ledger_of a.rec.now) a.s.0) (sym c.before.slot_ok.ensures ∙ not_true _ c.if1.true)
+    first_off (slot_ok a.s.0) (sound_words a.rec.now) (record { votes = 0; nodes = 0; weight = record { 0 = 0 } }) (λ _. stored_in (ledger_of a.rec.now) a.s.0) (sym c.before.slot_ok.ensures ∙ not-true _ c.if1.true)
 
 sound-requires : tie.Need-sound-requires
 sound-requires c κs = search rules
@@ -26,18 +26,18 @@ returns-2 : tie.Need-returns-2
 unfolding stored_shown
 returns-2 c =
     let a = c.before.before.before.before.before.args in
-    second_off (slot_ok a.s.0) (sound_words a.rec.now) (record { votes = 0; nodes = 0; weight = record { 0 = 0 } }) (λ _. stored_in (ledger_of a.rec.now) a.s.0) (sym c.before.sound.ensures ∙ not_true _ c.if2.true)
+    second_off (slot_ok a.s.0) (sound_words a.rec.now) (record { votes = 0; nodes = 0; weight = record { 0 = 0 } }) (λ _. stored_in (ledger_of a.rec.now) a.s.0) (sym c.before.sound.ensures ∙ not-true _ c.if2.true)
 
 count-stored-requires : tie.Need-count-stored-requires
 count-stored-requires c κs =
-    counting _ _ (sym c.before.sound.ensures ∙ not_false _ c.if2.false) (slot_small _ (sym c.before.before.before.slot_ok.ensures ∙ not_false _ c.before.before.if1.false))
+    counting _ _ (sym c.before.sound.ensures ∙ not-false _ c.if2.false) (slot_small _ (sym c.before.before.before.slot_ok.ensures ∙ not-false _ c.before.before.if1.false))
 
 returns-3 : tie.Need-returns-3
 unfolding stored_shown
 returns-3 c =
     let a = c.before.before.before.before.before.before.args in
     c.count-stored.ensures
-    ∙ both_on (slot_ok a.s.0) (sound_words a.rec.now) (record { votes = 0; nodes = 0; weight = record { 0 = 0 } }) (λ _. stored_in (ledger_of a.rec.now) a.s.0) (sym c.before.before.before.before.slot_ok.ensures ∙ not_false _ c.before.before.before.if1.false) (sym c.before.before.sound.ensures ∙ not_false _ c.before.if2.false)
+    ∙ both_on (slot_ok a.s.0) (sound_words a.rec.now) (record { votes = 0; nodes = 0; weight = record { 0 = 0 } }) (λ _. stored_in (ledger_of a.rec.now) a.s.0) (sym c.before.before.before.before.slot_ok.ensures ∙ not-false _ c.before.before.before.if1.false) (sym c.before.before.sound.ensures ∙ not-false _ c.before.if2.false)
 
 pub stored-in-spec : {M : Type 1} → statement M
 stored-in-spec =

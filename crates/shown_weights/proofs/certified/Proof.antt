@@ -2,7 +2,7 @@
 use mathlib.Core.Path.{◌∙◌, sym}
 use mathlib.Core.Bool.{false}
 use Prim.Native.Nat.{◌-◌}
-use borrow.Author.Tests.{not_true, not_false}
+use borrow.Author.Tests.{not-true, not-false}
 use borrow.Author.Rules.{rules}
 use Rattle.rulebook.specs.Rules.{is_final}
 use Rattle.rulebook.specs.Weights.{slot_ok}
@@ -21,7 +21,7 @@ returns : tie.Need-returns
 unfolding certified_shown
 returns c =
     let a = c.before.before.before.args in
-    first_off (slot_ok a.s.0) (sound_words a.rec.now) false (λ _. is_final (ledger_of a.rec.now) a.s.0 a.b) (sym c.before.slot_ok.ensures ∙ not_true _ c.if1.true)
+    first_off (slot_ok a.s.0) (sound_words a.rec.now) false (λ _. is_final (ledger_of a.rec.now) a.s.0 a.b) (sym c.before.slot_ok.ensures ∙ not-true _ c.if1.true)
 
 sound-requires : tie.Need-sound-requires
 sound-requires c κs = search rules
@@ -30,17 +30,17 @@ returns-2 : tie.Need-returns-2
 unfolding certified_shown
 returns-2 c =
     let a = c.before.before.before.before.before.args in
-    second_off (slot_ok a.s.0) (sound_words a.rec.now) false (λ _. is_final (ledger_of a.rec.now) a.s.0 a.b) (sym c.before.sound.ensures ∙ not_true _ c.if2.true)
+    second_off (slot_ok a.s.0) (sound_words a.rec.now) false (λ _. is_final (ledger_of a.rec.now) a.s.0 a.b) (sym c.before.sound.ensures ∙ not-true _ c.if2.true)
 
 is-final-requires : tie.Need-is-final-requires
 is-final-requires c κs =
-    carded _ _ (sym c.before.sound.ensures ∙ not_false _ c.if2.false) (sym c.before.before.before.slot_ok.ensures ∙ not_false _ c.before.before.if1.false)
+    carded _ _ (sym c.before.sound.ensures ∙ not-false _ c.if2.false) (sym c.before.before.before.slot_ok.ensures ∙ not-false _ c.before.before.if1.false)
 
 returns-3 : tie.Need-returns-3
 unfolding certified_shown
 returns-3 c =
     let a = c.before.before.before.before.before.before.args in
-    c.is_final_lem.ensures ∙ both_on (slot_ok a.s.0) (sound_words a.rec.now) false (λ _. is_final (ledger_of a.rec.now) a.s.0 a.b) (sym c.before.before.before.before.slot_ok.ensures ∙ not_false _ c.before.before.before.if1.false) (sym c.before.before.sound.ensures ∙ not_false _ c.before.if2.false)
+    c.is_final_lem.ensures ∙ both_on (slot_ok a.s.0) (sound_words a.rec.now) false (λ _. is_final (ledger_of a.rec.now) a.s.0 a.b) (sym c.before.before.before.before.slot_ok.ensures ∙ not-false _ c.before.before.before.if1.false) (sym c.before.before.sound.ensures ∙ not-false _ c.before.if2.false)
 
 pub certified-spec : {M : Type 1} → statement M
 certified-spec =

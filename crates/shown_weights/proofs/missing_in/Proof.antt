@@ -1,7 +1,7 @@
 -- The record is sound, so its votes can be weighed.
 use mathlib.Core.Path.{◌∙◌, sym}
 use Prim.Native.Nat.{◌-◌}
-use borrow.Author.Tests.{not_true, not_false}
+use borrow.Author.Tests.{not-true, not-false}
 use borrow.Author.Rules.{rules}
 use Rattle.rulebook.specs.Pool.{missing_to}
 use Rattle.rulebook.specs.Weights.{slot_ok}
@@ -19,7 +19,7 @@ slot-ok-requires c κs = search rules
 returns : tie.Need-returns
 unfolding missing_shown
 returns c =
-    first_off (slot_ok c.before.before.before.args.s.0) (sound_words c.before.before.before.args.rec.now) 0 (λ _. missing_to (ledger_of c.before.before.before.args.rec.now) c.before.before.before.args.kind c.before.before.before.args.s.0 c.before.before.before.args.b) (sym c.before.slot_ok.ensures ∙ not_true _ c.if1.true)
+    first_off (slot_ok c.before.before.before.args.s.0) (sound_words c.before.before.before.args.rec.now) 0 (λ _. missing_to (ledger_of c.before.before.before.args.rec.now) c.before.before.before.args.kind c.before.before.before.args.s.0 c.before.before.before.args.b) (sym c.before.slot_ok.ensures ∙ not-true _ c.if1.true)
 
 sound-requires : tie.Need-sound-requires
 sound-requires c κs = search rules
@@ -27,16 +27,16 @@ sound-requires c κs = search rules
 returns-2 : tie.Need-returns-2
 unfolding missing_shown
 returns-2 c =
-    second_off (slot_ok c.before.before.before.before.before.args.s.0) (sound_words c.before.before.before.before.before.args.rec.now) 0 (λ _. missing_to (ledger_of c.before.before.before.before.before.args.rec.now) c.before.before.before.before.before.args.kind c.before.before.before.before.before.args.s.0 c.before.before.before.before.before.args.b) (sym c.before.sound.ensures ∙ not_true _ c.if2.true)
+    second_off (slot_ok c.before.before.before.before.before.args.s.0) (sound_words c.before.before.before.before.before.args.rec.now) 0 (λ _. missing_to (ledger_of c.before.before.before.before.before.args.rec.now) c.before.before.before.before.before.args.kind c.before.before.before.before.before.args.s.0 c.before.before.before.before.before.args.b) (sym c.before.sound.ensures ∙ not-true _ c.if2.true)
 
 missing-to-requires : tie.Need-missing-to-requires
 missing-to-requires c κs =
-    carded _ _ (sym c.before.sound.ensures ∙ not_false _ c.if2.false) (sym c.before.before.before.slot_ok.ensures ∙ not_false _ c.before.before.if1.false)
+    carded _ _ (sym c.before.sound.ensures ∙ not-false _ c.if2.false) (sym c.before.before.before.slot_ok.ensures ∙ not-false _ c.before.before.if1.false)
 
 returns-3 : tie.Need-returns-3
 unfolding missing_shown
 returns-3 c =
-    c.missing-to.ensures ∙ both_on (slot_ok c.before.before.before.before.before.before.args.s.0) (sound_words c.before.before.before.before.before.before.args.rec.now) 0 (λ _. missing_to (ledger_of c.before.before.before.before.before.before.args.rec.now) c.before.before.before.before.before.before.args.kind c.before.before.before.before.before.before.args.s.0 c.before.before.before.before.before.before.args.b) (sym c.before.before.before.before.slot_ok.ensures ∙ not_false _ c.before.before.before.if1.false) (sym c.before.before.sound.ensures ∙ not_false _ c.before.if2.false)
+    c.missing-to.ensures ∙ both_on (slot_ok c.before.before.before.before.before.before.args.s.0) (sound_words c.before.before.before.before.before.before.args.rec.now) 0 (λ _. missing_to (ledger_of c.before.before.before.before.before.before.args.rec.now) c.before.before.before.before.before.before.args.kind c.before.before.before.before.before.before.args.s.0 c.before.before.before.before.before.before.args.b) (sym c.before.before.before.before.slot_ok.ensures ∙ not-false _ c.before.before.before.if1.false) (sym c.before.before.sound.ensures ∙ not-false _ c.before.if2.false)
 
 pub missing-in-spec : {M : Type 1} → statement M
 missing-in-spec =

@@ -5,7 +5,7 @@ use Prim.Native.Nat.{suc, ◌-◌, ◌≤◌}
 use native.Mathlib.Numerals.{add-one}
 use native.Mathlib.Omega.{arith}
 use borrow.Author.Rules.{rules}
-use borrow.Author.Tests.{not_true, not_false}
+use borrow.Author.Tests.{not-true, not-false}
 use Rattle.rule_laws.proofs.ToolLaws.{all_none}
 use Rattle.rulebook.specs.Tools.{all_to}
 use Rattle.record.specs.Layout.{ledger_of}
@@ -37,7 +37,7 @@ returns : tie.Need-returns invariant-loop decreases-loop
 returns c =
     let l = ledger_of c.before.before.before.before.before.args.rec.now in
     let k = c.before.before.before.loop in
-    all_off k.i 16 (λ n. own_fits l (suc n)) (omega arith) (sym (c.before.own-fits.ensures ∙ ap (own_fits l) (add-one k.i)) ∙ not_true _ c.if1.true)
+    all_off k.i 16 (λ n. own_fits l (suc n)) (omega arith) (sym (c.before.own-fits.ensures ∙ ap (own_fits l) (add-one k.i)) ∙ not-true _ c.if1.true)
 
 add-i : tie.Need-overflow-add-i invariant-loop decreases-loop
 add-i c = search rules
@@ -49,7 +49,7 @@ loop-again : tie.Need-loop-preserved invariant-loop decreases-loop
 loop-again c =
     let l = ledger_of c.before.before.before.before.before.args.rec.now in
     let k = c.before.before.before.loop in
-    (omega arith, sym (not_false _ c.if1.false) ∙ all_step k.i (λ n. own_fits l (suc n)) true _ k.invariant.1 (c.before.own-fits.ensures ∙ ap (own_fits l) (add-one k.i)))
+    (omega arith, sym (not-false _ c.if1.false) ∙ all_step k.i (λ n. own_fits l (suc n)) true _ k.invariant.1 (c.before.own-fits.ensures ∙ ap (own_fits l) (add-one k.i)))
 
 returns-2 : tie.Need-returns-2 invariant-loop decreases-loop
 returns-2 c =

@@ -1,6 +1,6 @@
 -- The spelling, the head, the rows by themselves, and what own fallbacks lean on, in that order.
 use mathlib.Core.Path.{◌∙◌, sym}
-use borrow.Author.Tests.{not_true, not_false}
+use borrow.Author.Tests.{not-true, not-false}
 use borrow.Author.Rules.{rules}
 use Rattle.rulebook.specs.WellFormed.{row_blank}
 use Rattle.rule_laws.proofs.ToolLaws.{and_both}
@@ -15,37 +15,37 @@ is-long-requires c κs = search rules
 
 returns : tie.Need-returns
 returns c =
-    short_unsound c.before.before.before.args.rec.now (sym c.before.is-long.ensures ∙ not_true _ c.if1.true)
+    short_unsound c.before.before.before.args.rec.now (sym c.before.is-long.ensures ∙ not-true _ c.if1.true)
 
 head-fits-requires : tie.Need-head-fits-requires
 head-fits-requires c κs =
-    spelled_long _ (sym c.before.is-long.ensures ∙ not_false _ c.if1.false)
+    spelled_long _ (sym c.before.is-long.ensures ∙ not-false _ c.if1.false)
 
 returns-2 : tie.Need-returns-2
 returns-2 c =
-    head_unsound c.before.before.before.before.before.args.rec.now (sym c.before.before.before.is-long.ensures ∙ not_false _ c.before.before.if1.false) (sym c.before.head-fits.ensures ∙ not_true _ c.if2.true)
+    head_unsound c.before.before.before.before.before.args.rec.now (sym c.before.before.before.is-long.ensures ∙ not-false _ c.before.before.if1.false) (sym c.before.head-fits.ensures ∙ not-true _ c.if2.true)
 
 rows-fit-requires : tie.Need-rows-fit-requires
 rows-fit-requires c κs =
-    rows_headed _ (sym c.before.before.before.is-long.ensures ∙ not_false _ c.before.before.if1.false) (sym c.before.head-fits.ensures ∙ not_false _ c.if2.false)
+    rows_headed _ (sym c.before.before.before.is-long.ensures ∙ not-false _ c.before.before.if1.false) (sym c.before.head-fits.ensures ∙ not-false _ c.if2.false)
 
 returns-3 : tie.Need-returns-3
 returns-3 c =
-    rows_unsound c.before.before.before.before.before.before.before.args.rec.now (sym c.before.before.before.before.before.is-long.ensures ∙ not_false _ c.before.before.before.before.if1.false) (sym c.before.before.before.head-fits.ensures ∙ not_false _ c.before.before.if2.false)
-    (sym c.before.rows_fit.ensures ∙ not_true _ c.if3.true)
+    rows_unsound c.before.before.before.before.before.before.before.args.rec.now (sym c.before.before.before.before.before.is-long.ensures ∙ not-false _ c.before.before.before.before.if1.false) (sym c.before.before.before.head-fits.ensures ∙ not-false _ c.before.before.if2.false)
+    (sym c.before.rows_fit.ensures ∙ not-true _ c.if3.true)
 
 owns-fit-requires : tie.Need-owns-fit-requires
 owns-fit-requires c κs =
     let l = ledger_of c.before.before.before.before.before.before.before.args.rec.now in
     record {
-      headed = rows_headed _ (sym c.before.before.before.before.before.is-long.ensures ∙ not_false _ c.before.before.before.before.if1.false) (sym c.before.before.before.head-fits.ensures ∙ not_false _ c.before.before.if2.false);
-      rows = (and_both (row_blank l) (standing l) (sym c.before.rows_fit.ensures ∙ not_false _ c.if3.false)).1;
+      headed = rows_headed _ (sym c.before.before.before.before.before.is-long.ensures ∙ not-false _ c.before.before.before.before.if1.false) (sym c.before.before.before.head-fits.ensures ∙ not-false _ c.before.before.if2.false);
+      rows = (and_both (row_blank l) (standing l) (sym c.before.rows_fit.ensures ∙ not-false _ c.if3.false)).1;
     }
 
 returns-4 : tie.Need-returns-4
 returns-4 c =
-    owns_decide c.before.before.before.before.before.before.before.before.args.rec.now (sym c.before.before.before.before.before.before.is-long.ensures ∙ not_false _ c.before.before.before.before.before.if1.false) _ (sym c.before.before.before.before.head-fits.ensures ∙ not_false _ c.before.before.before.if2.false)
-    (sym c.before.before.rows_fit.ensures ∙ not_false _ c.before.if3.false) c.owns-fit.ensures
+    owns_decide c.before.before.before.before.before.before.before.before.args.rec.now (sym c.before.before.before.before.before.before.is-long.ensures ∙ not-false _ c.before.before.before.before.before.if1.false) _ (sym c.before.before.before.before.head-fits.ensures ∙ not-false _ c.before.before.before.if2.false)
+    (sym c.before.before.rows_fit.ensures ∙ not-false _ c.before.if3.false) c.owns-fit.ensures
 
 pub sound-spec : {M : Type 1} → statement M
 sound-spec =

@@ -1,6 +1,6 @@
 -- A window's first slot, no own initial vote, D's block.
 use mathlib.Core.Path.{sym, ◌∙◌}
-use borrow.Author.Tests.{not_false, not_true}
+use borrow.Author.Tests.{not-false, not-true}
 use borrow.Author.Rules.{rules}
 use Rattle.rule_laws.proofs.ToolLaws.{true_not_false}
 use Rattle.record.specs.Layout.{ledger_of}

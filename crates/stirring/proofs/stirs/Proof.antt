@@ -1,6 +1,6 @@
 -- No slot waits; too few name a block; kind 4.
 use mathlib.Core.Path.{sym, ◌∙◌}
-use borrow.Author.Tests.{not_true, not_false}
+use borrow.Author.Tests.{not-true, not-false}
 use borrow.Author.Rules.{rules}
 use Rattle.record.specs.Layout.{ledger_of}
 use Rattle.parents.proofs.FewLaws.{few_reached}
@@ -20,7 +20,7 @@ is-awaited-requires : tie.Need-is-awaited-requires
 is-awaited-requires c κs = search rules
 
 returns : tie.Need-returns
-returns c = (c.before.before.before.before.requires.2, λ _. unwaited (c.before.is-awaited.ensures (not_true _ c.if1.true)))
+returns c = (c.before.before.before.before.requires.2, λ _. unwaited (c.before.is-awaited.ensures (not-true _ c.if1.true)))
 
 names-block-requires : tie.Need-names-block-requires
 names-block-requires c κs = search rules
@@ -39,7 +39,7 @@ returns-2 c =
     let l = ledger_of c.before.before.before.before.before.before.before.before.before.before.before.before.args.rec.now in
     let s = c.before.before.before.before.before.before.before.before.before.before.before.before.args.s.0 in
     let counted = c.before.before.before.before.count-look.ensures in
-    (counted, λ e. unnamed (sym c.before.before.before.before.before.before.before.names-block.ensures ∙ c.before.before.before.before.before.before.if2.true) (λ x z. few_reached l s (short_names l s _ counted (sym c.is-short.ensures ∙ not_false _ e)) x z))
+    (counted, λ e. unnamed (sym c.before.before.before.before.before.before.before.names-block.ensures ∙ c.before.before.before.before.before.before.if2.true) (λ x z. few_reached l s (short_names l s _ counted (sym c.is-short.ensures ∙ not-false _ e)) x z))
 
 held-requires : tie.Need-held-requires
 held-requires c κs = search rules

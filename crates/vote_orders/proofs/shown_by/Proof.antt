@@ -6,7 +6,7 @@ use native.Mathlib.Omega.{arith}
 use lib.ListN.{get_or}
 use lib.Bits.{bit_and}
 use borrow.Author.Rules.{rules}
-use borrow.Author.Tests.{not_false}
+use borrow.Author.Tests.{not-false}
 use Rattle.rulebook.specs.declared.Who.TheVariants as who
 use Rattle.record.specs.Layout.{ledger_of}
 use Rattle.pool.proofs.HeldLaws.{weigh_light}
@@ -81,7 +81,7 @@ returns-4 c =
     let next = c.before.before.next_run_lem in
     let vote = c.before.before.before.before.before.before.before.before.before.before.before.notar-of in
     listed_led (ledger_of a.rec.now) a.s.0 a.b a.v.0 a.any.0 (node a.list.now) c.before.before.before.before.before.before.before.before.before.before.before.before.before.before.before.loop.invariant.2 _ vote.result stake.result.0 next.result.0 refl vote.ensures stake.ensures
-    (omega (arith, c.before.before.before.before.before.before.before.before.before.before.before.before.before.before.before.before.count.ensures, c.before.before.before.before.before.before.before.before.before.before.before.before.if1.false)) (sym c.before.before.before.before.before.before.before.before.before.before.comes-next.ensures ∙ not_false _ c.before.before.before.before.before.before.before.before.before.if2.false) c.before.before.before.before.before.if3.false next.ensures
+    (omega (arith, c.before.before.before.before.before.before.before.before.before.before.before.before.before.before.before.before.count.ensures, c.before.before.before.before.before.before.before.before.before.before.before.before.if1.false)) (sym c.before.before.before.before.before.before.before.before.before.before.comes-next.ensures ∙ not-false _ c.before.before.before.before.before.before.before.before.before.if2.false) c.before.before.before.before.before.if3.false next.ensures
     (sym c.before.leads.ensures ∙ c.if4.true)
 
 add-from : tie.Need-overflow-add-from invariant-loop decreases-loop
@@ -102,7 +102,7 @@ loop-again c =
       omega arith,
       c.before.before.before.before.before.before.before.before.before.before.before.before.before.before.before.loop.invariant.1,
       listed_more (ledger_of a.rec.now) a.s.0 a.b a.v.0 a.any.0 (node a.list.now) c.before.before.before.before.before.before.before.before.before.before.before.before.before.before.before.loop.invariant.2 _ vote.result stake.result.0 next.result.0 refl vote.ensures stake.ensures
-          (omega (arith, c.before.before.before.before.before.before.before.before.before.before.before.before.before.before.before.before.count.ensures, c.before.before.before.before.before.before.before.before.before.before.before.before.if1.false)) (sym c.before.before.before.before.before.before.before.before.before.before.comes-next.ensures ∙ not_false _ c.before.before.before.before.before.before.before.before.before.if2.false) c.before.before.before.before.before.if3.false next.ensures
+          (omega (arith, c.before.before.before.before.before.before.before.before.before.before.before.before.before.before.before.before.count.ensures, c.before.before.before.before.before.before.before.before.before.before.before.before.if1.false)) (sym c.before.before.before.before.before.before.before.before.before.before.comes-next.ensures ∙ not-false _ c.before.before.before.before.before.before.before.before.before.if2.false) c.before.before.before.before.before.if3.false next.ensures
           (sym c.before.leads.ensures ∙ c.if4.false),
     )
 

@@ -3,7 +3,7 @@ use mathlib.Core.Path.{◌≡◌, ◌∙◌, ap, sym}
 use mathlib.Core.Bool.{true}
 use mathlib.Core.List.{List}
 use Prim.Native.Nat.{ℕ}
-use borrow.Author.Tests.{not_true, not_false}
+use borrow.Author.Tests.{not-true, not-false}
 use borrow.Author.Rules.{rules}
 use Rattle.rulebook.specs.Ledger.{table_of}
 use Rattle.rulebook.specs.Checker.{check_proof}
@@ -16,7 +16,7 @@ use Rattle.vouched_packets.proofs.split_proof.Tie as tie
 
 -- What the tests passed leave known.
 is-sound : (c : tie.Else1) → sound_words c.before.before.before.before.args.rec.now ≡ true
-is-sound c = sym c.before.sound.ensures ∙ not_false _ c.if1.false
+is-sound c = sym c.before.sound.ensures ∙ not-false _ c.if1.false
 
 proven : (c : tie.After-check-proof) → c.check-proof.result ≡ check_proof (table_of (ledger_of c.before.before.before.before.before.before.args.rec.now)) c.before.before.before.before.before.before.args.packet.now
 proven c = c.check-proof.ensures ∙ ap (λ (ws : List ℕ). check_proof ws c.before.before.before.before.before.before.args.packet.now) c.before.stakes-of.ensures
@@ -26,7 +26,7 @@ sound-requires c κs = search rules
 
 returns : tie.Need-returns
 returns c =
-    let a = c.before.before.before.before.args in split_unsound a.rec.now a.packet.now (sym c.before.sound.ensures ∙ not_true _ c.if1.true)
+    let a = c.before.before.before.before.args in split_unsound a.rec.now a.packet.now (sym c.before.sound.ensures ∙ not-true _ c.if1.true)
 
 stakes-of-requires : tie.Need-stakes-of-requires
 stakes-of-requires c κs = sound_counted _ (is-sound c)

@@ -2,7 +2,7 @@
 use mathlib.Core.Path.{◌≡◌, ◌∙◌, ap, sym}
 use mathlib.Core.Bool.{true}
 use Prim.Native.Nat.{ℕ}
-use borrow.Author.Tests.{not_true, not_false}
+use borrow.Author.Tests.{not-true, not-false}
 use mathlib.Core.List.{List}
 use Rattle.rulebook.specs.Ledger.{table_of}
 use Rattle.record.specs.Layout.{ledger_of}
@@ -16,7 +16,7 @@ use Rattle.vouched_packets.proofs.vouched_packet.Tie as tie
 
 -- What the tests passed leave known.
 is-sound : (c : tie.Else1) → sound_words c.before.before.before.before.before.args.rec.now ≡ true
-is-sound c = sym c.before.sound.ensures ∙ not_false _ c.if1.false
+is-sound c = sym c.before.sound.ensures ∙ not-false _ c.if1.false
 
 checked : (c : tie.After-check-packet) → c.check-packet.result ≡ check_packet (table_of (ledger_of c.before.before.before.before.before.before.before.args.rec.now)) c.before.before.before.before.before.before.before.args.packet.now
 checked c = c.check-packet.ensures ∙ ap (λ (ws : List ℕ). check_packet ws c.before.before.before.before.before.before.before.args.packet.now) c.before.stakes-of.ensures
@@ -26,7 +26,7 @@ sound-requires c κs = search rules
 
 returns : tie.Need-returns
 returns c =
-    let a = c.before.before.before.before.before.args in bad_told a.rec.now a.packet.now a.list.now (sym c.before.sound.ensures ∙ not_true _ c.if1.true)
+    let a = c.before.before.before.before.before.args in bad_told a.rec.now a.packet.now a.list.now (sym c.before.sound.ensures ∙ not-true _ c.if1.true)
 
 stakes-of-requires : tie.Need-stakes-of-requires
 stakes-of-requires c κs =

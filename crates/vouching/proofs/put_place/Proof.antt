@@ -2,7 +2,7 @@
 use mathlib.Core.Path.{◌∙◌, refl, ap, sym}
 use Prim.Native.Nat.{ℕ}
 use borrow.Author.Rules.{rules}
-use borrow.Author.Tests.{not_true, not_false}
+use borrow.Author.Tests.{not-true, not-false}
 use Rattle.rulebook.specs.Packets.{bit}
 use Rattle.record.specs.Layout.{ledger_of}
 use Rattle.kept_certificates.specs.Kept.{place_at}
@@ -16,7 +16,7 @@ is-kept-requires c κs = search rules
 returns : tie.Need-returns
 returns c =
     let a = c.before.before.before.before.args in
-    place_none a.s.0 a.m.0 a.d a.n (place_at (ledger_of a.rec.now) a.s.0 a.n) (sym c.before.is-kept.ensures ∙ not_true c.before.is-kept.result c.if1.true)
+    place_none a.s.0 a.m.0 a.d a.n (place_at (ledger_of a.rec.now) a.s.0 a.n) (sym c.before.is-kept.ensures ∙ not-true c.before.is-kept.result c.if1.true)
 
 place-kind-requires : tie.Need-place-kind-requires
 place-kind-requires c κs = search rules
@@ -59,7 +59,7 @@ returns-2 c =
     let k = kept o in
     let a = k.before.before.before.before.args in
     place_put a.s.0 a.m.0 a.d a.n (place_at (ledger_of a.rec.now) a.s.0 a.n) _
-    (sym k.before.is-kept.ensures ∙ not_false k.before.is-kept.result k.if1.left) o.before.before.place-kind.ensures refl refl o.before.block_at.ensures
+    (sym k.before.is-kept.ensures ∙ not-false k.before.is-kept.result k.if1.left) o.before.before.place-kind.ensures refl refl o.before.block_at.ensures
     (t.before.names.ensures ∙ ap (λ (x : ℕ). bit x a.m.0) o.mask-a.ensures.spells)
     (c.before.before.before.before.names2.ensures ∙ ap (λ (x : ℕ). bit x a.m.0) t.mask-b.ensures.spells) c.before.before.put-signer.ensures
 

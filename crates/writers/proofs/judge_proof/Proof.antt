@@ -1,7 +1,7 @@
 -- The refusals in their order, each by the tests before it.
 use mathlib.Core.Path.{sym, ap, ◌∙◌}
 use native.Mathlib.Omega.{arith}
-use borrow.Author.Tests.{not_true, not_false}
+use borrow.Author.Tests.{not-true, not-false}
 use Rattle.rulebook.specs.Writers.{proof_room}
 use Rattle.record.specs.Layout.{ledger_of}
 use Rattle.soundness.proofs.Laws.{sound_long}
@@ -28,27 +28,27 @@ slot-ok-requires c κs = search rules
 returns-2 : tie.Need-returns-2
 returns-2 c =
     let a = c.before.before.before.before.before.before in
-    proof_slot (ledger_of a.args.rec.now) a.args.room a.args.s.0 a.args.b _ (c.before.before.before.proof_room_lem.ensures ∙ ap proof_room c.before.before.before.before.count.ensures) (omega (arith, c.before.before.if1.false)) (sym c.before.slot_ok.ensures ∙ not_true _ c.if2.true)
+    proof_slot (ledger_of a.args.rec.now) a.args.room a.args.s.0 a.args.b _ (c.before.before.before.proof_room_lem.ensures ∙ ap proof_room c.before.before.before.before.count.ensures) (omega (arith, c.before.before.if1.false)) (sym c.before.slot_ok.ensures ∙ not-true _ c.if2.true)
 
 returns-3 : tie.Need-returns-3
 returns-3 c =
     let a = c.before.before.before.before.before.before.before in
-    proof_block (ledger_of a.args.rec.now) a.args.room a.args.s.0 a.args.b _ (c.before.before.before.before.proof_room_lem.ensures ∙ ap proof_room c.before.before.before.before.before.count.ensures) (omega (arith, c.before.before.before.if1.false)) (sym c.before.before.slot_ok.ensures ∙ not_false _ c.before.if2.false) c.if3.true
+    proof_block (ledger_of a.args.rec.now) a.args.room a.args.s.0 a.args.b _ (c.before.before.before.before.proof_room_lem.ensures ∙ ap proof_room c.before.before.before.before.before.count.ensures) (omega (arith, c.before.before.before.if1.false)) (sym c.before.before.slot_ok.ensures ∙ not-false _ c.before.if2.false) c.if3.true
 
 is-final-requires : tie.Need-is-final-requires
 is-final-requires c κs =
     let a = c.before.before.before.before.before.before.before in
-    carded a.args.rec.now a.args.s.0 a.requires (sym c.before.before.slot_ok.ensures ∙ not_false _ c.before.if2.false)
+    carded a.args.rec.now a.args.s.0 a.requires (sym c.before.before.slot_ok.ensures ∙ not-false _ c.before.if2.false)
 
 returns-4 : tie.Need-returns-4
 returns-4 c =
     let a = c.before.before.before.before.before.before.before.before.before in
-    proof_final (ledger_of a.args.rec.now) a.args.room a.args.s.0 a.args.b _ (c.before.before.before.before.before.before.proof_room_lem.ensures ∙ ap proof_room c.before.before.before.before.before.before.before.count.ensures) (omega (arith, c.before.before.before.before.before.if1.false)) (sym c.before.before.before.before.slot_ok.ensures ∙ not_false _ c.before.before.before.if2.false) c.before.before.if3.false (sym c.before.is_final_lem.ensures ∙ not_true _ c.if4.true)
+    proof_final (ledger_of a.args.rec.now) a.args.room a.args.s.0 a.args.b _ (c.before.before.before.before.before.before.proof_room_lem.ensures ∙ ap proof_room c.before.before.before.before.before.before.before.count.ensures) (omega (arith, c.before.before.before.before.before.if1.false)) (sym c.before.before.before.before.slot_ok.ensures ∙ not-false _ c.before.before.before.if2.false) c.before.before.if3.false (sym c.before.is_final_lem.ensures ∙ not-true _ c.if4.true)
 
 returns-5 : tie.Need-returns-5
 returns-5 c =
     let a = c.before.before.before.before.before.before.before.before.before in
-    proof_passed (ledger_of a.args.rec.now) a.args.room a.args.s.0 a.args.b _ (c.before.before.before.before.before.before.proof_room_lem.ensures ∙ ap proof_room c.before.before.before.before.before.before.before.count.ensures) (omega (arith, c.before.before.before.before.before.if1.false)) (sym c.before.before.before.before.slot_ok.ensures ∙ not_false _ c.before.before.before.if2.false) c.before.before.if3.false (sym c.before.is_final_lem.ensures ∙ not_false _ c.if4.false)
+    proof_passed (ledger_of a.args.rec.now) a.args.room a.args.s.0 a.args.b _ (c.before.before.before.before.before.before.proof_room_lem.ensures ∙ ap proof_room c.before.before.before.before.before.before.before.count.ensures) (omega (arith, c.before.before.before.before.before.if1.false)) (sym c.before.before.before.before.slot_ok.ensures ∙ not-false _ c.before.before.before.if2.false) c.before.before.if3.false (sym c.before.is_final_lem.ensures ∙ not-false _ c.if4.false)
 
 pub judge-proof-spec : {M : Type 1} → statement M
 judge-proof-spec =

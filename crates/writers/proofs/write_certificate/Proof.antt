@@ -1,7 +1,7 @@
 -- 17, the refusals of the written rules, or the certificate's bytes.
 use mathlib.Core.Path.{sym, ◌∙◌}
 use lib.ListN.{length}
-use borrow.Author.Tests.{not_true, not_false}
+use borrow.Author.Tests.{not-true, not-false}
 use borrow.Author.Rules.{rules}
 use Rattle.rulebook.specs.declared.Verdict.TheVariants.{Fine}
 use Rattle.record.specs.Layout.{ledger_of}
@@ -19,16 +19,16 @@ returns : tie.Need-returns
 returns c =
     let s = c.before.before.before.before.args in
     writes_unsound _ s.buffer.now
-    (certificate_unsound s.rec.now (length s.buffer.now) s.kind s.slot.0 s.block (sym c.before.sound.ensures ∙ not_true _ c.if1.true))
+    (certificate_unsound s.rec.now (length s.buffer.now) s.kind s.slot.0 s.block (sym c.before.sound.ensures ∙ not-true _ c.if1.true))
 
 count-requires : tie.Need-count-requires
-count-requires c κs = sound_long _ (sym c.before.sound.ensures ∙ not_false _ c.if1.false)
+count-requires c κs = sound_long _ (sym c.before.sound.ensures ∙ not-false _ c.if1.false)
 
 kind-in-requires : tie.Need-kind-in-requires
 kind-in-requires c κs = search rules
 
 judge-certificate-requires : tie.Need-judge-certificate-requires
-judge-certificate-requires c κs = sym c.before.before.before.sound.ensures ∙ not_false _ c.before.before.if1.false
+judge-certificate-requires c κs = sym c.before.before.before.sound.ensures ∙ not-false _ c.before.before.if1.false
 
 enum-known-v : tie.Need-enum-known-v
 enum-known-v c = search rules
@@ -41,7 +41,7 @@ lay-certificate-requires c κs =
     let s = c.before.before.before.before.before.before.before.before.before.before.args in
     let f = certificate_fine (ledger_of s.rec.now) (length s.buffer.now) _ s.slot.0 s.block (sym c.before.before.before.judge-certificate.ensures ∙ c.before.enum_told.given.1) in (
       record {
-        sound = sym c.before.before.before.before.before.before.before.sound.ensures ∙ not_false _ c.before.before.before.before.before.before.if1.false;
+        sound = sym c.before.before.before.before.before.before.before.sound.ensures ∙ not-false _ c.before.before.before.before.before.before.if1.false;
         kind = f.kind;
         slot = f.slot;
         room = room_front (ledger_of s.rec.now) _ s.slot.0 s.block s.buffer.now (slot_row _ f.slot) f.room;
@@ -53,7 +53,7 @@ returns-2 : tie.Need-returns-2
 returns-2 c =
     let s = c.before.before.before.before.before.before.before.before.before.before.args in
     writes_refused _ _ s.buffer.now _
-    (certificate_judged s.rec.now (length s.buffer.now) s.kind s.slot.0 s.block _ (kind_asked s.rec.now s.kind c.before.before.before.before.kind-in.ensures c.before.before.before.before.before.count.ensures) _ (sym c.before.before.before.before.before.before.before.sound.ensures ∙ not_false _ c.before.before.before.before.before.before.if1.false)
+    (certificate_judged s.rec.now (length s.buffer.now) s.kind s.slot.0 s.block _ (kind_asked s.rec.now s.kind c.before.before.before.before.kind-in.ensures c.before.before.before.before.before.count.ensures) _ (sym c.before.before.before.before.before.before.before.sound.ensures ∙ not-false _ c.before.before.before.before.before.before.if1.false)
     (sym c.before.v.given.1 ∙ c.before.before.before.judge-certificate.ensures))
 
 same_length : tie.Need-same-length
@@ -63,7 +63,7 @@ returns-3 : tie.Need-returns-3
 returns-3 c =
     let s = c.before.before.before.before.before.before.before.before.before.before.before.before.before.args in
     writes_laid _ _
-    (certificate_judged s.rec.now (length s.buffer.now) s.kind s.slot.0 s.block _ (kind_asked s.rec.now s.kind c.before.before.before.before.before.before.before.kind-in.ensures c.before.before.before.before.before.before.before.before.count.ensures) Fine (sym c.before.before.before.before.before.before.before.before.before.before.sound.ensures ∙ not_false _ c.before.before.before.before.before.before.before.before.before.if1.false)
+    (certificate_judged s.rec.now (length s.buffer.now) s.kind s.slot.0 s.block _ (kind_asked s.rec.now s.kind c.before.before.before.before.before.before.before.kind-in.ensures c.before.before.before.before.before.before.before.before.count.ensures) Fine (sym c.before.before.before.before.before.before.before.before.before.before.sound.ensures ∙ not-false _ c.before.before.before.before.before.before.before.before.before.if1.false)
     (sym c.before.before.before.before.enum_told.given.1 ∙ c.before.before.before.before.before.before.judge-certificate.ensures))
     c.before.before.lay-certificate.ensures
 
