@@ -1,5 +1,6 @@
 // Whether a host may announce a block now, by the policy for blocks: 17, then what the block itself would be refused with, then a slot's
 // first block as it comes and a further one with rule D's weights.
+#![tactic(auto)]
 ghost use Rattle.std.specs.Prelude.{◌≡◌, ◌||◌};
 ghost use Rattle.rulebook.specs.Ledger.{blocks_at, all_blocks, is_free};
 ghost use Rattle.rulebook.specs.Rules.{fallback_weights};
@@ -14,7 +15,7 @@ use soundness::sound;
 use verdicts::block_verdict;
 
 // Whether the block may be announced now, or what it would be refused with.
-#[derive(Drop)]
+#[derive(Clone, Copy)]
 pub enum AnnounceAnswer {
     Now(bool),
     Refused(Refusal),

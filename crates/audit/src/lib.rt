@@ -1,5 +1,6 @@
 // The 17 test of a slot's votes: every cell in range, and the tally card what a recount gives. One pass over the cells tests them
 // and sums all that the card is held to. Only where no block has more than all the others together are others looked at.
+#![tactic(auto)]
 ghost use Rattle.std.specs.Prelude.{◌≡◌, true, ◌&&◌, ◌+◌, ◌≤◌, ◌^◌, eqb};
 ghost use Rattle.rulebook.specs.Tools.{part};
 ghost use Rattle.rulebook.specs.Weights.{stake_in};
@@ -16,7 +17,7 @@ use rulebook::{Cell, Node, Slot, Tally, Weight};
 
 // What one pass over cells finds: whether all fit, and the stake of skip, of final, of a skip certificate, of any notar vote and
 // of the notar votes for the block that the card names.
-#[derive(Drop)]
+#[derive(Clone, Copy)]
 pub struct Sums {
     pub fits: bool,
     pub skip: Weight,

@@ -1,4 +1,5 @@
 // A slot's tally card, asked of a record.
+#![tactic(auto)]
 ghost use Rattle.std.specs.Prelude.{◌≡◌};
 ghost use Rattle.cards.specs.Asked.{card_on};
 
@@ -8,7 +9,7 @@ use rulebook::{Refusal, Slot, Tally};
 use soundness::sound;
 
 // The card, or why there is none.
-#[derive(Drop)]
+#[derive(Clone, Copy)]
 pub enum CardAnswer {
     Card(Tally),
     Refused(Refusal),

@@ -1,4 +1,5 @@
 // One certificate of a packet, read and judged on lent stakes and their table.
+#![tactic(auto)]
 ghost use Rattle.std.specs.Prelude.{◌≡◌};
 ghost use Rattle.rulebook.specs.declared.Heading.{Heading};
 ghost use Rattle.rulebook.specs.Packets.{certificate_of};
@@ -14,7 +15,7 @@ use rulebook::{Accepted, CertificateKind, Found, Heading, Refusal, Slot, Verdict
 use stakes::LentTable;
 
 // One certificate of a packet: what is told of it with the place after it, or its refusal.
-#[derive(Drop)]
+#[derive(Clone, Copy)]
 pub enum Checked {
     Good(Accepted, usize),
     Bad(Refusal),

@@ -219,13 +219,13 @@ module _ (ws : List ℕ) (k : ℕ) (honest : Test) (cast : ℕ → ℕ → Ballo
       ancestors_chained p x q y u z d (subst (λ (i : ℕ). Desc q y u i) o.1 (subst (λ (i : ℕ). Desc q y i w) o.0 e))
 
   -- On one chain no slot has two blocks.
-  in_slot_lem : (s b c : ℕ) → Desc s b s c → b ≡ c
-  in_slot_lem s b c itself = refl
-  in_slot_lem s b c (child {q = q} {y = y} l d) = absurd (omega (arith, link_lower s c q y l, descends_le s b q y d))
+  in_slot_lem : (s b t c : ℕ) → s ≡ t → Desc s b t c → b ≡ c
+  in_slot_lem s b t c e itself = refl
+  in_slot_lem s b t c e (child {q = q} {y = y} l d) = absurd (omega (arith, link_lower t c q y l, descends_le s b q y d))
 
   pub one_block : (s b c : ℕ) → Chained honest kept s b s c → b ≡ c
-  one_block s b c (below d) = in_slot_lem s b c d
-  one_block s b c (above d) = sym (in_slot_lem s c b d)
+  one_block s b c (below d) = in_slot_lem s b s c refl d
+  one_block s b c (above d) = sym (in_slot_lem s c s b refl d)
 
   -- ---- blocks that have come to be final: by certificates, or as an ancestor of such a block
 

@@ -1,5 +1,6 @@
 // The commands by which nodes are compared: a node set aside, its stored votes beside the present one's, own votes that do not stand, votes
 // that the node lacks, blocks with two parents, certificates that it keeps, and a record saved.
+#![tactic(auto)]
 ghost use Rattle.std.specs.Prelude.{◌≡◌, ◌+◌, ◌*◌, ◌%◌, ◌≤◌, eqb, length};
 ghost use Rattle.rulebook.specs.Tools.{choose};
 ghost use Rattle.lines.specs.Put.{Put};

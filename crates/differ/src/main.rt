@@ -1,4 +1,5 @@
 // For people: which stored votes of two saved records differ, in columns, and how many they are.
+#![tactic(auto)]
 use answers::{differ_number, differ_value};
 use differences::differ;
 use door::{end_line, send_to, tell_line};
@@ -37,7 +38,7 @@ const SIDE_COLUMN: usize = 50;
 const NAME_ROOM: usize = 28;
 
 // What a file holds: so many words, and whether that is all of it.
-#[derive(Drop)]
+#[derive(Clone, Copy)]
 struct Loaded {
     words: usize,
     whole: bool,

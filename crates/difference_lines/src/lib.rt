@@ -2,7 +2,8 @@
 // Definition and facts only; there is no function here.
 
 // Which of two records has a vote.
-#[derive(Drop)]
+#![tactic(auto)]
+#[derive(Clone, Copy)]
 pub enum Side {
     First,
     Second,

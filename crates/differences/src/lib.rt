@@ -1,4 +1,5 @@
 // Which votes of two records differ: every stored vote that one of them has and the other has not, as lines in a lent list.
+#![tactic(auto)]
 ghost use Rattle.std.specs.Prelude.{◌≡◌, [], ◌∷◌, ◌+◌, ◌≤◌, set, ltb};
 ghost use Rattle.rulebook.specs.Tools.{lower, lowest};
 ghost use Rattle.record.specs.Layout.{ledger_of};
@@ -20,7 +21,7 @@ const LINE_WORDS: usize = 5;
 const MOST_NAMED: usize = 6;
 
 // The number of lines in the list, the side whose record is bad, or the number of lines needed.
-#[derive(Drop)]
+#[derive(Clone, Copy)]
 pub enum DifferAnswer {
     Listed(usize),
     BadRecord(Side),

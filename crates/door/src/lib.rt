@@ -1,5 +1,6 @@
 // Where a line leaves the program: whole and in one go, or not at all and said so. No contract can say what is written; these say
 // when nothing is.
+#![tactic(auto)]
 ghost use Rattle.std.specs.Prelude.{length};
 ghost use Rattle.door.specs.Sent.{NextLine, Whole};
 

@@ -1,11 +1,12 @@
 // A word of hex digits as the bytes of a packet.
+#![tactic(auto)]
 ghost use Rattle.std.specs.Prelude.{◌≡◌, ◌+◌, ◌*◌, ◌≤◌, ◌<◌, length};
 ghost use Rattle.hex_bytes.specs.Bytes.{hex_digit, hex_pair, is_dash, pairs_good, spells_bytes, Pairs, put_pairs, HexIn};
 
 use script::{is_digit, wide};
 
 // What a word says as hex digits: how many bytes it spells, and whether it is well formed (0 bytes where not).
-#[derive(Drop)]
+#[derive(Clone, Copy)]
 pub struct Hex {
     pub good: bool,
     pub size: usize,

@@ -1,4 +1,5 @@
 // Lines of the inquest in a lent list, five words a line.
+#![tactic(auto)]
 ghost use Rattle.std.specs.Prelude.{[], ◌∷◌, ◌+◌, ◌≤◌};
 ghost use Rattle.inquest.specs.Lists.{unless};
 ghost use Rattle.inquest_lines.specs.Lent.{Laid, most_lines};
@@ -13,7 +14,7 @@ use rulebook::Refusal;
 const LINE_WORDS: usize = 5;
 
 // The number of lines in the list, the side whose record is bad, another refusal, or the number of lines needed.
-#[derive(Drop)]
+#[derive(Clone, Copy)]
 pub enum ListAnswer {
     Listed(usize),
     BadRecord(Side),

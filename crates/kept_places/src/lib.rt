@@ -1,5 +1,6 @@
 // A slot's places for certificates from other firms by their kinds: looked through for room, for a repeat, for one that serves,
 // and a certificate kept.
+#![tactic(auto)]
 ghost use Rattle.std.specs.Prelude.{◌≡◌};
 ghost use Rattle.rulebook.specs.Packets.{joined};
 ghost use Rattle.rulebook.specs.Ledger.{certificates_at, put_certificates};
@@ -14,7 +15,7 @@ use record::MOST_CERTIFICATES;
 use rulebook::{CertificateKind, Slot};
 
 // What is looked for: room for a kind; a kind and block kept already; a kept certificate that serves as a kind for a block.
-#[derive(Drop)]
+#[derive(Clone, Copy)]
 pub enum Sought {
     Room(CertificateKind),
     Same(CertificateKind, u64),

@@ -1,4 +1,5 @@
 // Writing to standard output: text, numbers, and bytes in hex digits. No contract can say what is written.
+#![tactic(auto)]
 const OUT: i32 = 1;
 
 // Text as it stands.

@@ -1,4 +1,5 @@
 // The panel: answers a script, one command a line, read from standard input or from the file that the first argument names.
+#![tactic(auto)]
 mod acts;
 
 ghost use Rattle.std.specs.Prelude.{◌<◌};

@@ -1,5 +1,6 @@
 // The face: every public operation with numbers and lent memory alone, for a host in C. Each answers its number on the
 // panel and puts the values beside it into lent places; the definitions of the paper's numbers say which.
+#![tactic(auto)]
 ghost use Rattle.std.specs.Prelude.{◌≡◌, length};
 ghost use Rattle.rulebook.specs.Weights.{places_for};
 ghost use Rattle.rulebook.specs.Checker.{check_certificate, check_proof};

@@ -1,5 +1,6 @@
 // What a host asks of a record: a slot's final block, whether its window is armed, a node's stored votes in it, its kept blocks, its
 // marks, and what its votes weigh for a block; and whose record it is.
+#![tactic(auto)]
 ghost use Rattle.std.specs.Prelude.{◌≡◌, min, max};
 ghost use Rattle.readers.specs.Asked.{final_on, armed_on, votes_on, blocks_kept, blocks_on, marks_kept, marks_on, head_kept, head_on};
 ghost use Rattle.readers.specs.Weighed.{missing_d, Light, weights_kept, weights_on};
@@ -17,28 +18,28 @@ use soundness::sound;
 use thresholds::Threshold;
 
 // The final block, 0 where the slot has none, or why there is no answer.
-#[derive(Drop)]
+#[derive(Clone, Copy)]
 pub enum FinalAnswer {
     Block(u64),
     Refused(Refusal),
 }
 
 // Whether the window is armed, or why there is no answer.
-#[derive(Drop)]
+#[derive(Clone, Copy)]
 pub enum ArmedAnswer {
     Armed(bool),
     Refused(Refusal),
 }
 
 // What is kept of the node in the slot, or why there is no answer.
-#[derive(Drop)]
+#[derive(Clone, Copy)]
 pub enum VotesAnswer {
     Votes(Cell),
     Refused(Refusal),
 }
 
 // What stands in a slot's four places for blocks, in the order in which they were announced.
-#[derive(Drop)]
+#[derive(Clone, Copy)]
 pub struct KeptBlocks {
     pub first: Block,
     pub second: Block,
@@ -47,28 +48,28 @@ pub struct KeptBlocks {
 }
 
 // The slot's kept blocks, or why there is no answer.
-#[derive(Drop)]
+#[derive(Clone, Copy)]
 pub enum BlocksAnswer {
     Blocks(KeptBlocks),
     Refused(Refusal),
 }
 
 // A slot's two marks: its timeout was taken, another final block was reported; 1 or 0 each.
-#[derive(Drop)]
+#[derive(Clone, Copy)]
 pub struct SlotMarks {
     pub timedout: u64,
     pub clash: u64,
 }
 
 // The slot's marks, or why there is no answer.
-#[derive(Drop)]
+#[derive(Clone, Copy)]
 pub enum MarksAnswer {
     Marks(SlotMarks),
     Refused(Refusal),
 }
 
 // Whose record it is, and of which ring: the own number, how many nodes, all their stake, the number of genesis.
-#[derive(Drop)]
+#[derive(Clone, Copy)]
 pub struct RecordHead {
     pub own: Node,
     pub nodes: usize,
@@ -77,7 +78,7 @@ pub struct RecordHead {
 }
 
 // The record's head, or why there is no answer.
-#[derive(Drop)]
+#[derive(Clone, Copy)]
 pub enum HeadAnswer {
     Head(RecordHead),
     Refused(Refusal),
@@ -85,7 +86,7 @@ pub enum HeadAnswer {
 
 // What a slot's stored votes weigh for a block: its notar votes, those who count in its notar-fallback certificate, the slot's skip votes;
 // and what is missing to rule D's weights.
-#[derive(Drop)]
+#[derive(Clone, Copy)]
 pub struct BlockWeights {
     pub notar: Weight,
     pub fallback: Weight,
@@ -94,7 +95,7 @@ pub struct BlockWeights {
 }
 
 // The weights of a block, or why there is no answer.
-#[derive(Drop)]
+#[derive(Clone, Copy)]
 pub enum WeightsAnswer {
     Weights(BlockWeights),
     Refused(Refusal),

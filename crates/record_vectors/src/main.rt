@@ -1,6 +1,7 @@
 // Feeds spoiled records to step and to the writers. A line of the input that begins with + puts words into the record that is to
 // be spoiled, PLACE VALUE by PLACE VALUE; a line of numbers puts such words into a copy of it, which is then asked for a look, a
 // certificate and a proof: their numbers are told, and whether record, outbox and buffers are as found. Any other line is a title.
+#![tactic(auto)]
 use kinds::refusal_number;
 use node::step;
 use page::{end_line, say, tell};

@@ -1,5 +1,6 @@
 // The panel's answers: each line is built whole in the page and leaves by the door, and the contract says what stood there. Each
 // answers whether it was written.
+#![tactic(auto)]
 ghost use Rattle.std.specs.Prelude.{◌≡◌, [], ◌∷◌};
 ghost use Rattle.std.proofs.lemmas.List.Edits.{sets};
 ghost use Rattle.lines.specs.Answers.{number_line, step_line, tray_line, packet_line, message_line, check_line};
@@ -9,7 +10,7 @@ use lines::{check_line, message_line, number_line, packet_line, put_text, step_l
 use rulebook::Weight;
 
 // What a line of the script leads to: the next one, the script's end, or that no further line is answered.
-#[derive(Drop)]
+#[derive(Clone, Copy)]
 pub enum Turn {
     On,
     End,

@@ -1,4 +1,5 @@
 // Blocks that two records keep with two parents, as lines in a lent list, two for each such block.
+#![tactic(auto)]
 ghost use Rattle.std.specs.Prelude.{◌≡◌, [], ◌∷◌, ◌+◌, ◌≤◌, length};
 ghost use Rattle.rulebook.specs.Ledger.{blocks_at};
 ghost use Rattle.record.specs.Layout.{ledger_of};
@@ -18,7 +19,7 @@ use soundness::sound;
 const LINE_WORDS: usize = 5;
 
 // A block that one of two records keeps in a slot, with its parent.
-#[derive(Drop)]
+#[derive(Clone, Copy)]
 pub struct ParentLine {
     pub slot: Slot,
     pub block: Block,

@@ -1,4 +1,5 @@
 // The words of a script's line: where they stand, and what they say as a decimal number.
+#![tactic(auto)]
 ghost use Rattle.std.specs.Prelude.{◌≡◌, ◌+◌, ◌*◌, ◌≤◌, ◌<◌, length};
 ghost use Rattle.script.specs.Words.{is_space, is_ink, Spanned, WordIn};
 ghost use Rattle.script.specs.Numbers.{NumbersIn};
@@ -7,21 +8,21 @@ ghost use Rattle.script.specs.Digits.{is_digit, fits64, decimal_of};
 use slices::{least, put_word};
 
 // What a word says as a decimal number.
-#[derive(Drop)]
+#[derive(Clone, Copy)]
 pub enum Decimal {
     Value(u64),
     Bad,
 }
 
 // What the rest of a line says as numbers: how many there are, and whether every word is one.
-#[derive(Drop)]
+#[derive(Clone, Copy)]
 pub struct Numbers {
     pub good: bool,
     pub count: usize,
 }
 
 // Where a word stands in its line; nothing where there is no further word.
-#[derive(Drop)]
+#[derive(Clone, Copy)]
 pub struct Word {
     pub from: usize,
     pub to: usize,

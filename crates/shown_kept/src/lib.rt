@@ -1,5 +1,6 @@
 // The certificates from other firms that a slot keeps, as people are shown them: kind, block, signers and their weight. Any words, any
 // slot and any place are taken; only a sound record keeps certificates.
+#![tactic(auto)]
 ghost use Rattle.std.specs.Prelude.{◌≡◌};
 ghost use Rattle.shown_kept.specs.Kept.{kept_shown};
 

@@ -1,5 +1,6 @@
 // The votes that are stored in a slot: how many, whose, and the next node that has some. The public functions take any words and
 // any slot; only a sound record has weights.
+#![tactic(auto)]
 ghost use Rattle.std.specs.Prelude.{◌≡◌};
 ghost use Rattle.rulebook.specs.Tools.{part};
 ghost use Rattle.record.specs.Layout.{ledger_of};
@@ -13,7 +14,7 @@ use shown::{cell_of, is_blank, nodes_of, one_if};
 use soundness::sound;
 
 // What is stored in a slot: so many votes, by so many nodes of such a weight.
-#[derive(Drop)]
+#[derive(Clone, Copy)]
 pub struct Stored {
     pub votes: u64,
     pub nodes: u64,

@@ -1,4 +1,5 @@
 // Lines of votes that a firm's own cell lacks: those that another record stores in its name, and those that a certificate counts it for.
+#![tactic(auto)]
 ghost use Rattle.std.specs.Prelude.{◌≡◌, not, ◌+◌, ◌≤◌, get_or};
 ghost use Rattle.rulebook.specs.Packets.{bit, joined};
 ghost use Rattle.rulebook.specs.Checker.{without_b};
@@ -15,7 +16,7 @@ use kinds::number_in;
 use rulebook::{Cell, CertificateKind, Node, Slot, VoteKind};
 
 // What a certificate says of a firm: the certificate's kind, slot and block, the firm, and which masks name it.
-#[derive(Drop)]
+#[derive(Clone, Copy)]
 pub struct Signer {
     pub kind: CertificateKind,
     pub slot: Slot,

@@ -1,4 +1,5 @@
 // What is done with lent words in several places: the lesser of two counts, a word put where it has a place, and words copied.
+#![tactic(auto)]
 ghost use Rattle.std.specs.Prelude.{◌≡◌, ◌≤◌, min, set};
 ghost use Rattle.std.proofs.lemmas.List.Edits.{sets};
 

@@ -1,4 +1,5 @@
 // The 17 test.
+#![tactic(auto)]
 ghost use Rattle.std.specs.Prelude.{◌≡◌, ◌&&◌, suc, get_or, eqb};
 ghost use Rattle.rulebook.specs.Tools.{all_to};
 ghost use Rattle.rulebook.specs.Weights.{last_slot, windows, stakes_fit, total_to};

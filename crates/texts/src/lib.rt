@@ -1,4 +1,5 @@
 // The text of each number that an operation answers, for people, put into lent bytes: what is wrong, and what to do next.
+#![tactic(auto)]
 ghost use Rattle.std.specs.Prelude.{◌≡◌, length};
 ghost use Rattle.rulebook.specs.Writers.{Writes};
 ghost use Rattle.lines.specs.Put.{Put};

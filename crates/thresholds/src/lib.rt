@@ -1,11 +1,12 @@
 // Thresholds of stake, and how much is missing to one.
+#![tactic(auto)]
 ghost use Rattle.std.specs.Prelude.{◌≡◌};
 ghost use Rattle.rulebook.specs.Weights.{missing, Weighable};
 
 use rulebook::Weight;
 
 // A number of fifths of the total stake: one of the four below, and no other can be made outside.
-#[derive(Drop)]
+#[derive(Clone, Copy)]
 pub struct Threshold(u64);
 
 impl Threshold {

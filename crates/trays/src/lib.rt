@@ -1,5 +1,6 @@
 // A tray: a run of votes taken in one call, each as if it came alone; 17 and 9 are tested once. Who names blocks in the slots before windows is
 // counted once, and kept in mind from vote to vote.
+#![tactic(auto)]
 ghost use Rattle.std.specs.Prelude.{◌≡◌, ◌+◌, ◌*◌, ◌<◌, length, get_or};
 ghost use Rattle.rulebook.specs.Rules.{state_of};
 ghost use Rattle.rulebook.specs.Run.{run};
@@ -24,7 +25,7 @@ use verdicts::vote_verdict;
 const OUTBOX_WORDS: usize = 480;
 
 // What one vote of a tray leaves: how many records stand in the outbox then, and the vote's number.
-#[derive(Drop)]
+#[derive(Clone, Copy)]
 pub struct Taken {
     pub made: usize,
     pub number: u64,

@@ -1,6 +1,7 @@
 // The list of stored votes, as people read it. Every function takes any words. Lines are built in a lent page and leave by the door one
 // by one; a function takes the place that was reached in the page and answers the next, which is the page's end once a line was not
 // written.
+#![tactic(auto)]
 use door::end_line;
 use kinds::slot_ok;
 use lines::{put_named, put_share, put_text, put_vote};

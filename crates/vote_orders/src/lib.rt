@@ -1,5 +1,6 @@
 // What a list of a slot's notar votes shows of a claimed leader. It is checked in one pass to have each vote at most once, by block and
 // node, and each run of equal blocks is summed. However the list came about, what it shows holds.
+#![tactic(auto)]
 ghost use Rattle.std.specs.Prelude.{◌≡◌, ◌+◌, ◌<◌, ◌^◌};
 ghost use Rattle.record.specs.Layout.{ledger_of};
 ghost use Rattle.vote_orders.specs.Ordering.{Ordering, Shows, comes_next, next_run};
@@ -12,7 +13,7 @@ use tally::leads;
 const NODE_BITS: u64 = 0x7ff;
 
 // What a list shows of a claimed leader: no block leads it, some block does, or neither.
-#[derive(Drop)]
+#[derive(Clone, Copy)]
 pub enum Shown {
     Unled,
     Led,

@@ -1,5 +1,6 @@
 // What a packet counts a record's firm for and the record lacks, as lines in a lent list; and where the first certificate of a finality
 // proof ends.
+#![tactic(auto)]
 ghost use Rattle.std.specs.Prelude.{◌≡◌, length};
 ghost use Rattle.rulebook.specs.Ledger.{own_cell};
 ghost use Rattle.rulebook.specs.Packets.{certificate_of, certificate_at};
@@ -36,7 +37,7 @@ fn first_end(packet: &[u8]) -> usize
 }
 
 // How many bytes the first certificate of a proof has, or why the packet is none.
-#[derive(Drop)]
+#[derive(Clone, Copy)]
 pub enum SplitAnswer {
     First(usize),
     Refused(Refusal),
