@@ -1,0 +1,10 @@
+-- The higher digit and then the lower.
+use mathlib.Core.Path.{ap}
+use Rattle.lines.specs.Text.{hex_pair}
+use Rattle.lines.proofs.Putting.{as_text}
+use Rattle.lines.proofs.Composed.{both_digits}
+use Rattle.lines.proofs.put_pair.Goals as goal
+
+pub returns : goal.returns
+returns c =
+    as_text (ap hex_pair c.wide-w.ensures) (both_digits _ _ _ c.glyph.ensures c.glyph-2.ensures c.put_byte-next.ensures c.put_byte.ensures)
