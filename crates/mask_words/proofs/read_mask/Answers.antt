@@ -13,10 +13,6 @@ use Rattle.mask_words.proofs.read_mask.Goals as goal
 pub loop-i-init : goal.loop-i-init
 loop-i-init c = (refl, taken_none c.args.bytes.now c.args.mask.now c.args.at)
 
--- TODO same_length : tie.Need-same-length invariant-loop decreases-loop
--- same_length c =
---     c.before.before.before.before.loop.invariant.1.long
-
 pub returns-in_default : goal.returns-in_default
 returns-in_default c =
     let l = c.loop-i in
@@ -33,10 +29,6 @@ loop-i-preserved c =
     let l = c.loop-i in
     let s = c.args in
     (refl, taken_more (length s.mask.now) s.bytes.now s.at l.mask l.i l.p l.invariant.1 _ _ (omega arith) (sym c.take_number-n.ensures ∙ c.in-Number.is))
-
--- TODO same-length-2 : tie.Need-same-length-2 invariant-loop decreases-loop
--- same-length-2 c =
---     c.before.loop.invariant.1.long
 
 pub returns : goal.returns
 returns c =

@@ -28,10 +28,6 @@ loop-i-preserved c =
     let s = c.args in
     (refl, l.invariant.1, put_more s.bytes.now s.at s.mask.now l.bytes l.i l.p l.invariant.2 _ _ (omega arith) c.write_number-p.auto.bytes c.write_number-p.ensures)
 
--- TODO same_length : tie.Need-same-length invariant-loop decreases-loop
--- same_length c =
---     c.before.loop.invariant.2.long
-
 pub returns : goal.returns
 returns c =
     let l = c.loop-i in
