@@ -1,0 +1,8 @@
+-- Notar votes by themselves, notar and fallback votes together, all others cell by cell.
+use Rattle.pool.proofs.counted_before.Goals as goal
+
+pub returns-in-Notar : goal.returns-in-Notar
+returns-in-Notar c = simp (c.in-Notar.is, c.notar_before.ensures)
+
+pub returns-in-NotarOrFallback : goal.returns-in-NotarOrFallback
+returns-in-NotarOrFallback c = simp (c.in-NotarOrFallback.is, c.notar_or_fallback_before.ensures)
