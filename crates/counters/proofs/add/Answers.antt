@@ -29,10 +29,10 @@ pub returns-then-e-w : goal.returns-then-e-w
 returns-then-e-w c =
     let a = c.before.before.args in
     let p = c.before.before.requires in
-    add_put a.x a.w a.names.now a.weights.now p.names p.weights (c.place_of.ensures.nowhere (omega (arith, c.place_of.ensures.few, c.if2.false))) _ _ c.lower_all.ensures c.least_of-p.result _ c.least_of-p.ensures.few (omega (arith, c.if1.false)) (omega arith) (c.lower_of-e.ensures.less c.if-e-w.true) refl
+    add_put a.x a.w a.names.now a.weights.now p.names p.weights (c.place_of-own.ensures.nowhere (omega (arith, c.place_of-own.ensures.few, c.if-own-lt-COUNTERS.false))) _ _ c.lower_all.ensures c.least_of-p.result _ c.least_of-p.ensures.few (omega (arith, c.if-x-eq0.false)) (omega arith) (c.lower_of-e.ensures.less c.if-e-w.true) refl
 
 pub returns-else-e-w : goal.returns-else-e-w
 returns-else-e-w c =
     let a = c.before.before.args in
     let p = c.before.before.requires in
-    add_off a.x a.w a.names.now a.weights.now p.names p.weights (c.place_of.ensures.nowhere (omega (arith, c.place_of.ensures.few, c.if2.false))) _ _ c.lower_all.ensures (omega (arith, c.if-e-w.false, c.lower_of-e.ensures.first))
+    add_off a.x a.w a.names.now a.weights.now p.names p.weights (c.place_of-own.ensures.nowhere (omega (arith, c.place_of-own.ensures.few, c.if-own-lt-COUNTERS.false))) _ _ c.lower_all.ensures (omega (arith, c.if-e-w.false, c.lower_of-e.ensures.first))

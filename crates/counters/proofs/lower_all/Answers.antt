@@ -22,8 +22,5 @@ loop-i-preserved c =
     let k = c.loop-i in
     lowering_more _ c.loop-i-test.true (c.requires.each k.i c.loop-i-test.true) refl k.invariant
 
--- TODO same_length : tie.Need-same-length invariant-loop decreases-loop
--- same_length c = c.before.loop.invariant.long ∙ sym c.before.before.before.requires.long
-
 pub returns : goal.returns
 returns c = lowering_done c.loop-i-test.false c.loop-i.invariant

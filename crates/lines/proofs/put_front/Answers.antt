@@ -7,7 +7,7 @@ use Rattle.lines.proofs.Putting.{as_text}
 use Rattle.lines.proofs.put_front.Goals as goal
 
 pub slice_bounds-put_hex-end : goal.slice_bounds-put_hex-end
-slice_bounds-put_hex-end c = sym (length-take-le _ c.before.args.buffer.now (omega (arith, c.if1.true)))
+slice_bounds-put_hex-end c = sym (length-take-le _ c.before.args.buffer.now (omega (arith, c.if-size-buffer.true)))
 
 pub returns-then-size-buffer : goal.returns-then-size-buffer
 returns-then-size-buffer c = c.put_hex.ensures

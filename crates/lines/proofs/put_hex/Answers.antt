@@ -16,10 +16,6 @@ pub loop-i-preserved : goal.loop-i-preserved
 loop-i-preserved c =
     (next_pair c.args.bytes.now _ _ refl c.loop-i.invariant.0 c.put_pair-next.ensures, omega (arith, c.loop-i-test.true, c.loop-i.invariant.2), c.loop-i.invariant.2)
 
--- TODO same-length-2 : tie.Need-same-length-2 invariant-loop decreases-loop
--- same-length-2 c =
---     put-length c.before.loop.invariant.0
-
 pub returns : goal.returns
 returns c =
     last_pair _ c.loop-i.i c.if-bytes-eq0.false (omega (arith, c.loop-i-test.false, c.loop-i.invariant.1, c.loop-i.invariant.2)) c.loop-i.invariant.0

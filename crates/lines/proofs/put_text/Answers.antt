@@ -13,10 +13,6 @@ pub loop-i-preserved : goal.loop-i-preserved
 loop-i-preserved c =
     (next_byte c.args.text.now _ _ (omega (arith, c.loop-i-test.true, c.loop-i.invariant.2)) refl c.loop-i.invariant.0 c.put_byte-next.ensures, omega (arith, c.loop-i-test.true, c.loop-i.invariant.2), c.loop-i.invariant.2)
 
--- TODO same_length : tie.Need-same-length invariant-loop decreases-loop
--- same_length c =
---     put-length c.before.loop.invariant.0
-
 pub returns : goal.returns
 returns c =
     last_byte _ c.loop-i.i (omega (arith, c.loop-i-test.false, c.loop-i.invariant.1, c.loop-i.invariant.2)) c.loop-i.invariant.0

@@ -16,9 +16,6 @@ pub loop-i-preserved : goal.loop-i-preserved
 loop-i-preserved c =
     (next_vote c.args.answers.now _ _ refl c.loop-i.invariant.0 c.put_spaced-next.ensures, omega (arith, c.loop-i-test.true, c.loop-i.invariant.2), c.loop-i.invariant.2)
 
--- TODO same_length : tie.Need-same-length invariant-loop decreases-loop
--- same_length c = put-length c.before.loop.invariant.0 ∙ put-length c.before.before.before.before.put-text.ensures
-
 pub returns : goal.returns
 returns c =
     last_vote _ c.loop-i.i c.if-answers-eq0.false (omega (arith, c.loop-i-test.false, c.loop-i.invariant.1, c.loop-i.invariant.2)) c.put_text-next.ensures c.loop-i.invariant.0

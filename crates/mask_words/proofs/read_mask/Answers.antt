@@ -7,20 +7,17 @@ use lib.ListN.{length}
 use mathlib.Core.Path.{refl, ◌∙◌, ap, sym}
 use Prim.Native.Nat.{◌-◌}
 use native.Mathlib.Omega.{arith}
+use borrow.Enum.Refused.{opened}
 use Rattle.mask_words.proofs.read_mask.Goals as goal
 
 pub loop-i-init : goal.loop-i-init
 loop-i-init c = (refl, taken_none c.args.bytes.now c.args.mask.now c.args.at)
 
--- TODO same_length : tie.Need-same-length invariant-loop decreases-loop
--- same_length c =
---     c.before.before.before.before.loop.invariant.1.long
-
 pub returns-in_default : goal.returns-in_default
 returns-in_default c =
     let l = c.loop-i in
     let s = c.args in
-    ap (λ (x : Laid). laid_as x (joined l.mask)) c.failed_word.ensures ∙ taken_fell (length s.mask.now) s.bytes.now s.at l.mask l.i l.p l.invariant.1 _ (joined l.mask) (omega arith) c.in_default.in_default-own.keys2 c.take_number-n.ensures
+    ap (λ (x : Laid). laid_as x (joined l.mask)) c.failed_word.ensures ∙ taken_fell (length s.mask.now) s.bytes.now s.at l.mask l.i l.p l.invariant.1 _ (joined l.mask) (omega arith) (opened c.in_default.in_default-own.keys2) c.take_number-n.ensures
 
 pub bounds-mask-i : goal.bounds-mask-i
 bounds-mask-i c =
@@ -32,10 +29,6 @@ loop-i-preserved c =
     let l = c.loop-i in
     let s = c.args in
     (refl, taken_more (length s.mask.now) s.bytes.now s.at l.mask l.i l.p l.invariant.1 _ _ (omega arith) (sym c.take_number-n.ensures ∙ c.in-Number.is))
-
--- TODO same-length-2 : tie.Need-same-length-2 invariant-loop decreases-loop
--- same-length-2 c =
---     c.before.loop.invariant.1.long
 
 pub returns : goal.returns
 returns c =

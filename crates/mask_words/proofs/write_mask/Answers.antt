@@ -26,11 +26,7 @@ pub loop-i-preserved : goal.loop-i-preserved
 loop-i-preserved c =
     let l = c.loop-i in
     let s = c.args in
-    (refl, l.invariant.1, put_more s.bytes.now s.at s.mask.now l.bytes l.i l.p l.invariant.2 _ _ (omega arith) c.write_number-p.auto.0 c.write_number-p.ensures)
-
--- TODO same_length : tie.Need-same-length invariant-loop decreases-loop
--- same_length c =
---     c.before.loop.invariant.2.long
+    (refl, l.invariant.1, put_more s.bytes.now s.at s.mask.now l.bytes l.i l.p l.invariant.2 _ _ (omega arith) c.write_number-p.auto.bytes c.write_number-p.ensures)
 
 pub returns : goal.returns
 returns c =

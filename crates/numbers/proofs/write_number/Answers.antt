@@ -75,9 +75,6 @@ overflow_add-result c =
     let e : l.i + length (groups_of i.0 l.rest) ≡ l.i + 1 = ap (λ (x : List ℕ). l.i + length x) g in
     omega arith
 
--- TODO same_length : tie.Need-same-length invariant-loop decreases-loop
--- same_length c = let l = c.before.loop in length-set l.bytes l.i _ ∙ l.invariant.0
-
 pub returns : goal.returns
 returns c =
     let l = c.loop-rest in

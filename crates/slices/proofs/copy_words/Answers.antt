@@ -12,7 +12,7 @@ loop-i-init c = (refl, omega arith, refl, refl)
 
 pub loop-i-preserved : goal.loop-i-preserved
 loop-i-preserved c =
-    (c.put_word.ensures ∙ ap (λ (l : List ℕ). set l c.loop-i.i (get_or c.args.from.now c.loop-i.i 0)) c.loop-i.invariant.0 ∙ copy_next _ c.args.from.now c.loop-i.i _ (omega (arith, c.loop-i-test.true, c.loop-i.invariant.2)) refl, omega (arith, c.loop-i-test.true, c.loop-i.invariant.2), c.loop-i.invariant.2, c.put_word.auto.0 ∙ c.loop-i.invariant.3)
+    (c.put_word.ensures ∙ ap (λ (l : List ℕ). set l c.loop-i.i (get_or c.args.from.now c.loop-i.i 0)) c.loop-i.invariant.0 ∙ copy_next _ c.args.from.now c.loop-i.i _ (omega (arith, c.loop-i-test.true, c.loop-i.invariant.2)) refl, omega (arith, c.loop-i-test.true, c.loop-i.invariant.2), c.loop-i.invariant.2, c.put_word.auto.words ∙ c.loop-i.invariant.3)
 
 pub returns : goal.returns
 returns c =

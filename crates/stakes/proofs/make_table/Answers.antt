@@ -13,7 +13,7 @@ pub loop-n-preserved : goal.loop-n-preserved
 loop-n-preserved c =
     let l = c.loop-n in
     let ws = c.args.stakes.now in
-    (refl, summing_more ws l.total l.all l.n l.invariant.1 _ _ (omega arith) c.wrapping_add_u64-total.ensures c.wrapping_sub_u64-below.type-inv c.wrapping_sub_u64-below.ensures)
+    (refl, summing_more ws l.total l.all l.n l.invariant.1 _ _ (omega arith) c.wrapping_add_u64-total.ensures.value c.wrapping_sub_u64-below.type_inv c.wrapping_sub_u64-below.ensures.value)
 
 pub returns-then-all-total : goal.returns-then-all-total
 returns-then-all-total c =

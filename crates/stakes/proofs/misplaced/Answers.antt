@@ -1,19 +1,12 @@
 -- Word by word, against what is left of the table and against each other. Assumes nothing.
 use Rattle.std.proofs.Common.{◌≡◌, ℕ, ◌+◌, ◌-◌, ◌*◌, ◌^◌, Bool, true, false, ◌&&◌, ◌||◌, leb, List, length, get_or, sym, refl, ap, ◌∙◌, ap₂, arith}
 use Rattle.rulebook.specs.Tools.{some_to}
-use Rattle.rulebook.specs.Packets.{bit, joined}
+use Rattle.rulebook.specs.Packets.{bit}
 use Rattle.rule_laws.proofs.ToolLaws.{some_none, some_more}
 use Rattle.rule_laws.proofs.WordLaws.{Words, beyond_words, both_more}
 use Rattle.stakes.specs.Masks.{misplaced_in}
+use Rattle.stakes.proofs.misplaced.Invariants.{past_to, both_to}
 use Rattle.stakes.proofs.misplaced.Goals as goal
-
--- The first i words of a mask name a node beyond the table.
-abbrev past_to : List ℕ → ℕ → ℕ → Bool
-past_to mask count i = some_to i (λ j. leb (2 ^ (count - 64 * j)) (get_or mask j 0))
-
--- Their nodes are looked for in both.
-abbrev both_to : List ℕ → List ℕ → ℕ → Bool
-both_to a b i = some_to (64 * i) (λ n. bit (joined a) n && bit (joined b) n)
 
 -- Three tests of words before, and of one more.
 shuffle : (p q r x y z : Bool) → (((p || q) || r) || ((x || y) || z)) ≡ (((p || x) || (q || y)) || (r || z))
