@@ -29,7 +29,7 @@ screen =
     ∷ "? is a line that is no command, or a file that was not written."
     ∷ "Kinds of"
     ∷ "  votes         1 notar, 2 notar-fallback, 3 skip, 4 skip-fallback, 5 final"
-    ∷ "  certificates  1 fast_final, 2 notar, 3 notar-fallback, 4 skip, 5 final;"
+    ∷ "  certificates  1 fast-final, 2 notar, 3 notar-fallback, 4 skip, 5 final;"
     ∷ "                11 to 15 with more than 64 nodes"
     ∷ "  records       1 to 5 a vote was cast, 6 a block is final, 7 a window is armed,"
     ∷ "                8 another block of the slot is final too"

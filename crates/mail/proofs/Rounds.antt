@@ -15,7 +15,7 @@ use Rattle.rulebook.specs.Ledger.{Ledger, none, fresh, cell_at, own_cell, no_ini
 use Rattle.rulebook.specs.Rules.{Record}
 use Rattle.rulebook.specs.Run.{most_records}
 use Rattle.rulebook.specs.Inputs.{start_verdict}
-use Rattle.rulebook.specs.Taking.{Arrival}
+use Rattle.rulebook.specs.Taking.{Arrival, served}
 use Rattle.rule_laws.proofs.ToolLaws.{part_on, sum_same, sum_le, sum_add, sum_const, sum_term}
 use Rattle.settling.specs.Facts.{Sound}
 use Rattle.settling.specs.Steps as calls
@@ -74,7 +74,7 @@ empty (r ∷ rs) e = absurd (omega (arith, e))
 pub after_sound : (l : Ledger) (is : List Arrival) → Sound l → Sound (after_all l is)
 unfolding after_all
 after_sound l [] h = h
-after_sound l (i ∷ is) h = after_sound _ is (served_paid l h i).sound
+after_sound l (i ∷ is) h = after_sound (served l i).ledger is (served_paid l h i).sound
 
 -- Lives that go on in rounds, of any nodes whose starts were accepted.
 module _ (stakes : List ℕ) (genesis : ℕ → ℕ) (nodes : Test) (fed more : ℕ → ℕ → List Arrival) (go_on : (k n : ℕ) → fed (suc k) n ≡ fed k n ++ more k n)

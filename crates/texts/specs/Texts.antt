@@ -19,7 +19,7 @@ last_text n =
     choose (eqb n 13) (bytes_of "A number is not shortest, or above 64 bits. Ask for the packet again; if it comes so again, drop it: no writer that keeps the rules makes it.")
     (choose (eqb n 14) (bytes_of "A signer is beyond the table or in both masks, or mask B is used where 0 is due. Check with the stakes of the packet's own ring; if it was checked with these, drop it: no writer that keeps the rules makes it.")
     (choose (eqb n 15) (bytes_of "The weight is below the threshold; a check tells beside it what is missing. Check with the stakes of the packet's own ring; if it was checked with these, ask for one that more firms signed.")
-    (choose (eqb n 16) (bytes_of "The packet is not one of the two proof forms. Give a fast_final certificate, or a notar certificate and behind it the final certificate of its slot.")
+    (choose (eqb n 16) (bytes_of "The packet is not one of the two proof forms. Give a fast-final certificate, or a notar certificate and behind it the final certificate of its slot.")
     (choose (eqb n 17) (bytes_of "No node is started; or the record has a wrong length, a field outside its range, a total that is not the sum, a block or fallback block kept twice, an own notar-fallback below rule D's weights, a tally card that no recount gives, a kept certificate that the checker refuses or that repeats another, or an unused place that is not 0; or the lent state is none of a proof in pieces. Start a node, or go on from the record that was stored last; one that has voted is never started anew.")
     (choose (eqb n 18) (bytes_of "The certificate or proof asked for is not held. The slot's board tells what is missing: feed the votes or certificates that other firms have, and ask again.")
     (bytes_of "No refusal has this number."))))))

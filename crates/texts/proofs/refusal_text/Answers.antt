@@ -1,0 +1,9 @@
+-- 9, or the text from the buffer's front.
+use Rattle.texts.proofs.Laws.{no_room, has_room}
+use Rattle.texts.proofs.refusal_text.Goals as goal
+
+pub returns-then-buffer-lt-ROOM : goal.returns-then-buffer-lt-ROOM
+returns-then-buffer-lt-ROOM c = no_room _ _ c.if-buffer-lt-ROOM.true
+
+pub returns : goal.returns
+returns c = has_room _ c.if-buffer-lt-ROOM.false c.put_refusal.ensures
