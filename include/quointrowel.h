@@ -56,8 +56,8 @@
  * lists say what stands there beside theirs, the checks what *missing gets beside 15, and qr_end what it does to its state. A number that is out of
  * range, a slot of 99 or a kind of 7, is not a fault of the host: it has its own refusal.
  *
- * The archive is libquointrowel.a, made by `rt staticlib quointrowel`, for x86-64. Of the host it wants memcpy and memset, as
- * the C library has them, and nothing else.
+ * The archive is libquointrowel.a, made by tools/archive (`rt lib` in crates/quointrowel_c), for x86-64. Of the host it wants memcpy
+ * and memset, as the C library has them, and nothing else.
  */
 #ifndef QUOINTROWEL_H
 #define QUOINTROWEL_H

@@ -1,5 +1,5 @@
 //! Links `libquointrowel.a`: from the folder that `QUOINTROWEL_LIB_DIR` names (`PREFIX/lib` after `./install PREFIX`), else from
-//! this repository's `target/staticlib`, where `rt staticlib quointrowel` puts it. The archive is for x86-64: for any other machine
+//! this repository's `target/staticlib`, where `tools/archive` puts it. The archive is for x86-64: for any other machine
 //! the crate is only checked, and nothing is linked.
 
 use std::env;
@@ -15,7 +15,7 @@ fn main() {
         None => PathBuf::from(env::var_os("CARGO_MANIFEST_DIR").unwrap()).join("../../target/staticlib"),
     };
     let archive = folder.join("libquointrowel.a");
-    assert!(archive.is_file(), "{} is missing: rt staticlib quointrowel makes it", archive.display());
+    assert!(archive.is_file(), "{} is missing: tools/archive makes it", archive.display());
     println!("cargo:rerun-if-changed={}", archive.display());
     println!("cargo:rustc-link-search=native={}", folder.display());
     println!("cargo:rustc-link-lib=static=quointrowel");

@@ -1,6 +1,7 @@
-// The face: every public operation with numbers and lent memory alone, for a host in C. Each answers its number on the
-// panel and puts the values beside it into lent places; the definitions of the paper's numbers say which.
+// The face: every public operation with numbers and lent memory alone, as quointrowel_c gives them to a host in C. Each answers its
+// number on the panel and puts the values beside it into lent places; the definitions of the paper's numbers say which.
 #![tactic(auto)]
+
 ghost use Rattle.std.specs.Prelude.{◌≡◌, length};
 ghost use Rattle.rulebook.specs.Weights.{places_for};
 ghost use Rattle.rulebook.specs.Checker.{check_certificate, check_proof};
@@ -56,48 +57,42 @@ use vouching::vouched;
 use writers::{write_certificate, write_proof};
 
 // The version of the library that is linked.
-#[unsafe(no_mangle)]
-pub extern "C" fn qr_version() -> u64
+pub fn qr_version() -> u64
     ensures { result ≡ version }
 {
     2
 }
 
 // How many words the record of a node has, by the number of stakes.
-#[unsafe(no_mangle)]
-pub extern "C" fn qr_record_words(count: usize) -> usize
+pub fn qr_record_words(count: usize) -> usize
     ensures { result ≡ record_words (places_for count) }
 {
     record_words(count)
 }
 
 // How many words an outbox has to have.
-#[unsafe(no_mangle)]
-pub extern "C" fn qr_outbox_words() -> usize
+pub fn qr_outbox_words() -> usize
     ensures { result ≡ outbox_words }
 {
     480
 }
 
 // Makes the record's words a fresh node.
-#[unsafe(no_mangle)]
-pub extern "C" fn qr_start(rec: &mut [u64], stakes: &[u64], own: usize, genesis: u64) -> u64
+pub fn qr_start(rec: &mut [u64], stakes: &[u64], own: usize, genesis: u64) -> u64
     ensures { Started rec.old stakes.now own genesis result rec.new }
 {
     start_number(start(rec, stakes, Node(own), genesis))
 }
 
 // Makes the record's words a fresh watcher, a node that has no own number and never votes.
-#[unsafe(no_mangle)]
-pub extern "C" fn qr_watch(rec: &mut [u64], stakes: &[u64], genesis: u64) -> u64
+pub fn qr_watch(rec: &mut [u64], stakes: &[u64], genesis: u64) -> u64
     ensures { Watched rec.old stakes.now genesis result rec.new }
 {
     start_number(watch(rec, stakes, genesis))
 }
 
 // Gives the node another node's vote.
-#[unsafe(no_mangle)]
-pub extern "C" fn qr_vote(
+pub fn qr_vote(
     rec: &mut [u64],
     outbox: &mut [u64],
     made: &mut usize,
@@ -114,8 +109,7 @@ pub extern "C" fn qr_vote(
 }
 
 // Announces a block with its parent to the node.
-#[unsafe(no_mangle)]
-pub extern "C" fn qr_block(
+pub fn qr_block(
     rec: &mut [u64],
     outbox: &mut [u64],
     made: &mut usize,
@@ -136,13 +130,7 @@ pub extern "C" fn qr_block(
 }
 
 // Tells the node that a slot's time is out.
-#[unsafe(no_mangle)]
-pub extern "C" fn qr_timeout(
-    rec: &mut [u64],
-    outbox: &mut [u64],
-    made: &mut usize,
-    slot: usize,
-) -> u64
+pub fn qr_timeout(rec: &mut [u64], outbox: &mut [u64], made: &mut usize, slot: usize) -> u64
     ensures { Stepped rec.old outbox.old (timeout_input slot) result made.new rec.new outbox.new }
 {
     let a = step(rec, outbox, timeout_input(Slot(slot)));
@@ -151,8 +139,7 @@ pub extern "C" fn qr_timeout(
 }
 
 // Has the node run its rules and nothing else.
-#[unsafe(no_mangle)]
-pub extern "C" fn qr_look(rec: &mut [u64], outbox: &mut [u64], made: &mut usize) -> u64
+pub fn qr_look(rec: &mut [u64], outbox: &mut [u64], made: &mut usize) -> u64
     ensures { Stepped rec.old outbox.old input.Look result made.new rec.new outbox.new }
 {
     let a = step(rec, outbox, Input::Look);
@@ -161,13 +148,7 @@ pub extern "C" fn qr_look(rec: &mut [u64], outbox: &mut [u64], made: &mut usize)
 }
 
 // Gives the node a certificate that another node wrote.
-#[unsafe(no_mangle)]
-pub extern "C" fn qr_take(
-    rec: &mut [u64],
-    outbox: &mut [u64],
-    made: &mut usize,
-    packet: &[u8],
-) -> u64
+pub fn qr_take(rec: &mut [u64], outbox: &mut [u64], made: &mut usize, packet: &[u8]) -> u64
     ensures { Taken rec.old outbox.old packet.now result made.new rec.new outbox.new }
 {
     let a = take(rec, outbox, packet);
@@ -176,8 +157,7 @@ pub extern "C" fn qr_take(
 }
 
 // Gives the node a run of other nodes' votes, four words each; one number for each vote from the answer buffer's front.
-#[unsafe(no_mangle)]
-pub extern "C" fn qr_tray(
+pub fn qr_tray(
     rec: &mut [u64],
     outbox: &mut [u64],
     made: &mut usize,
@@ -192,8 +172,7 @@ pub extern "C" fn qr_tray(
 }
 
 // Writes a certificate of a kind, by its number in the record's table, for a slot and a block to the buffer's front.
-#[unsafe(no_mangle)]
-pub extern "C" fn qr_write_certificate(
+pub fn qr_write_certificate(
     rec: &[u64],
     buffer: &mut [u8],
     written: &mut usize,
@@ -209,8 +188,7 @@ pub extern "C" fn qr_write_certificate(
 }
 
 // Writes a finality proof for a slot and a block to the buffer's front.
-#[unsafe(no_mangle)]
-pub extern "C" fn qr_write_proof(
+pub fn qr_write_proof(
     rec: &[u64],
     buffer: &mut [u8],
     written: &mut usize,
@@ -225,8 +203,7 @@ pub extern "C" fn qr_write_proof(
 }
 
 // Reads a slot's tally card: its five words.
-#[unsafe(no_mangle)]
-pub extern "C" fn qr_card(rec: &[u64], slot: usize, values: &mut [u64; 5]) -> u64
+pub fn qr_card(rec: &[u64], slot: usize, values: &mut [u64; 5]) -> u64
     ensures { CardRead (card_on rec.now slot) result values.new }
 {
     let a = read_card(rec, Slot(slot));
@@ -235,8 +212,7 @@ pub extern "C" fn qr_card(rec: &[u64], slot: usize, values: &mut [u64; 5]) -> u6
 }
 
 // Reads a slot's final block.
-#[unsafe(no_mangle)]
-pub extern "C" fn qr_final_block(rec: &[u64], slot: usize, block: &mut u64) -> u64
+pub fn qr_final_block(rec: &[u64], slot: usize, block: &mut u64) -> u64
     ensures { FinalRead (final_on rec.now slot) result block.new }
 {
     let a = read_final(rec, Slot(slot));
@@ -245,8 +221,7 @@ pub extern "C" fn qr_final_block(rec: &[u64], slot: usize, block: &mut u64) -> u
 }
 
 // Reads whether a slot's window is armed: 1 or 0.
-#[unsafe(no_mangle)]
-pub extern "C" fn qr_is_armed(rec: &[u64], slot: usize, armed: &mut u64) -> u64
+pub fn qr_is_armed(rec: &[u64], slot: usize, armed: &mut u64) -> u64
     ensures { ArmedRead (armed_on rec.now slot) result armed.new }
 {
     let a = read_armed(rec, Slot(slot));
@@ -255,8 +230,7 @@ pub extern "C" fn qr_is_armed(rec: &[u64], slot: usize, armed: &mut u64) -> u64
 }
 
 // Reads a node's stored votes in a slot: the seven words of its cell.
-#[unsafe(no_mangle)]
-pub extern "C" fn qr_kept_votes(rec: &[u64], slot: usize, node: usize, values: &mut [u64; 7]) -> u64
+pub fn qr_kept_votes(rec: &[u64], slot: usize, node: usize, values: &mut [u64; 7]) -> u64
     ensures { VotesRead (votes_on rec.now slot node) result values.new }
 {
     let a = read_votes(rec, Slot(slot), Node(node));
@@ -265,8 +239,7 @@ pub extern "C" fn qr_kept_votes(rec: &[u64], slot: usize, node: usize, values: &
 }
 
 // Asks where the first certificate of a finality proof ends.
-#[unsafe(no_mangle)]
-pub extern "C" fn qr_split_proof(rec: &[u64], packet: &[u8], first: &mut usize) -> u64
+pub fn qr_split_proof(rec: &[u64], packet: &[u8], first: &mut usize) -> u64
     ensures { SplitRead (split_on rec.now packet.now) result first.new }
 {
     let a = split_proof(rec, packet);
@@ -275,8 +248,7 @@ pub extern "C" fn qr_split_proof(rec: &[u64], packet: &[u8], first: &mut usize) 
 }
 
 // Asks whether announcing a block now is right, by the policy for blocks: 1 or 0.
-#[unsafe(no_mangle)]
-pub extern "C" fn qr_may_announce(
+pub fn qr_may_announce(
     rec: &[u64],
     slot: usize,
     number: u64,
@@ -297,8 +269,7 @@ pub extern "C" fn qr_may_announce(
 }
 
 // Reads a slot's kept blocks: three words for each of its four places.
-#[unsafe(no_mangle)]
-pub extern "C" fn qr_kept_blocks(rec: &[u64], slot: usize, values: &mut [u64; 12]) -> u64
+pub fn qr_kept_blocks(rec: &[u64], slot: usize, values: &mut [u64; 12]) -> u64
     ensures { BlocksRead (blocks_on rec.now slot) result values.new }
 {
     let a = read_blocks(rec, Slot(slot));
@@ -307,8 +278,7 @@ pub extern "C" fn qr_kept_blocks(rec: &[u64], slot: usize, values: &mut [u64; 12
 }
 
 // Reads a slot's marks: timed out, and another final block.
-#[unsafe(no_mangle)]
-pub extern "C" fn qr_slot_marks(rec: &[u64], slot: usize, values: &mut [u64; 2]) -> u64
+pub fn qr_slot_marks(rec: &[u64], slot: usize, values: &mut [u64; 2]) -> u64
     ensures { MarksRead (marks_on rec.now slot) result values.new }
 {
     let a = read_marks(rec, Slot(slot));
@@ -317,8 +287,7 @@ pub extern "C" fn qr_slot_marks(rec: &[u64], slot: usize, values: &mut [u64; 2])
 }
 
 // Reads whose record it is and of which ring: the four words of its head.
-#[unsafe(no_mangle)]
-pub extern "C" fn qr_head(rec: &[u64], values: &mut [u64; 4]) -> u64
+pub fn qr_head(rec: &[u64], values: &mut [u64; 4]) -> u64
     ensures { HeadRead (head_on rec.now) result values.new }
 {
     let a = read_head(rec);
@@ -327,13 +296,7 @@ pub extern "C" fn qr_head(rec: &[u64], values: &mut [u64; 4]) -> u64
 }
 
 // Lists the certificates that a slot keeps from the list's front, five words a line.
-#[unsafe(no_mangle)]
-pub extern "C" fn qr_kept_certificates(
-    rec: &[u64],
-    slot: usize,
-    list: &mut [u64],
-    beside: &mut usize,
-) -> u64
+pub fn qr_kept_certificates(rec: &[u64], slot: usize, list: &mut [u64], beside: &mut usize) -> u64
     ensures { CertificatesRead (certificates_on rec.now slot (length list.old)) list.old result beside.new list.new }
 {
     let a = list_certificates(rec, Slot(slot), list);
@@ -342,13 +305,7 @@ pub extern "C" fn qr_kept_certificates(
 }
 
 // Reads what a slot's stored votes weigh for a block: four weights.
-#[unsafe(no_mangle)]
-pub extern "C" fn qr_block_weights(
-    rec: &[u64],
-    slot: usize,
-    block: u64,
-    values: &mut [u64; 4],
-) -> u64
+pub fn qr_block_weights(rec: &[u64], slot: usize, block: u64, values: &mut [u64; 4]) -> u64
     ensures { WeightsRead (weights_on rec.now slot block) result values.new }
 {
     let a = read_weights(rec, Slot(slot), block);
@@ -357,8 +314,7 @@ pub extern "C" fn qr_block_weights(
 }
 
 // Checks a packet that is to be one certificate.
-#[unsafe(no_mangle)]
-pub extern "C" fn qr_check_certificate(
+pub fn qr_check_certificate(
     stakes: &[u64],
     packet: &[u8],
     values: &mut [u64; 5],
@@ -374,8 +330,7 @@ pub extern "C" fn qr_check_certificate(
 }
 
 // Checks a packet that is to be a finality proof.
-#[unsafe(no_mangle)]
-pub extern "C" fn qr_check_proof(
+pub fn qr_check_proof(
     stakes: &[u64],
     packet: &[u8],
     values: &mut [u64; 5],
@@ -391,37 +346,28 @@ pub extern "C" fn qr_check_proof(
 }
 
 // How many words the state of a proof in pieces has.
-#[unsafe(no_mangle)]
-pub extern "C" fn qr_pieces_words() -> usize
+pub fn qr_pieces_words() -> usize
     ensures { result ≡ state_words }
 {
     state_words()
 }
 
 // How many bytes it has beside them.
-#[unsafe(no_mangle)]
-pub extern "C" fn qr_pieces_bytes() -> usize
+pub fn qr_pieces_bytes() -> usize
     ensures { result ≡ front_bytes }
 {
     front_bytes()
 }
 
 // Takes a piece of a finality proof; the table is that of the first piece.
-#[unsafe(no_mangle)]
-pub extern "C" fn qr_piece(words: &mut [u64], front: &mut [u8], stakes: &[u64], bytes: &[u8]) -> u64
+pub fn qr_piece(words: &mut [u64], front: &mut [u8], stakes: &[u64], bytes: &[u8]) -> u64
     ensures { Pieced words.old front.old stakes.now bytes.now result words.new front.new }
 {
     piece_number(piece(words, front, stakes, bytes))
 }
 
 // Ends a finality proof that came in pieces: what the whole packet is answered.
-#[unsafe(no_mangle)]
-pub extern "C" fn qr_end(
-    words: &mut [u64],
-    front: &mut [u8],
-    values: &mut [u64; 5],
-    missing: &mut u64,
-) -> u64
+pub fn qr_end(words: &mut [u64], front: &mut [u8], values: &mut [u64; 5], missing: &mut u64) -> u64
     ensures { Ended words.old front.old result values.new missing.new words.new front.new }
 {
     let count = node_count(words);
@@ -433,8 +379,7 @@ pub extern "C" fn qr_end(
 }
 
 // Reads a vote message: the vote's four numbers.
-#[unsafe(no_mangle)]
-pub extern "C" fn qr_read_vote(count: usize, message: &[u8], values: &mut [u64; 4]) -> u64
+pub fn qr_read_vote(count: usize, message: &[u8], values: &mut [u64; 4]) -> u64
     ensures { MessageRead (read_vote count message.now) result values.new }
 {
     let a = read_vote(count, message);
@@ -443,8 +388,7 @@ pub extern "C" fn qr_read_vote(count: usize, message: &[u8], values: &mut [u64; 
 }
 
 // Writes a vote message to the buffer's front.
-#[unsafe(no_mangle)]
-pub extern "C" fn qr_write_vote(
+pub fn qr_write_vote(
     buffer: &mut [u8],
     written: &mut usize,
     count: usize,
@@ -462,13 +406,7 @@ pub extern "C" fn qr_write_vote(
 }
 
 // Lists the stored votes in which two records differ from the list's front, five words a line.
-#[unsafe(no_mangle)]
-pub extern "C" fn qr_differ(
-    first: &[u64],
-    second: &[u64],
-    list: &mut [u64],
-    beside: &mut usize,
-) -> u64
+pub fn qr_differ(first: &[u64], second: &[u64], list: &mut [u64], beside: &mut usize) -> u64
     ensures { Compared first.now second.now list.old result beside.new list.new }
 {
     let a = differ(first, second, list);
@@ -477,8 +415,7 @@ pub extern "C" fn qr_differ(
 }
 
 // Lists the own votes of a record that do not stand on what the record holds from the list's front, five words a line.
-#[unsafe(no_mangle)]
-pub extern "C" fn qr_stands(rec: &[u64], list: &mut [u64], beside: &mut usize) -> u64
+pub fn qr_stands(rec: &[u64], list: &mut [u64], beside: &mut usize) -> u64
     ensures { LinesRead (stands_on rec.now (length list.old)) list.old result beside.new list.new }
 {
     let a = own_votes_stand(rec, list);
@@ -488,13 +425,7 @@ pub extern "C" fn qr_stands(rec: &[u64], list: &mut [u64], beside: &mut usize) -
 
 // Lists the votes that the first record counts in the name of the second's firm and the second record lacks from the list's front, five
 // words a line.
-#[unsafe(no_mangle)]
-pub extern "C" fn qr_vouched(
-    first: &[u64],
-    second: &[u64],
-    list: &mut [u64],
-    beside: &mut usize,
-) -> u64
+pub fn qr_vouched(first: &[u64], second: &[u64], list: &mut [u64], beside: &mut usize) -> u64
     ensures { LinesRead (vouched_on first.now second.now (length list.old)) list.old result beside.new list.new }
 {
     let a = vouched(first, second, list);
@@ -503,13 +434,7 @@ pub extern "C" fn qr_vouched(
 }
 
 // Lists the votes that a packet counts the record's firm for and the record lacks from the list's front, five words a line.
-#[unsafe(no_mangle)]
-pub extern "C" fn qr_vouched_packet(
-    rec: &[u64],
-    packet: &[u8],
-    list: &mut [u64],
-    beside: &mut usize,
-) -> u64
+pub fn qr_vouched_packet(rec: &[u64], packet: &[u8], list: &mut [u64], beside: &mut usize) -> u64
     ensures { LinesRead (packet_on rec.now packet.now (length list.old)) list.old result beside.new list.new }
 {
     let a = vouched_packet(rec, packet, list);
@@ -518,13 +443,7 @@ pub extern "C" fn qr_vouched_packet(
 }
 
 // Lists the blocks that two records keep with two parents from the list's front, five words a line, two lines for each.
-#[unsafe(no_mangle)]
-pub extern "C" fn qr_same_parents(
-    first: &[u64],
-    second: &[u64],
-    list: &mut [u64],
-    beside: &mut usize,
-) -> u64
+pub fn qr_same_parents(first: &[u64], second: &[u64], list: &mut [u64], beside: &mut usize) -> u64
     ensures { LinesRead (parents_on first.now second.now (length list.old)) list.old result beside.new list.new }
 {
     let a = same_parents(first, second, list);
@@ -533,8 +452,7 @@ pub extern "C" fn qr_same_parents(
 }
 
 // Writes what a number means and what to do next to the buffer's front.
-#[unsafe(no_mangle)]
-pub extern "C" fn qr_refusal_text(buffer: &mut [u8], written: &mut usize, number: u64) -> u64
+pub fn qr_refusal_text(buffer: &mut [u8], written: &mut usize, number: u64) -> u64
     ensures { Wrote (text_on (length buffer.old) number) buffer.old result written.new buffer.new }
 {
     let a = refusal_text(buffer, number);
