@@ -12,10 +12,10 @@ use Rattle.kept_audit.proofs.Laws.{place_fits}
 use Rattle.kept_audit.proofs.certificates_fit.Given as goal
 
 abbrev pub invariant-loop-n : goal.invariant-loop-n
-invariant-loop-n l =
-    let l = ledger_of l.rec in
-    let qs = certificates_at l l.s.0 in
-    (l.n ≤ 13) × (Fit (table_of l) l.t × ((4 < l.n → l.filled ≡ filled_to qs l.n) × (all_to l.n (place_fits (table_of l) l.s.0 qs) ≡ true)))
+invariant-loop-n turn =
+    let l = ledger_of turn.rec in
+    let qs = certificates_at l turn.s.0 in
+    (turn.n ≤ 13) × (Fit (table_of l) turn.t × ((4 < turn.n → turn.filled ≡ filled_to qs turn.n) × (all_to turn.n (place_fits (table_of l) turn.s.0 qs) ≡ true)))
 
 abbrev pub decreases-loop-n : goal.decreases-loop-n
 decreases-loop-n l =
