@@ -153,7 +153,7 @@ enum qr_size {
 };
 
 /* The version of this header, and that of the library that is linked, which a host compares with it before all else. */
-#define QR_VERSION 2
+#define QR_VERSION 1
 
 uint64_t qr_version(void);
 

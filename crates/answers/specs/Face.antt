@@ -38,7 +38,7 @@ use Rattle.readers.specs.Weighed.{weights_panel}
 
 -- The version of the face: raised with every change of a function, of a number, or of what a record's words mean.
 abbrev pub version : ℕ
-version = 2
+version = 1
 
 -- The one value beside a number.
 abbrev pub Beside : ℕ → List ℕ → Type 0

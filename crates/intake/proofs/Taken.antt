@@ -126,7 +126,7 @@ module _ {ws out : List ℕ} (ws' : List ℕ) {s : ℕ} (v : CastingAt ws out 0 
   h = v.live
 
   out_paid : Paid (ledger_of ws) (put_timed_out (ledger_of ws) s) 0
-  out_paid = timed_out_paid (ledger_of ws) h.live.sound s h.low h.high v.votes
+  out_paid = timed_out_paid (ledger_of ws) h.live.sound s h.low h.high
 
   -- The window of a timed-out slot can be skipped.
   pub skips_casting : CastingAt ws' out 0 s

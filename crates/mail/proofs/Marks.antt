@@ -121,7 +121,7 @@ module _ (l : Ledger) (h : Sound l) (s : ℕ) where
   skips_mark t lo hi v =
       let o = state_of (put_timed_out l t) [] in
       given_by (λ (p : State). (row_at p.ledger s).timed_out ≡ (row_at (put_timed_out l t) s).timed_out) (no_initial (own_cell l t)) o (λ _. cast_skips o t) refl
-      (λ _. (skips_keep _ (voter_casting (Along s o) (marks_lawful s o)) t lo hi o (marks_start s o (sound_timed_out l h t lo hi v), v)).0.1.mark)
+      (λ _. (skips_keep _ (voter_casting (Along s o) (marks_lawful s o)) t lo hi o (marks_start s o (sound_timed_out l h t lo hi), v)).0.1.mark)
 
   intake_mark : (i : Input) → verdict l i ≡ Fine → ¬ T (times_out (of_input i) s) → (row_at (intake l i).ledger s).timed_out ≡ (row_at l s).timed_out
   unfolding intake store_vote keep_block verdict

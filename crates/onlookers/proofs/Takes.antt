@@ -295,7 +295,7 @@ module _ (l : Ledger) (h : Sound l) where
   input_leads (input.Timeout t) e =
       let g = timeout_fine l t.0 e in
       let o : State = state_of (put_timed_out l t.0) [] in
-      let k = marked l (state_of l []) o (begins l h) (sound_timed_out l h t.0 g.low g.high g.votes) t.0 _ g.high refl refl refl refl in
+      let k = marked l (state_of l []) o (begins l h) (sound_timed_out l h t.0 g.low g.high) t.0 _ g.high refl refl refl refl in
       record {
         now = l;
         took = nothing_took (of_input (input.Timeout t)) (λ s n b. refl) (λ s b p x. refl) (λ j s q. refl);

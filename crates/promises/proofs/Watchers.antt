@@ -37,7 +37,7 @@ use Rattle.settling.specs.Steps.{life}
 use Rattle.settling.proofs.Start.{watching_sound}
 use Rattle.record.specs.Layout.{record_words, ledger_of}
 use Rattle.starts.specs.Starting.{start_answer, start_left, watch_judged}
-use Rattle.soundness.proofs.Laws.{words_spelled, sound_ledger, marked_unsound}
+use Rattle.soundness.proofs.Laws.{words_spelled, sound_ledger}
 use Rattle.soundness.proofs.InStep.{spelled_back}
 use Rattle.starts.proofs.Starts.{watch_leaves_sound}
 use Rattle.node.specs.Stepping.{spelled, as_fed, Leaves, step_leaves}
@@ -50,10 +50,9 @@ use Rattle.watchers.specs.Watching.{tells_vote, as_votes}
 use Rattle.watchers.proofs.Silent.{life_silent}
 use Rattle.answers.specs.Face.{Beside, vote_input, timeout_input}
 use Rattle.promises.specs.Panels.{shown, sound_first, step_judged}
-use Rattle.promises.specs.Watchers.{FaceWatches, MarkedWatcherRefused, four_at_once, WatcherTimeoutFour, FaceTimeoutFour, NeverSix, FaceNeverSix, record_at, NoVoteTold, FaceNeverVotes}
+use Rattle.promises.specs.Watchers.{FaceWatches, four_at_once, WatcherTimeoutFour, FaceTimeoutFour, NeverSix, FaceNeverSix, record_at, NoVoteTold, FaceNeverVotes}
 use Rattle.promises.proofs.Numbered.{start_done}
 use Rattle.promises.proofs.Shown.{step_shown}
-use Rattle.promises.proofs.Cards.{unsound_refused}
 
 -- ---- a watcher's start
 
@@ -79,11 +78,6 @@ face_watches ws stakes genesis left h =
       watcher = left_watches v ws stakes genesis left e h.words
           (λ f. watching_sound stakes genesis (refuse_fine (not (eqb (length ws) (record_words (places_for (length stakes))))) refusal.BadRecord (watch_verdict stakes genesis) f).1);
     }
-
--- ---- "an unused place not zero"
-
-pub marked_watcher_refused : MarkedWatcherRefused
-marked_watcher_refused ws m = unsound_refused ws (marked_unsound ws m.slot m.low m.high m.watcher m.marked)
 
 -- ---- "Timeouts are refused with 4, right after 17 and 9."
 

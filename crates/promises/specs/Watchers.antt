@@ -1,5 +1,5 @@
--- Watchers at the face: what one is refused with, that it never votes, and what is no watcher's record.
-use Rattle.std.specs.Prelude.{◌≡◌, true, false, List, ℕ, ◌+◌, ◌*◌, ◌≤◌, ◌<◌, length, get_or, ltb}
+-- Watchers at the face: what one is refused with, and that it never votes.
+use Rattle.std.specs.Prelude.{◌≡◌, true, false, List, ℕ, ◌+◌, ◌*◌, ◌<◌, length, get_or, ltb}
 use Rattle.rulebook.specs.declared.Input.{Input}
 use Rattle.rulebook.specs.declared.Input.TheVariants as input
 use Rattle.rulebook.specs.declared.Refusal.TheVariants as refusal
@@ -9,8 +9,7 @@ use Rattle.rulebook.specs.declared.Verdict.{Verdict}
 use Rattle.rulebook.specs.declared.Verdict.TheVariants.{Refused}
 use Rattle.rulebook.specs.declared.Vote.{Vote}
 use Rattle.rulebook.specs.PaperNumbers.{verdict_number, step_panel}
-use Rattle.rulebook.specs.Weights.{last_slot}
-use Rattle.rulebook.specs.Ledger.{is_watcher, row_at}
+use Rattle.rulebook.specs.Ledger.{is_watcher}
 use Rattle.rulebook.specs.Rules.{Record, record_of}
 use Rattle.rulebook.specs.Inputs.{refuse_if}
 use Rattle.rulebook.specs.WellFormed.{outbox_words}
@@ -20,7 +19,6 @@ use Rattle.node.specs.Stepping.{StepOf}
 use Rattle.watchers.specs.Watching.{tells_vote}
 use Rattle.answers.specs.Face.{vote_input, timeout_input, Watched, Stepped, Taken, Trayed}
 use Rattle.promises.specs.Panels.{sound_first}
-use Rattle.promises.specs.Cards.{RefusedEverywhere}
 
 -- The words are a watcher's record.
 pub record Watches (ws : List ℕ) : Type 0 where
@@ -30,19 +28,6 @@ pub record Watches (ws : List ℕ) : Type 0 where
 -- qr_watch makes one.
 abbrev pub FaceWatches : Type 0
 FaceWatches = (ws stakes : List ℕ) (genesis : ℕ) (left : List ℕ) → Watched ws stakes genesis 0 left → Watches left
-
--- ---- "an unused place not zero"
-
--- A watcher's words, but some slot has the mark that its timeout was taken.
-pub record MarkedWatcher (ws : List ℕ) : Type 0 where
-  pub watcher : is_watcher (ledger_of ws) ≡ true
-  pub slot : ℕ
-  pub low : 1 ≤ slot
-  pub high : slot ≤ last_slot
-  pub marked : ¬ ((row_at (ledger_of ws) slot).timed_out ≡ 0)
-
-abbrev pub MarkedWatcherRefused : Type 0
-MarkedWatcherRefused = (ws : List ℕ) → MarkedWatcher ws → RefusedEverywhere ws
 
 -- ---- "Timeouts are refused with 4, right after 17 and 9."
 

@@ -60,7 +60,7 @@ use writers::{write_certificate, write_proof};
 pub fn qr_version() -> u64
     ensures { result ≡ version }
 {
-    2
+    1
 }
 
 // How many words the record of a node has, by the number of stakes.

@@ -14,9 +14,6 @@ use writers::{write_certificate, write_proof};
 // The words of a record with two places.
 const RECORD_WORDS: usize = 1251;
 
-// Where the input's record says that slot 9 is timed out.
-const TIMED_OUT_AT: usize = 679;
-
 const MOST_NUMBERS: usize = 64;
 
 // The bytes are as they were lent.
@@ -274,14 +271,12 @@ fn tell_kinds(outbox: &[u64], many: usize) {
     }
 }
 
-// A look at the record with another own number: its number, and the kinds of what it tells. No slot of it is timed out, as none of a
-// watcher's is.
+// A look at the record with another own number: its number, and the kinds of what it tells.
 fn look_as(sound: &[u64], own: Node) {
     let mut rec = [0u64; RECORD_WORDS];
     let mut outbox = [0u64; 480];
     copy_words(sound, &mut rec);
     put_word(&mut rec, 2, own.0 as u64);
-    put_word(&mut rec, TIMED_OUT_AT, 0);
     say(b"a look with own number");
     number(own.0 as u64);
     say(b":");

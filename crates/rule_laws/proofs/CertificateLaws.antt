@@ -22,7 +22,7 @@ use Rattle.rulebook.specs.Packets.{bit}
 use Rattle.rulebook.specs.Checker.{is_other_kind, block_misfits, without_b, bad_signers, signed, signed_weight, judge_weight, judge_kind}
 use Rattle.rulebook.specs.Taking.{is_room, has_room, fill_kept, is_repeat}
 use Rattle.rulebook.specs.Writers.{find_kept, kept_for}
-use Rattle.rulebook.specs.WellFormed.{flag, blocks_fit, each_kept, in_turn, certificates_apart, certificates_fit, timeout_fits, row_fits, row_blank, head_fits, well_formed}
+use Rattle.rulebook.specs.WellFormed.{flag, blocks_fit, each_kept, in_turn, certificates_apart, certificates_fit, row_fits, row_blank, head_fits, well_formed}
 use Rattle.rule_laws.proofs.ToolLaws.{and_both, both_and, or_left, or_right, or_cases, or_none, by_test, true_not_false, given_on, given_off, given_both, choose_on, choose_off, all_at}
 use Rattle.rule_laws.proofs.LowestLaws.{Among, ZeroFree, among_name, among_named, named_cases, free_named}
 use Rattle.rule_laws.proofs.WeightLaws.{reaches_fewer}
@@ -139,7 +139,7 @@ record_certificates l e s so =
     let r = given_both (all_to last_slot (λ i. row_fits l (suc i))) _ q.1 in
     let f = subst (λ (t : ℕ). row_fits l t ≡ true) is (all_at last_slot (s - 1) (λ i. row_fits l (suc i)) r.0 (omega arith)) in
     let a = and_both (blocks_fit l s (blocks_at l s)) _ f in
-    let b = and_both (timeout_fits l (row_at l s).timed_out && flag (row_at l s).clash) _ a.1 in
+    let b = and_both (flag (row_at l s).timed_out && flag (row_at l s).clash) _ a.1 in
     (and_both (certificates_fit (table_of l) s (certificates_at l s)) _ b.1).0
 
 -- A test that follows from another.
@@ -427,9 +427,9 @@ serves_signers count j k c d s x y e =
     alone false t u = rw (serves_alone j k s t)
 
 -- They weigh the same.
-same_weight_lem : (stakes : List ℕ) (c d : Certificate) → d.maska ≡ c.maska → d.maskb ≡ c.maskb → signed_weight stakes d ≡ signed_weight stakes c
+same_weight : (stakes : List ℕ) (c d : Certificate) → d.maska ≡ c.maska → d.maskb ≡ c.maskb → signed_weight stakes d ≡ signed_weight stakes c
 unfolding signed_weight signed
-same_weight_lem stakes c d x y = rw (x, y)
+same_weight stakes c d x y = rw (x, y)
 
 -- So the checker accepts them as what they serve as.
 pub serves_judged : (stakes : List ℕ) (j k : CertificateKind) (c d : Certificate) → serves_as j k ≡ true → is_other_kind k ≡ false → block_misfits k d.block ≡ false
@@ -451,5 +451,5 @@ serves_judged stakes j k c d s z m es ea eb e =
           (refuse_none (not (slot_ok d.slot)) refusal.BadSlot _ (ap (λ (x : ℕ). not (slot_ok x)) es ∙ p2.0)
           (refuse_none (block_misfits k d.block) refusal.BadBlock _ m
           (refuse_none (bad_signers n k d) refusal.BadSigners _ good
-          (refuse_none (not (reaches (fifths_of k) t (signed_weight stakes d))) _ Fine (ap (λ (v : ℕ). not (reaches (fifths_of k) t v)) (same_weight_lem stakes c d ea eb) ∙ ap not heavy) refl)))),
+          (refuse_none (not (reaches (fifths_of k) t (signed_weight stakes d))) _ Fine (ap (λ (v : ℕ). not (reaches (fifths_of k) t v)) (same_weight stakes c d ea eb) ∙ ap not heavy) refl)))),
     )

@@ -2,7 +2,7 @@
 use Rattle.std.specs.Prelude.{Bool, not, ◌&&◌, List, [], ◌∷◌, ◌++◌, ℕ, length, T}
 use Rattle.rulebook.specs.declared.Input.{Input}
 use Rattle.rulebook.specs.PaperNumbers.{step_panel, verdict_number, write_panel}
-use Rattle.rulebook.specs.Ledger.{Ledger, fresh, row_at, is_watcher, put_timed_out, put_clash}
+use Rattle.rulebook.specs.Ledger.{Ledger, fresh, row_at, is_watcher, put_timed_out}
 use Rattle.rulebook.specs.Inputs.{start_verdict, watch_verdict}
 use Rattle.rulebook.specs.Taking.{of_packet, served}
 use Rattle.rulebook.specs.Writers.{write_proof}
@@ -39,28 +39,16 @@ walks =
     equals (answers (watcher (5 ∷ [])) (vote 1 0 2 9 ∷ block 1 7 0 1 ∷ block 2 9 1 7 ∷ []))
     ((0 ∷ 7 ∷ 1 ∷ 0 ∷ 6 ∷ 2 ∷ 9 ∷ []) ∷ (0 ∷ []) ∷ (0 ∷ 6 ∷ 1 ∷ 7 ∷ []) ∷ [])
 
--- A step's number.
-abbrev number : Ledger → ℕ → Input → ℕ
-number l room i = (step_panel (step l room i).answer).number
-
--- "Timeouts are refused with 4, right after 17 and 9", whatever the slot; refused ones are not kept.
+-- "Timeouts are refused with 4, right after 17 and 9", whatever the slot; refused ones are not kept. A mark that stands in the record is in
+-- range, and changes nothing of it.
 abbrev timeouts : Bool
 timeouts =
     let l = after (watcher (5 ∷ [])) (look ∷ []) in
-    equal (number (put_timed_out l 0) 0 (timeout 1) ∷ number l 479 (timeout 1) ∷ number l 480 (timeout 1) ∷ number l 480 (timeout 0) ∷ number l 480 (timeout 17) ∷ number l 480 look ∷ [])
-    (17 ∷ 9 ∷ 4 ∷ 4 ∷ 4 ∷ 0 ∷ [])
-    && equal ((row_at (step l 480 (timeout 1)).ledger 1).timed_out ∷ (row_at (step l 480 (timeout 1)).ledger 2).timed_out ∷ []) (0 ∷ 0 ∷ [])
-
--- "an unused place not zero": a timed-out mark in a watcher's record is 17, whichever the slot, also where it left its window unarmed. The mark
--- of two final blocks is a watcher's as well; and a node's record may have both, whichever its number.
-abbrev marked : Bool
-marked =
-    let w = after (watcher (5 ∷ 3 ∷ [])) (look ∷ []) in
-    let as_node : ℕ → Ledger = (λ n. after (fresh (5 ∷ 3 ∷ []) n 1) (look ∷ [])) in
-    equal (number (put_timed_out w 1) 0 (timeout 1) ∷ number (put_timed_out w 2) 480 look ∷ number (put_timed_out w 16) 480 look ∷ number (put_timed_out (watcher (5 ∷ 3 ∷ [])) 1) 480 look ∷ [])
-    (17 ∷ 17 ∷ 17 ∷ 17 ∷ [])
-    && equal (number (put_clash w 2) 480 look ∷ number (put_timed_out (as_node 0) 1) 480 look ∷ number (put_timed_out (as_node 1) 2) 480 look ∷ number (put_timed_out (as_node 1) 16) 480 look ∷ number (put_clash (put_timed_out (as_node 0) 2) 2) 480 look ∷ [])
-    (0 ∷ 0 ∷ 0 ∷ 0 ∷ 0 ∷ [])
+    let marks : Ledger → List ℕ = (λ m. (row_at (step m 480 (timeout 1)).ledger 1).timed_out ∷ (row_at (step m 480 (timeout 1)).ledger 2).timed_out ∷ []) in
+    let number : Ledger → ℕ → Input → ℕ = (λ m room i. (step_panel (step m room i).answer).number) in
+    equal (number (put_timed_out l 0) 0 (timeout 1) ∷ number l 479 (timeout 1) ∷ number l 480 (timeout 1) ∷ number l 480 (timeout 0) ∷ number l 480 (timeout 17) ∷ number l 480 look ∷ number (put_timed_out l 1) 480 (timeout 1) ∷ number (put_timed_out l 1) 480 look ∷ [])
+    (17 ∷ 9 ∷ 4 ∷ 4 ∷ 4 ∷ 0 ∷ 4 ∷ 0 ∷ [])
+    && equals (marks l ∷ marks (put_timed_out l 2) ∷ []) ((0 ∷ 0 ∷ []) ∷ (0 ∷ 1 ∷ []) ∷ [])
 
 -- "6 is never given": votes in any node's name, 2 for a number past the table, the watcher's own place among them.
 abbrev any_name : Bool
@@ -85,6 +73,6 @@ records =
     && equal (verdict_number (start_verdict stakes 3 1) ∷ verdict_number (watch_verdict stakes 1) ∷ verdict_number (watch_verdict stakes 0) ∷ verdict_number (watch_verdict [] 1) ∷ verdict_number (watch_verdict (1 ∷ 0 ∷ []) 1) ∷ verdict_number (watch_verdict stakes 9) ∷ [])
     (1 ∷ 0 ∷ 1 ∷ 1 ∷ 1 ∷ 0 ∷ [])
 
-corners_of_watchers : T (all (never_votes ∷ no_fallback ∷ walks ∷ timeouts ∷ marked ∷ any_name ∷ takes ∷ records ∷ []))
+corners_of_watchers : T (all (never_votes ∷ no_fallback ∷ walks ∷ timeouts ∷ any_name ∷ takes ∷ records ∷ []))
 unfolding rules
 corners_of_watchers = tt

@@ -8,8 +8,8 @@ use Rattle.rulebook.specs.declared.Verdict.{Verdict}
 use Rattle.rulebook.specs.declared.Verdict.TheVariants as verdict
 use Rattle.rulebook.specs.Certificates.{Certificate, Kept}
 use Rattle.rulebook.specs.Tools.{whenever, all_to}
-use Rattle.rulebook.specs.Weights.{places_for, last_slot, windows, stakes_fit, total_to}
-use Rattle.rulebook.specs.Ledger.{Ledger, none, places, table_of, row_at, cell_at, is_watcher, own_cell, most_blocks, most_certificates, blocks_at, all_blocks, is_free, no_card, certificates_at, is_kept}
+use Rattle.rulebook.specs.Weights.{places_for, last_slot, windows, stake_in, stakes_fit, total_to}
+use Rattle.rulebook.specs.Ledger.{Ledger, none, places, table_of, row_at, cell_at, own_cell, most_blocks, most_certificates, blocks_at, all_blocks, is_free, no_card, certificates_at, is_kept}
 use Rattle.rulebook.specs.Pool.{place_kind, same_kind}
 use Rattle.rulebook.specs.Cards.{same_card, recount}
 use Rattle.rulebook.specs.Rules.{fallback_weights}
@@ -115,15 +115,11 @@ certificates_apart i (q ∷ qs) =
 unfoldable pub certificates_fit : List ℕ → ℕ → List Kept → Bool
 certificates_fit stakes s qs = each_kept (certificate_fits stakes s) 0 qs && certificates_apart 0 qs
 
--- The mark that a slot's timeout was taken is a flag; "an unused place not zero": a watcher takes none, so in its record the mark is 0.
-unfoldable pub timeout_fits : Ledger → ℕ → Bool
-timeout_fits l x = flag x && (none x || not (is_watcher l))
-
 -- One of the slots 1 to 16.
 unfoldable pub row_fits : Ledger → ℕ → Bool
 row_fits l s =
     blocks_fit l s (blocks_at l s)
-    && ((timeout_fits l (row_at l s).timed_out && flag (row_at l s).clash)
+    && ((flag (row_at l s).timed_out && flag (row_at l s).clash)
     && (certificates_fit (table_of l) s (certificates_at l s) && (cells_fit l s l.count && own_fits l s)))
 
 -- "A node record whose card disagrees with the recount is 17."
@@ -151,7 +147,8 @@ head_fits l =
     eqb (places l) (places_for l.count)
     && ((stakes_fit l.stakes l.count && eqb (total_to l.stakes l.count) l.total)
     && ((leb l.own l.count && not (none l.genesis))
-    && all_to windows (λ w. flag (get_or l.armed w 0))))
+    && (all_to windows (λ w. flag (get_or l.armed w 0))
+    && all_to (places l) (λ n. ltb n l.count || none (stake_in l.stakes n)))))
 
 -- Not 17.
 unfoldable pub well_formed : Ledger → Bool

@@ -4,34 +4,29 @@ use mathlib.Core.Bool.{true, false}
 use mathlib.Core.List.{List, [], ◌∷◌, ◌++◌}
 use Prim.Native.Nat.{ℕ}
 use native.Mathlib.Omega.{arith}
-use borrow.Author.Tests.{leb-true, eq-eqb}
-use lib.Dec.{T, eqb, eqb→eq, leb}
+use lib.Dec.{T, eqb, eqb→eq}
 use lib.ListN.{length}
 use Rattle.rulebook.specs.declared.Input.TheVariants as input
-use Rattle.rulebook.specs.Weights.{last_slot, slot_ok}
-use Rattle.rulebook.specs.Ledger.{Ledger, is_watcher, fresh}
+use Rattle.rulebook.specs.Ledger.{Ledger, fresh}
 use Rattle.rulebook.specs.Pool.{held}
 use Rattle.rulebook.specs.Rules.{Record}
 use Rattle.rulebook.specs.Taking.{Arrival, of_input, served}
-use Rattle.rule_laws.proofs.ToolLaws.{given_on, given_off, and_both, by_test}
+use Rattle.rule_laws.proofs.ToolLaws.{given_on, given_off, by_test}
 use Rattle.settling.specs.Steps.{after}
-use Rattle.settling.proofs.Start.{watching_sound}
-use Rattle.settling.proofs.Life.{life_paid}
-use Rattle.soundness.proofs.Laws.{sound_unmarked}
 use Rattle.watchers.specs.Watching.{tells_vote, vote_in, as_votes, shown, SamePool}
 use Rattle.watchers.proofs.Following as following
 use Rattle.watchers.proofs.Silent as silent
 use Rattle.safety.specs.Ballots.{same_record, among}
 use Rattle.safety.specs.Ring.{after_all}
 use Rattle.safety.proofs.Tests.{and_t, or_t}
-use Rattle.seen.specs.Seen.{Seen, ledger_in, WatcherSeen}
+use Rattle.seen.specs.Seen.{ledger_in}
 use Rattle.safety.specs.Ring.{cast_by}
 use Rattle.safety.specs.Watchers.{HoldsGenuine}
 use Rattle.safety.proofs.Lives.{watch_sized}
 use Rattle.safety.proofs.Safety.{in_table_lem}
 use Rattle.safety.proofs.Watchers as book
 use Rattle.seen.specs.Ring.{told_ballot}
-use Rattle.seen.specs.Watchers.{WatcherNeverVotes, WatcherUnmarked, WatcherFollows, WatchedGenuine, WatchedMailIsEnough}
+use Rattle.seen.specs.Watchers.{WatcherNeverVotes, WatcherFollows, WatchedGenuine, WatchedMailIsEnough}
 use Rattle.seen.proofs.More.{holds_more, fed_more}
 use Rattle.seen.proofs.Ring.{told_cast, cast_told, book_ring}
 use Rattle.seen.proofs.Written.{holds}
@@ -60,20 +55,6 @@ silent_among n (x ∷ rs) e r t =
 pub watcher_never_votes : WatcherNeverVotes
 watcher_never_votes stakes genesis v h r t =
     silent_among 0 v.told (ap (as_votes 0) h.lived.records ∙ silent.watcher_never_votes stakes genesis h.started v.came 0) r t
-
--- It is a watcher to the end.
-still_watches : (stakes : List ℕ) (genesis : ℕ) (v : Seen) → WatcherSeen stakes genesis v → is_watcher (ledger_in v) ≡ true
-unfolding is_watcher fresh
-still_watches stakes genesis v h =
-    let l : Ledger = fresh stakes (length stakes) genesis in
-    let s = (life_paid l v.came (watching_sound stakes genesis h.started)).same in
-    ap is_watcher (h.lived.ledger ∙ sym (after_all_lem l v.came)) ∙ (λ i. eqb (s.own i) (s.count i)) ∙ eq-eqb (length stakes) (length stakes) refl
-
-pub watcher_unmarked : WatcherUnmarked
-unfolding slot_ok
-watcher_unmarked stakes genesis v h s ok =
-    let range = and_both (leb 1 s) (leb s last_slot) ok in
-    sound_unmarked v.words h.lived.sound (still_watches stakes genesis v h) s (leb-true 1 s range.0) (leb-true s last_slot range.1)
 
 pub watcher_follows : WatcherFollows
 watcher_follows stakes own genesis v w h k e =

@@ -1,9 +1,8 @@
 -- WATCHERS over what is seen of them: "a node that never votes"; a watcher beside a voting node; "a watcher has no stake in demand 3 and its written
 -- proofs pass the checker". A ring may have any number of them, and says nothing of them.
-use Rattle.std.specs.Prelude.{◌≡◌, true, false, List, ℕ, T}
+use Rattle.std.specs.Prelude.{◌≡◌, false, List, ℕ, T}
 use Rattle.rulebook.specs.declared.CertificateKind.{CertificateKind}
-use Rattle.rulebook.specs.Weights.{slot_ok}
-use Rattle.rulebook.specs.Ledger.{fresh, row_at}
+use Rattle.rulebook.specs.Ledger.{fresh}
 use Rattle.rulebook.specs.Pool.{held}
 use Rattle.rulebook.specs.Rules.{Record}
 use Rattle.watchers.specs.Watching.{tells_vote, shown, SamePool}
@@ -17,10 +16,6 @@ use Rattle.seen.specs.Written.{CertificateGenuine, ProofGenuine}
 -- Nothing that a watcher told is a record of the kinds 1 to 5.
 abbrev pub WatcherNeverVotes : Type 0
 WatcherNeverVotes = (stakes : List ℕ) (genesis : ℕ) (v : Seen) → WatcherSeen stakes genesis v → (r : Record) → T (among v.told r) → tells_vote r ≡ false
-
--- No slot has the mark that its timeout was taken, at any moment of a watcher's life.
-abbrev pub WatcherUnmarked : Type 0
-WatcherUnmarked = (stakes : List ℕ) (genesis : ℕ) (v : Seen) → WatcherSeen stakes genesis v → (s : ℕ) → slot_ok s ≡ true → (row_at (ledger_in v) s).timed_out ≡ 0
 
 -- The words of a node and of a watcher mean the same votes, blocks and certificates, and the same certificates are held.
 abbrev pub PoolsEqual : Seen → Seen → Type 0

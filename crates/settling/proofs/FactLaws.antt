@@ -10,11 +10,11 @@ use Rattle.rulebook.specs.declared.Cell.{Cell}
 use Rattle.rulebook.specs.declared.Tally.{Tally}
 use Rattle.rulebook.specs.Tools.{whenever, all_to}
 use Rattle.rulebook.specs.Weights.{most_nodes, places_for, most_stake, last_slot, windows, stake_in, stakes_fit, total_to}
-use Rattle.rulebook.specs.Ledger.{Ledger, Row, none, no_cell, places, table_of, row_at, cell_at, is_watcher}
+use Rattle.rulebook.specs.Ledger.{Ledger, Row, none, no_cell, places, table_of, row_at, cell_at}
 use Rattle.rulebook.specs.Cards.{same_card, recount}
-use Rattle.rulebook.specs.WellFormed.{flag, in_order, cell_fits, cell_blank, cells_fit, blocks_fit, certificates_fit, own_fits, timeout_fits, row_fits, card_fits, row_blank, head_fits, well_formed}
+use Rattle.rulebook.specs.WellFormed.{flag, in_order, cell_fits, cell_blank, cells_fit, blocks_fit, certificates_fit, own_fits, row_fits, card_fits, row_blank, head_fits, well_formed}
 use Rattle.rule_laws.proofs.ToolLaws.{given_both, given_on, given_off, and_both, both_and, or_left, or_right, or_cases, by_test, true_not_false, all_at, all_each}
-use Rattle.rule_laws.proofs.PlaceLaws.{placed_each, nodes_placed}
+use Rattle.rule_laws.proofs.PlaceLaws.{nodes_placed}
 use Rattle.recounting.proofs.Using.{same_card_lem, card_same}
 use Rattle.settling.specs.Facts.{CellFacts, RowFacts, HeadFacts, Formed}
 
@@ -54,22 +54,6 @@ facts_cell c f =
     (both_and (in_order c.fallback1 c.fallback2) _ f.second
     (both_and (in_order c.fallback2 c.fallback3) _ f.third f.apart)))
 
--- ---- a timeout's mark
-
-timeout_facts : (l : Ledger) (x : ℕ) → timeout_fits l x ≡ true → (x ≤ 1) × (is_watcher l ≡ true → x ≡ 0)
-unfolding timeout_fits
-timeout_facts l x e =
-    let p = and_both (flag x) (none x || not (is_watcher l)) e in (
-      leb-true x 1 p.0,
-      λ w. or_cases (none x) (not (is_watcher l)) p.1 (λ t. eqb-true x 0 t) (λ t. true_not_false (is_watcher l) w (not-true (is_watcher l) t)),
-    )
-
-facts_timeout : (l : Ledger) (x : ℕ) → x ≤ 1 → (is_watcher l ≡ true → x ≡ 0) → timeout_fits l x ≡ true
-unfolding timeout_fits
-facts_timeout l x a z =
-    both_and (flag x) (none x || not (is_watcher l)) (le-leb x 1 a)
-    (by_test (is_watcher l) (λ w. or_left (none x) (not (is_watcher l)) (eq-eqb x 0 (z w))) (λ v. or_right (none x) (not (is_watcher l)) (ap not v)))
-
 -- ---- a row
 
 -- The test of a row, said of the row.
@@ -81,15 +65,13 @@ unfolding row_fits cells_fit
 row_facts l s e =
     let r : Row = row_at l s in
     let p = and_both (blocks_fit l s r.blocks) _ e in
-    let z = and_both (timeout_fits l r.timed_out && flag r.clash) (certificates_fit (table_of l) s r.certificates && (cells_fit l s l.count && own_fits l s)) p.1 in
+    let z = and_both (flag r.timed_out && flag r.clash) (certificates_fit (table_of l) s r.certificates && (cells_fit l s l.count && own_fits l s)) p.1 in
     let y = and_both (certificates_fit (table_of l) s r.certificates) (cells_fit l s l.count && own_fits l s) z.1 in
     let q = and_both (cells_fit l s l.count) (own_fits l s) y.1 in
-    let m = and_both (timeout_fits l r.timed_out) (flag r.clash) z.0 in
     record {
       blocks = p.0;
-      timed_out = (timeout_facts l r.timed_out m.0).0;
-      unmarked = (timeout_facts l r.timed_out m.0).1;
-      clash = leb-true r.clash 1 m.1;
+      timed_out = leb-true r.timed_out 1 (and_both (flag r.timed_out) (flag r.clash) z.0).0;
+      clash = leb-true r.clash 1 (and_both (flag r.timed_out) (flag r.clash) z.0).1;
       certificates = y.0;
       cells = λ n a b. sym (given_on (ltb n l.count) (cell_blank (cell_at l s n)) (λ _. cell_fits (cell_at l s n)) (lt-ltb n l.count b)) ∙ all_at (places l) n (cell_ok r l.count) q.0 a;
       beyond = λ n a b. sym (given_off (ltb n l.count) (cell_blank (cell_at l s n)) (λ _. cell_fits (cell_at l s n)) (le-ltb n l.count (omega arith))) ∙ all_at (places l) n (cell_ok r l.count) q.0 a;
@@ -101,7 +83,7 @@ unfolding row_fits
 row_own l s e =
     let r : Row = row_at l s in
     let p = and_both (blocks_fit l s r.blocks) _ e in
-    let z = and_both (timeout_fits l r.timed_out && flag r.clash) (certificates_fit (table_of l) s r.certificates && (cells_fit l s l.count && own_fits l s)) p.1 in
+    let z = and_both (flag r.timed_out && flag r.clash) (certificates_fit (table_of l) s r.certificates && (cells_fit l s l.count && own_fits l s)) p.1 in
     let y = and_both (certificates_fit (table_of l) s r.certificates) (cells_fit l s l.count && own_fits l s) z.1 in
     (and_both (cells_fit l s l.count) (own_fits l s) y.1).1
 
@@ -110,8 +92,8 @@ unfolding row_fits cells_fit
 facts_row l s f o =
     let r : Row = row_at l s in
     both_and (blocks_fit l s r.blocks) _ f.blocks
-    (both_and (timeout_fits l r.timed_out && flag r.clash) (certificates_fit (table_of l) s r.certificates && (cells_fit l s l.count && own_fits l s))
-    (both_and (timeout_fits l r.timed_out) (flag r.clash) (facts_timeout l r.timed_out f.timed_out f.unmarked) (le-leb r.clash 1 f.clash))
+    (both_and (flag r.timed_out && flag r.clash) (certificates_fit (table_of l) s r.certificates && (cells_fit l s l.count && own_fits l s))
+    (both_and (flag r.timed_out) (flag r.clash) (le-leb r.timed_out 1 f.timed_out) (le-leb r.clash 1 f.clash))
     (both_and (certificates_fit (table_of l) s r.certificates) (cells_fit l s l.count && own_fits l s) f.certificates
     (both_and (cells_fit l s l.count) (own_fits l s)
     (all_each (places l) (cell_ok r l.count) (λ n a.
@@ -120,6 +102,9 @@ facts_row l s f o =
     (λ t. given_off (ltb n l.count) (cell_blank (cell_at l s n)) (λ _. cell_fits (cell_at l s n)) t ∙ f.beyond n a (ltb-false n l.count t)))) o)))
 
 -- ---- the head
+
+abbrev stake_ok : Ledger → ℕ → Bool
+stake_ok l n = ltb n l.count || none (stake_in l.stakes n)
 
 pub head_facts : (l : Ledger) → head_fits l ≡ true → HeadFacts l
 unfolding head_fits stakes_fit
@@ -133,6 +118,7 @@ head_facts l e =
     let sum : total_to l.stakes l.count ≡ l.total = eqb-true (total_to l.stakes l.count) l.total q.1 in
     let r = and_both (leb l.own l.count && not (none l.genesis)) _ p.1 in
     let own = and_both (leb l.own l.count) (not (none l.genesis)) r.0 in
+    let rest = and_both (all_to windows (λ w. flag (get_or l.armed w 0))) (all_to (places l) (stake_ok l)) r.1 in
     record {
       room = eqb-true (places l) (places_for l.count) z.0;
       some = leb-true 1 l.count size.0;
@@ -142,7 +128,10 @@ head_facts l e =
       small = subst (λ (t : ℕ). t ≤ most_stake) sum (leb-true (total_to l.stakes l.count) most_stake stakes.1);
       mine = leb-true l.own l.count own.0;
       genesis = not-true (none l.genesis) own.1;
-      armed = λ w h. leb-true (get_or l.armed w 0) 1 (all_at windows w (λ w. flag (get_or l.armed w 0)) r.1 h);
+      armed = λ w h. leb-true (get_or l.armed w 0) 1 (all_at windows w (λ w. flag (get_or l.armed w 0)) rest.0 h);
+      unused = λ n a b.
+          or_cases (ltb n l.count) (none (stake_in l.stakes n)) (all_at (places l) n (stake_ok l) rest.1 a)
+          (λ t. true_not_false (ltb n l.count) t (le-ltb n l.count b)) (λ t. eqb-true (stake_in l.stakes n) 0 t);
     }
 
 pub facts_head : (l : Ledger) → HeadFacts l → head_fits l ≡ true
@@ -159,18 +148,15 @@ facts_head l f =
     (eq-eqb (total_to l.stakes l.count) l.total f.sum))
     (both_and (leb l.own l.count && not (none l.genesis)) _
     (both_and (leb l.own l.count) (not (none l.genesis)) (le-leb l.own l.count f.mine) (ap not f.genesis))
-    (all_each windows (λ w. flag (get_or l.armed w 0)) (λ w h. le-leb (get_or l.armed w 0) 1 (f.armed w h)))))
+    (both_and (all_to windows (λ w. flag (get_or l.armed w 0))) (all_to (places l) (stake_ok l))
+    (all_each windows (λ w. flag (get_or l.armed w 0)) (λ w h. le-leb (get_or l.armed w 0) 1 (f.armed w h)))
+    (all_each (places l) (stake_ok l) (λ n a.
+    by_test (ltb n l.count) (λ t. or_left (ltb n l.count) (none (stake_in l.stakes n)) t)
+    (λ t. or_right (ltb n l.count) (none (stake_in l.stakes n)) (eq-eqb (stake_in l.stakes n) 0 (f.unused n a (ltb-false n l.count t)))))))))
 
 -- Every node has a place.
 pub count_placed : (l : Ledger) → HeadFacts l → l.count ≤ places l
 count_placed l f = omega (arith, f.room, nodes_placed l.count f.few)
-
--- Nothing need be asked of the stakes past the last node's: there is no place for one.
-pub nothing_past : (l : Ledger) → head_fits l ≡ true → all_to (places l) (λ n. ltb n l.count || none (stake_in l.stakes n)) ≡ true
-nothing_past l e =
-    let f = head_facts l e in
-    all_each (places l) (λ n. ltb n l.count || none (stake_in l.stakes n))
-    (λ n h. or_left (ltb n l.count) (none (stake_in l.stakes n)) (lt-ltb n l.count (omega (arith, h, f.room, placed_each l.count f.few))))
 
 -- ---- the card
 

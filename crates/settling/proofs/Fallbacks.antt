@@ -152,11 +152,11 @@ module _ (l : Ledger) (h : Sound l) (s : ℕ) where
   rows_there : (t : ℕ) → t ≤ last_slot → t < length l.rows
   rows_there t high = omega (arith, h.shaped.rows)
 
-  timed_out_taken : (t : ℕ) → 1 ≤ t → t ≤ last_slot → is_watcher l ≡ false → Taken s left (state_of (put_timed_out l t) [])
+  timed_out_taken : (t : ℕ) → 1 ≤ t → t ≤ last_slot → Taken s left (state_of (put_timed_out l t) [])
   unfolding fallbacks_told
-  timed_out_taken t low high v =
+  timed_out_taken t low high =
       let r : Row = row_at l t in
-      record { sound = sound_timed_out l h t low high v; balance = omega (arith, left_row l s t r.blocks 1 r.final r.clash r.certificates (rows_there t high)) }
+      record { sound = sound_timed_out l h t low high; balance = omega (arith, left_row l s t r.blocks 1 r.final r.clash r.certificates (rows_there t high)) }
 
   -- Another node's vote.
   outside_left : (v : Vote) → VoteFine l v → fallbacks_left (own_cell (store_vote l v.slot.0 v.node.0 v.kind v.block) s) ≡ left
@@ -180,7 +180,7 @@ module _ (l : Ledger) (h : Sound l) (s : ℕ) where
   intake_taken (input.Timeout t) e =
       let f = timeout_fine l t.0 e in
       let o : State = state_of (put_timed_out l t.0) [] in
-      let k = timed_out_taken t.0 f.low f.high f.votes in
+      let k = timed_out_taken t.0 f.low f.high in
       given_keeps (Taken s left) (no_initial (own_cell l t.0)) o (λ _. cast_skips o t.0) k
       (λ _. (skips_keep (AndVotes (Taken s left)) (voter_casting (Taken s left) (taken_lawful s left)) t.0 f.low f.high o (k, f.votes)).0)
   intake_taken input.Look e = record { sound = h; balance = omega arith }

@@ -15,7 +15,7 @@ use Rattle.rulebook.specs.declared.VoteKind.TheVariants as vote
 use Rattle.rulebook.specs.declared.Place.TheVariants.{Free}
 use Rattle.rulebook.specs.Tools.{whenever, all_to}
 use Rattle.rulebook.specs.Weights.{last_slot, window_of}
-use Rattle.rulebook.specs.Ledger.{Ledger, Row, none, no_cell, no_initial, places, table_of, no_card, row_at, cell_at, is_watcher, blocks_at, all_blocks, is_free, fill_block, put_row, put_blocks, put_certificates, put_timed_out, put_final, put_clash, put_armed}
+use Rattle.rulebook.specs.Ledger.{Ledger, Row, none, no_cell, no_initial, places, table_of, no_card, row_at, cell_at, blocks_at, all_blocks, is_free, fill_block, put_row, put_blocks, put_certificates, put_timed_out, put_final, put_clash, put_armed}
 use Rattle.rulebook.specs.Pool.{has_fallback}
 use Rattle.rulebook.specs.Votes.{place_of, with_vote, fill_fallback, store_vote}
 use Rattle.rulebook.specs.Cards.{tallied, recount, change_of, same_card}
@@ -159,19 +159,13 @@ blocks_same l m s bs e f =
     let p = and_both (all_blocks (kept_fits l s) bs) (blocks_apart bs) f in
     both_and (all_blocks (kept_fits m s) bs) (blocks_apart bs) (all_mono (kept_fits l s) (kept_fits m s) bs (λ k q. kept_same l m s k e ∙ q) p.0) p.1
 
--- Who is a watcher depends on own number and count.
-watcher_same : (l m : Ledger) → m.own ≡ l.own → m.count ≡ l.count → is_watcher m ≡ is_watcher l
-unfolding is_watcher
-watcher_same l m o n = λ i. eqb (o i) (n i)
-
--- So the facts of a row are the same in a ledger with the same own number, genesis, count and stakes.
-pub row_same : (l m : Ledger) (s : ℕ) (r : Row) → m.own ≡ l.own → m.genesis ≡ l.genesis → m.count ≡ l.count → m.stakes ≡ l.stakes → RowFacts l s r → RowFacts m s r
-row_same l m s r o g n e f =
+-- So the facts of a row are the same in a ledger with the same genesis, count and stakes.
+pub row_same : (l m : Ledger) (s : ℕ) (r : Row) → m.genesis ≡ l.genesis → m.count ≡ l.count → m.stakes ≡ l.stakes → RowFacts l s r → RowFacts m s r
+row_same l m s r g n e f =
     let k : places m ≡ places l = ap length e in
     record {
       blocks = blocks_same l m s r.blocks g f.blocks;
       timed_out = f.timed_out;
-      unmarked = λ w. f.unmarked (sym (watcher_same l m o n) ∙ w);
       clash = f.clash;
       certificates = subst (λ (ws : List ℕ). certificates_fit ws s r.certificates ≡ true) (sym (ap (λ (c : ℕ). take c m.stakes) n ∙ ap (λ (ws : List ℕ). take l.count ws) e)) f.certificates;
       cells = λ i a b. f.cells i (omega arith) (omega arith);
@@ -210,10 +204,11 @@ module _ (l : Ledger) (h : Shaped (places l) l) (f : Formed l) where
               mine = d.mine;
               genesis = d.genesis;
               armed = d.armed;
+              unused = d.unused;
             };
         blank = blank_is m ∙ ap (blank_of (places l)) (row_else l s r 0 (λ e. omega arith)) ∙ sym (blank_is l) ∙ f.blank;
         rows = λ t p q.
-            row_same l m t (row_at m t) refl refl refl refl
+            row_same l m t (row_at m t) refl refl refl
             (row_cases l s r (RowFacts l) t (omega (arith, h.rows)) g (λ _. f.rows t p q));
         own = λ t p q. own t (f.own t p q);
         cards = λ t p q.
@@ -235,7 +230,6 @@ module _ (l : Ledger) (h : Shaped (places l) l) (f : Formed l) where
         (record {
           blocks = g.blocks;
           timed_out = g.timed_out;
-          unmarked = g.unmarked;
           clash = g.clash;
           certificates = g.certificates;
           cells = λ i p q.
@@ -254,7 +248,7 @@ module _ (l : Ledger) (h : Shaped (places l) l) (f : Formed l) where
         let r : Row = row_at l s in
         let g = f.rows s a b in
         formed_row s (record { blocks = xs; timed_out = r.timed_out; final = r.final; clash = r.clash; card = r.card; certificates = r.certificates; cells = r.cells }) a b
-        (record { blocks = e; timed_out = g.timed_out; unmarked = g.unmarked; clash = g.clash; certificates = g.certificates; cells = g.cells; beyond = g.beyond }) (own_row l s _ (omega (arith, h.rows)) refl)
+        (record { blocks = e; timed_out = g.timed_out; clash = g.clash; certificates = g.certificates; cells = g.cells; beyond = g.beyond }) (own_row l s _ (omega (arith, h.rows)) refl)
         (f.cards s a b ∙ sym (recount_row l s _ (omega (arith, h.rows)) refl))
 
     -- Certificates that may be kept.
@@ -263,16 +257,15 @@ module _ (l : Ledger) (h : Shaped (places l) l) (f : Formed l) where
         let r : Row = row_at l s in
         let g = f.rows s a b in
         formed_row s (record { blocks = r.blocks; timed_out = r.timed_out; final = r.final; clash = r.clash; card = r.card; certificates = qs; cells = r.cells }) a b
-        (record { blocks = g.blocks; timed_out = g.timed_out; unmarked = g.unmarked; clash = g.clash; certificates = e; cells = g.cells; beyond = g.beyond }) (own_row l s _ (omega (arith, h.rows)) refl)
+        (record { blocks = g.blocks; timed_out = g.timed_out; clash = g.clash; certificates = e; cells = g.cells; beyond = g.beyond }) (own_row l s _ (omega (arith, h.rows)) refl)
         (f.cards s a b ∙ sym (recount_row l s _ (omega (arith, h.rows)) refl))
 
-    -- The mark of a timeout, which no watcher takes.
-    pub formed_timed_out : is_watcher l ≡ false → Formed (put_timed_out l s)
-    formed_timed_out v =
+    pub formed_timed_out : Formed (put_timed_out l s)
+    formed_timed_out =
         let r : Row = row_at l s in
         let g = f.rows s a b in
         formed_row s (record { blocks = r.blocks; timed_out = 1; final = r.final; clash = r.clash; card = r.card; certificates = r.certificates; cells = r.cells }) a b
-        (record { blocks = g.blocks; timed_out = omega arith; unmarked = λ w. true_not_false (is_watcher l) w v; clash = g.clash; certificates = g.certificates; cells = g.cells; beyond = g.beyond }) (own_row l s _ (omega (arith, h.rows)) refl)
+        (record { blocks = g.blocks; timed_out = omega arith; clash = g.clash; certificates = g.certificates; cells = g.cells; beyond = g.beyond }) (own_row l s _ (omega (arith, h.rows)) refl)
         (f.cards s a b ∙ sym (recount_row l s _ (omega (arith, h.rows)) refl))
 
     pub formed_final : (x : ℕ) → Formed (put_final l s x)
@@ -280,7 +273,7 @@ module _ (l : Ledger) (h : Shaped (places l) l) (f : Formed l) where
         let r : Row = row_at l s in
         let g = f.rows s a b in
         formed_row s (record { blocks = r.blocks; timed_out = r.timed_out; final = x; clash = r.clash; card = r.card; certificates = r.certificates; cells = r.cells }) a b
-        (record { blocks = g.blocks; timed_out = g.timed_out; unmarked = g.unmarked; clash = g.clash; certificates = g.certificates; cells = g.cells; beyond = g.beyond }) (own_row l s _ (omega (arith, h.rows)) refl)
+        (record { blocks = g.blocks; timed_out = g.timed_out; clash = g.clash; certificates = g.certificates; cells = g.cells; beyond = g.beyond }) (own_row l s _ (omega (arith, h.rows)) refl)
         (f.cards s a b ∙ sym (recount_row l s _ (omega (arith, h.rows)) refl))
 
     pub formed_clash : Formed (put_clash l s)
@@ -288,7 +281,7 @@ module _ (l : Ledger) (h : Shaped (places l) l) (f : Formed l) where
         let r : Row = row_at l s in
         let g = f.rows s a b in
         formed_row s (record { blocks = r.blocks; timed_out = r.timed_out; final = r.final; clash = 1; card = r.card; certificates = r.certificates; cells = r.cells }) a b
-        (record { blocks = g.blocks; timed_out = g.timed_out; unmarked = g.unmarked; clash = omega arith; certificates = g.certificates; cells = g.cells; beyond = g.beyond }) (own_row l s _ (omega (arith, h.rows)) refl)
+        (record { blocks = g.blocks; timed_out = g.timed_out; clash = omega arith; certificates = g.certificates; cells = g.cells; beyond = g.beyond }) (own_row l s _ (omega (arith, h.rows)) refl)
         (f.cards s a b ∙ sym (recount_row l s _ (omega (arith, h.rows)) refl))
 
     pub formed_armed : Formed (put_armed l s)
@@ -311,9 +304,10 @@ module _ (l : Ledger) (h : Shaped (places l) l) (f : Formed l) where
                     by_test (eqb i w)
                     (λ t. let e = ap (λ (z : ℕ). get_or (set l.armed w 1) z 0) (eqb-true i w t) ∙ get_or-set_same l.armed w 1 0 (omega (arith, window_low s a b, h.armed)) in omega (arith, e))
                     (λ t. let e = get_or-set_other l.armed w i 1 0 (eqb-false i w t) in omega (arith, e, d.armed i p));
+                unused = d.unused;
               };
           blank = blank_is m ∙ sym (blank_is l) ∙ f.blank;
-          rows = λ t p q. row_same l m t (row_at l t) refl refl refl refl (f.rows t p q);
+          rows = λ t p q. row_same l m t (row_at l t) refl refl refl (f.rows t p q);
           own = λ t p q. own_cells l m (record { own = refl; count = refl; total = refl; stakes = refl }) t (λ n. refl) (f.own t p q);
           cards = λ t p q. f.cards t p q ∙ sym (recount_same l m t refl refl (λ n. refl));
         }

@@ -91,11 +91,11 @@ module _ (l : Ledger) (h : Sound l) where
         same = record { own = refl; count = refl; total = refl; genesis = refl; stakes = refl };
       }
 
-  pub timed_out_paid : (s : ℕ) → 1 ≤ s → s ≤ last_slot → is_watcher l ≡ false → Paid l (put_timed_out l s) 0
-  timed_out_paid s low high v =
+  pub timed_out_paid : (s : ℕ) → 1 ≤ s → s ≤ last_slot → Paid l (put_timed_out l s) 0
+  timed_out_paid s low high =
       record {
         spent = omega (arith, spare_timed_out l s h.shaped low high);
-        sound = sound_timed_out l h s low high v;
+        sound = sound_timed_out l h s low high;
         same = record { own = refl; count = refl; total = refl; genesis = refl; stakes = refl };
       }
 
@@ -104,7 +104,7 @@ module _ (l : Ledger) (h : Sound l) where
   unfolding time_out is_watcher
   time_out_paid s low high v =
       let o : State = state_of (put_timed_out l s) [] in
-      let p = timed_out_paid s low high v in
+      let p = timed_out_paid s low high in
       given_keeps (λ (q : State). Paid l q.ledger (made q)) (no_initial (own_cell l s)) o (λ _. cast_skips o s) p
       (λ _. paid_came l o (cast_skips o s) p (skips_come o p.sound s low high v))
 

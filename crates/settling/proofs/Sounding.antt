@@ -84,11 +84,11 @@ module _ (l : Ledger) (h : Sound l) (s : ℕ) (a : 1 ≤ s) (b : s ≤ last_slot
         formed = well_formed_lem (keep_block l s x) (formed_blocks l h.shaped (formed l h.formed) s a b (fill_block x (blocks_at l s)) (fine_blocks l s x e ((formed l h.formed).rows s a b).blocks));
       }
 
-  pub sound_timed_out : is_watcher l ≡ false → Sound (put_timed_out l s)
-  sound_timed_out v =
+  pub sound_timed_out : Sound (put_timed_out l s)
+  sound_timed_out =
       record {
         shaped = timed_out_shaped l h.shaped s b;
-        formed = well_formed_lem (put_timed_out l s) (formed_timed_out l h.shaped (formed l h.formed) s a b v);
+        formed = well_formed_lem (put_timed_out l s) (formed_timed_out l h.shaped (formed l h.formed) s a b);
       }
 
   pub sound_final : (x : ℕ) → Sound (put_final l s x)

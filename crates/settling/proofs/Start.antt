@@ -74,7 +74,6 @@ blank_facts l s p =
     record {
       blocks = refl;
       timed_out = omega arith;
-      unmarked = λ w. refl;
       clash = omega arith;
       certificates = blank_certificates (table_of l) s;
       cells = λ n a b. ap cell_fits (blank_cell p n) ∙ no_cell_fits;
@@ -94,6 +93,12 @@ row_zero l p e =
     (λ n a. given_off (ltb n 0) (cell_blank (get_or (blank_row p).cells n no_cell)) (λ _. cell_fits (get_or (blank_row p).cells n no_cell)) (le-ltb n 0 (omega arith)) ∙ ap cell_blank (blank_cell p n) ∙ no_cell_blank))
 
 -- ---- the stakes in their places
+
+-- Past the nodes there is no stake.
+pub stake_past : (ws : List ℕ) (k n : ℕ) → length ws ≤ n → stake_in (ws ++ replicate k 0) n ≡ 0
+stake_past [] k n h = replicate_all k n 0
+stake_past (w ∷ ws) k zero h = absurd (omega arith)
+stake_past (w ∷ ws) k (suc n) h = stake_past ws k n (omega arith)
 
 -- Of the nodes each has its own.
 pub stake_there : (ws : List ℕ) (k n : ℕ) → n < length ws → stake_in (ws ++ replicate k 0) n ≡ stake_in ws n
@@ -132,6 +137,7 @@ module _ (stakes : List ℕ) (own genesis : ℕ) (b : Begun stakes own genesis) 
               mine = b.mine;
               genesis = b.first;
               armed = λ w h. omega (arith, replicate_all {A = ℕ} windows w 0);
+              unused = λ n a b. stake_past stakes k n b;
             };
         blank = row_zero l p (get_or-replicate (suc last_slot) 0 (blank_row p) no_row (omega arith));
         own = λ s a b. own_blank l s (ap (λ (r : Row). get_or r.cells own no_cell) (get_or-replicate (suc last_slot) s (blank_row p) no_row (omega arith)) ∙ blank_cell p own);

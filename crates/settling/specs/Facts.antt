@@ -2,7 +2,7 @@
 use Rattle.std.specs.Prelude.{◌≡◌, true, false, not, ◌||◌, ℕ, ◌<◌, ◌≤◌, get_or, eqb}
 use Rattle.rulebook.specs.declared.Cell.{Cell}
 use Rattle.rulebook.specs.Weights.{most_nodes, places_for, most_stake, last_slot, windows, stake_in, total_to}
-use Rattle.rulebook.specs.Ledger.{Ledger, Row, none, no_cell, places, table_of, row_at, is_watcher}
+use Rattle.rulebook.specs.Ledger.{Ledger, Row, none, no_cell, places, table_of, row_at}
 use Rattle.rulebook.specs.Cards.{CardsAgree}
 use Rattle.rulebook.specs.WellFormed.{Shaped, in_order, cell_fits, cell_blank, blocks_fit, certificates_fit, own_fits, row_blank, well_formed}
 
@@ -32,7 +32,6 @@ pub record SameTable (l m : Ledger) : Type 0 where
 pub record RowFacts (l : Ledger) (s : ℕ) (r : Row) : Type 0 where
   pub blocks : blocks_fit l s r.blocks ≡ true
   pub timed_out : r.timed_out ≤ 1
-  pub unmarked : is_watcher l ≡ true → r.timed_out ≡ 0
   pub clash : r.clash ≤ 1
   pub certificates : certificates_fit (table_of l) s r.certificates ≡ true
   pub cells : (n : ℕ) → n < places l → n < l.count → cell_fits (get_or r.cells n no_cell) ≡ true
@@ -49,6 +48,7 @@ pub record HeadFacts (l : Ledger) : Type 0 where
   pub mine : l.own ≤ l.count
   pub genesis : none l.genesis ≡ false
   pub armed : (w : ℕ) → w < windows → get_or l.armed w 0 ≤ 1
+  pub unused : (n : ℕ) → n < places l → l.count ≤ n → stake_in l.stakes n ≡ 0
 
 -- Well-formed.
 pub record Formed (l : Ledger) : Type 0 where

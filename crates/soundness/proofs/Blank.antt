@@ -10,10 +10,10 @@ use Rattle.rulebook.specs.declared.Block.{Block}
 use Rattle.rulebook.specs.declared.Tally.{Tally}
 use Rattle.rulebook.specs.Tools.{all_to}
 use Rattle.rulebook.specs.Weights.{last_slot}
-use Rattle.rulebook.specs.Ledger.{Ledger, Row, none, no_block, no_card, places, table_of, row_at, is_watcher, blocks_at, all_blocks, is_free, certificates_at}
+use Rattle.rulebook.specs.Ledger.{Ledger, Row, none, no_block, no_card, places, table_of, row_at, blocks_at, all_blocks, is_free, certificates_at}
 use Rattle.rulebook.specs.Cards.{same_card}
-use Rattle.rulebook.specs.WellFormed.{flag, block_blank, kept_blank, each_kept, cells_fit, blocks_fit, certificates_fit, timeout_fits, row_blank}
-use Rattle.rule_laws.proofs.ToolLaws.{and_both, both_and, or_left, by_test, true_not_false}
+use Rattle.rulebook.specs.WellFormed.{flag, block_blank, kept_blank, each_kept, cells_fit, blocks_fit, certificates_fit, row_blank}
+use Rattle.rule_laws.proofs.ToolLaws.{and_both, both_and, by_test, true_not_false}
 use Rattle.recounting.proofs.Using.{same_card_lem}
 use Rattle.kept_certificates.proofs.ByPlace as kept
 use Rattle.blank_rows.specs.Blank.{nothing_in}
@@ -34,10 +34,6 @@ first_empty (b ∷ bs) e = eqb-true b.number 0 (and_both (is_free b) _ (and_both
 none_flag : (x : ℕ) → none x ≡ true → flag x ≡ true
 none_flag x e = ap flag (eqb-true x 0 e)
 
-none_timeout : (l : Ledger) (x : ℕ) → none x ≡ true → timeout_fits l x ≡ true
-unfolding timeout_fits
-none_timeout l x e = both_and (flag x) (none x || not (is_watcher l)) (none_flag x e) (or_left (none x) (not (is_watcher l)) e)
-
 pub blank_stands : (l : Ledger) (s : ℕ) → places l ≡ l.count → nothing_in l s ≡ true → true ≡ row_stands l s
 unfolding nothing_in row_stands
 blank_stands l s full e =
@@ -51,8 +47,8 @@ blank_stands l s full e =
     sym
     (both_and (blocks_fit l s (blocks_at l s)) _
     (sym (blank_fits l s r.blocks (get_or r.blocks 0 no_block) refl (first_empty r.blocks p.0)) ∙ p.0)
-    (both_and (timeout_fits l r.timed_out && flag r.clash) _
-    (both_and (timeout_fits l r.timed_out) (flag r.clash) (none_timeout l r.timed_out m.0) (none_flag r.clash (and_both (none r.final) (none r.clash) m.1).1))
+    (both_and (flag r.timed_out && flag r.clash) _
+    (both_and (flag r.timed_out) (flag r.clash) (none_flag r.timed_out m.0) (none_flag r.clash (and_both (none r.final) (none r.clash) m.1).1))
     (both_and (certificates_fit (table_of l) s (certificates_at l s)) _ (kept.blank_fits (table_of l) s r.certificates k.0)
     (sym (votes_blank l s full r.card refl c.0 k.1)))))
 

@@ -11,11 +11,11 @@ use Rattle.rulebook.specs.Tools.{whenever, all_to}
 use Rattle.rulebook.specs.Weights.{most_nodes, most_stake, last_slot, stake_in, total_to, stakes_fit}
 use Rattle.rulebook.specs.declared.Block.{Block}
 use Rattle.rulebook.specs.declared.Cell.{Cell}
-use Rattle.rulebook.specs.Ledger.{Ledger, no_block, no_cell, most_blocks, places, cell_at, is_watcher, own_cell, blocks_at, all_blocks, row_at, certificates_at}
+use Rattle.rulebook.specs.Ledger.{Ledger, no_block, no_cell, most_blocks, places, cell_at, own_cell, blocks_at, all_blocks, row_at, certificates_at}
 use Rattle.rulebook.specs.Ledger as ledgers
 use Rattle.rulebook.specs.Rules.{fallback_weights}
 use Rattle.rulebook.specs.Cards.{CardsAgree, recount}
-use Rattle.rulebook.specs.WellFormed.{flag, in_order, cell_fits, cell_blank, cells_fit, kept_fits, blocks_fit, certificates_fit, backs, own_fits, timeout_fits, row_fits, card_fits, row_blank, head_fits, well_formed}
+use Rattle.rulebook.specs.WellFormed.{flag, in_order, cell_fits, cell_blank, cells_fit, kept_fits, blocks_fit, certificates_fit, backs, own_fits, row_fits, card_fits, row_blank, head_fits, well_formed}
 use Rattle.rule_laws.proofs.ToolLaws.{given_on, given_off, given_both, and_both, both_and, by_test, true_not_false, same_test, all_at, all_each, all_more, all_same}
 use Rattle.rule_laws.proofs.PlaceLaws.{placed_each}
 use Rattle.recounting.proofs.Using.{same_card_lem}
@@ -159,21 +159,21 @@ and_more true b c = refl
 and_more false b c = refl
 
 -- A row by its blocks and marks, then its kept certificates, then its votes.
-module _ (l : Ledger) (s : ℕ) (kept out : Bool) (y : ℕ) (ek : kept ≡ blocks_fit l s (blocks_at l s)) (eo : out ≡ timeout_fits l (row_at l s).timed_out) (ey : y ≡ (row_at l s).clash) where
+module _ (l : Ledger) (s : ℕ) (kept : Bool) (x y : ℕ) (ek : kept ≡ blocks_fit l s (blocks_at l s)) (ex : x ≡ (row_at l s).timed_out) (ey : y ≡ (row_at l s).clash) where
   abbrev judged : Bool
   judged = certificates_fit (ledgers.table_of l) s (certificates_at l s)
 
   abbrev voted : Bool
   voted = cells_fit l s l.count && card_fits l s
 
-  row_is : row_stands l s ≡ ((kept && (out && flag y)) && (judged && voted))
+  row_is : row_stands l s ≡ ((kept && (flag x && flag y)) && (judged && voted))
   unfolding row_stands
-  row_is = (λ i. sym ek i && ((sym eo i && flag (sym ey i)) && (judged && voted))) ∙ and_more kept (out && flag y) (judged && voted)
+  row_is = (λ i. sym ek i && ((flag (sym ex i) && flag (sym ey i)) && (judged && voted))) ∙ and_more kept (flag x && flag y) (judged && voted)
 
-  pub row_off : (kept && (out && flag y)) ≡ false → false ≡ row_stands l s
+  pub row_off : (kept && (flag x && flag y)) ≡ false → false ≡ row_stands l s
   row_off e = sym (row_is ∙ ap (λ (t : Bool). t && (judged && voted)) e)
 
-  module _ (e : (kept && (out && flag y)) ≡ true) where
+  module _ (e : (kept && (flag x && flag y)) ≡ true) where
     row_kept : row_stands l s ≡ (judged && voted)
     row_kept = row_is ∙ ap (λ (t : Bool). t && (judged && voted)) e
 
@@ -186,7 +186,7 @@ module _ (l : Ledger) (s : ℕ) (kept out : Bool) (y : ℕ) (ek : kept ≡ block
 row_split : (l : Ledger) (s : ℕ) → (row_fits l s && card_fits l s) ≡ (row_stands l s && own_fits l s)
 unfolding row_fits row_stands
 row_split l s =
-    own_last (blocks_fit l s (blocks_at l s)) (timeout_fits l (row_at l s).timed_out && flag (row_at l s).clash) (certificates_fit (ledgers.table_of l) s (certificates_at l s)) (cells_fit l s l.count) (card_fits l s)
+    own_last (blocks_fit l s (blocks_at l s)) (flag (row_at l s).timed_out && flag (row_at l s).clash) (certificates_fit (ledgers.table_of l) s (certificates_at l s)) (cells_fit l s l.count) (card_fits l s)
     (own_fits l s)
 
 rows_split : (l : Ledger) → whenever (all_to last_slot (λ i. row_fits l (suc i))) (λ _. all_to last_slot (λ i. card_fits l (suc i))) false ≡ (standing l && owned l)
@@ -208,7 +208,7 @@ row_votes : (l : Ledger) (s : ℕ) → row_stands l s ≡ true → (cells_fit l 
 unfolding row_stands
 row_votes l s e =
     let p = and_both (blocks_fit l s (blocks_at l s)) _ e in
-    let q = and_both (timeout_fits l (row_at l s).timed_out && flag (row_at l s).clash) _ p.1 in
+    let q = and_both (flag (row_at l s).timed_out && flag (row_at l s).clash) _ p.1 in
     and_both (cells_fit l s l.count) (card_fits l s) (and_both (certificates_fit (ledgers.table_of l) s (certificates_at l s)) _ q.1).1
 
 no_cell_fits : cell_fits no_cell ≡ true
@@ -314,13 +314,6 @@ sound_cards ws e = (formed (ledger_of ws) (sound_formed ws e)).cards
 -- "A node record whose card disagrees with the recount is 17."
 pub disagreeing_unsound : (ws : List ℕ) (s : ℕ) → 1 ≤ s → s ≤ last_slot → ((row_at (ledger_of ws) s).card ≡ recount (ledger_of ws) s → ⊥) → sound_words ws ≡ false
 disagreeing_unsound ws s a b ne = by_test (sound_words ws) (λ t. absurd (ne (sound_cards ws t s a b))) (λ t. t)
-
--- No slot of a sound record of a watcher has the mark of a timeout; so "an unused place not zero": a watcher's record with one is 17.
-pub sound_unmarked : (ws : List ℕ) → sound_words ws ≡ true → is_watcher (ledger_of ws) ≡ true → (s : ℕ) → 1 ≤ s → s ≤ last_slot → (row_at (ledger_of ws) s).timed_out ≡ 0
-sound_unmarked ws e w s a b = ((formed (ledger_of ws) (sound_formed ws e)).rows s a b).unmarked w
-
-pub marked_unsound : (ws : List ℕ) (s : ℕ) → 1 ≤ s → s ≤ last_slot → is_watcher (ledger_of ws) ≡ true → ((row_at (ledger_of ws) s).timed_out ≡ 0 → ⊥) → sound_words ws ≡ false
-marked_unsound ws s a b w ne = by_test (sound_words ws) (λ t. absurd (ne (sound_unmarked ws t w s a b))) (λ t. t)
 
 -- Every node of a sound record has a place.
 pub sound_placed : (ws : List ℕ) → sound_words ws ≡ true → (ledger_of ws).count ≤ places (ledger_of ws)

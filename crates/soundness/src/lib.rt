@@ -1,11 +1,11 @@
 // The 17 test.
 #![tactic(auto)]
-ghost use Rattle.std.specs.Prelude.{◌≡◌, ◌&&◌, suc, get_or, eqb};
+ghost use Rattle.std.specs.Prelude.{◌≡◌, ◌&&◌, ◌||◌, suc, get_or, eqb, ltb};
 ghost use Rattle.rulebook.specs.Tools.{all_to};
-ghost use Rattle.rulebook.specs.Weights.{last_slot, windows, stakes_fit, total_to};
-ghost use Rattle.rulebook.specs.Ledger.{row_at, blocks_at, all_blocks};
+ghost use Rattle.rulebook.specs.Weights.{last_slot, windows, stake_in, stakes_fit, total_to};
+ghost use Rattle.rulebook.specs.Ledger.{none, places, blocks_at, all_blocks};
 ghost use Rattle.rulebook.specs.Inputs.{bad_parent};
-ghost use Rattle.rulebook.specs.WellFormed.{flag, kept_fits, blocks_fit, backs, own_fits, timeout_fits, block_blank, row_blank, head_fits};
+ghost use Rattle.rulebook.specs.WellFormed.{flag, kept_fits, blocks_fit, backs, own_fits, block_blank, row_blank, head_fits};
 ghost use Rattle.record.specs.Layout.{Long, InSlot, InBlocks, ledger_of};
 ghost use Rattle.record.specs.BlockPlaces.{behind};
 ghost use Rattle.blank_rows.specs.Blank.{nothing_in};
@@ -18,10 +18,10 @@ use blank_rows::nothing_in;
 use candidates::fallback_weights;
 use kept_audit::certificates_fit;
 use record::{
-    LAST_SLOT, MOST_BLOCKS, WINDOWS, armed_word, clash_word, count, genesis, is_long, is_watcher,
-    load_block, load_card, own, own_cell, places_for, places_in, stakes_of, timeout_word, total,
+    LAST_SLOT, MOST_BLOCKS, WINDOWS, armed_word, clash_word, count, genesis, is_long, load_block,
+    load_card, own, own_cell, places_for, places_in, stake, stakes_of, timeout_word, total,
 };
-use rulebook::{Block, Slot};
+use rulebook::{Block, Node, Slot};
 use stakes::make_table;
 
 // 11: the parent's slot is not below the slot, or it is slot 0 and the parent is not genesis.
@@ -82,23 +82,13 @@ fn blocks_fit(rec: &[u64], s: Slot) -> bool
     ok
 }
 
-// The mark that a slot's timeout was taken: a flag, and 0 in a watcher's record.
-fn timeout_fits(rec: &[u64], s: Slot) -> bool
-    requires { InSlot rec.now s.0 }
-    ensures { result ≡ timeout_fits (ledger_of rec.now) (row_at (ledger_of rec.now) s.0).timed_out }
-{
-    let mark = timeout_word(rec, s);
-    let watches = is_watcher(rec);
-    (mark <= 1) & ((mark == 0) | !watches)
-}
-
 // The parts of the row of one of the slots 1 to 16, but for what its own fallbacks lean on.
 fn row_fits(rec: &[u64], s: Slot) -> bool
     requires { Judging rec.now s.0 }
     ensures { result ≡ row_stands (ledger_of rec.now) s.0 }
 {
     let kept = blocks_fit(rec, s);
-    let marked = timeout_fits(rec, s) & (clash_word(rec, s) <= 1);
+    let marked = (timeout_word(rec, s) <= 1) & (clash_word(rec, s) <= 1);
     if !(kept & marked) {
         return false;
     }
@@ -236,6 +226,21 @@ fn armed_fits(rec: &[u64]) -> bool
     ok
 }
 
+// The stakes past the last node are 0.
+fn rest_fits(rec: &[u64]) -> bool
+    requires { Long rec.now }
+    ensures { result ≡ all_to (places (ledger_of rec.now)) (λ n. ltb n (ledger_of rec.now).count || none (stake_in (ledger_of rec.now).stakes n)) }
+{
+    let m = count(rec);
+    let places = places_in(rec);
+    let mut ok = true;
+    for n in 0..places {
+        let w = stake(rec, Node(n));
+        ok = ok & ((n < m) | (w.0 == 0));
+    }
+    ok
+}
+
 // Places, count, stakes, total, own number, genesis and armed windows.
 fn head_fits(rec: &[u64]) -> bool
     requires { Long rec.now }
@@ -246,7 +251,8 @@ fn head_fits(rec: &[u64]) -> bool
     let me = own(rec);
     let node = (me.0 <= count(rec)) & (genesis(rec) != 0);
     let windows = armed_fits(rec);
-    sized & (table & (node & windows))
+    let rest = rest_fits(rec);
+    sized & (table & (node & (windows & rest)))
 }
 
 // Not 17: whether the words are a node's record.

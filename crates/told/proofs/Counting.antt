@@ -134,7 +134,7 @@ module _ (p : Record → Bool) (f : Ledger → ℕ) (law : Counts p f) where
     intake_counts (input.Timeout t) e =
         let g = timeout_fine l t.0 e in
         let o : State = state_of (put_timed_out l t.0) [] in
-        let k = begins (put_timed_out l t.0) (sound_timed_out l h t.0 g.low g.high g.votes) (row_same t.0 _ g.high refl refl refl) in
+        let k = begins (put_timed_out l t.0) (sound_timed_out l h t.0 g.low g.high) (row_same t.0 _ g.high refl refl refl) in
         given_keeps (Balanced p f (f l)) (no_initial (own_cell l t.0)) o (λ _. cast_skips o t.0) k
         (λ _. (skips_keep (AndVotes (Balanced p f (f l))) (voter_casting (Balanced p f (f l)) (lawful (f l))) t.0 g.low g.high o (k, g.votes)).0)
     intake_counts input.Look e = begins l h (record { own = λ s. refl; final = λ s. refl; clash = λ s. refl; armed = refl })

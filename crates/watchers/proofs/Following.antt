@@ -210,7 +210,7 @@ module _ (l m : Ledger) (g : Sound l) (b : Beside l m) where
       let d = timeout_fine l t.0 f in
       let o : State = state_of (put_timed_out l t.0) [] in
       let p : Beside (put_timed_out l t.0) m = record { sound = b.sound; watcher = b.watcher; pool = pool_then (pool_back (pool_timed_out l t.0)) b.pool } in
-      let h = begins me m [] (put_timed_out l t.0) (sound_timed_out l g t.0 d.low d.high d.votes) refl (shown_none p) in
+      let h = begins me m [] (put_timed_out l t.0) (sound_timed_out l g t.0 d.low d.high) refl (shown_none p) in
       done_shown (of_input (input.Timeout t)) _ refl
       (given_keeps (Following me m) (no_initial (own_cell l t.0)) o (λ _. cast_skips o t.0) h
       (λ _. (skips_keep (AndVotes (Following me m)) (voter_casting (Following me m) (following_lawful me m)) t.0 d.low d.high o (h, d.votes)).0))

@@ -3,7 +3,7 @@
 use crate::face;
 
 /// The version of the header that this crate was written for.
-pub const VERSION: u64 = 2;
+pub const VERSION: u64 = 1;
 
 /// The version of the library that is linked, which a host compares with [`VERSION`].
 pub fn version() -> u64 {

@@ -56,21 +56,3 @@ fn it_takes_every_name_and_refuses_timeouts() {
     assert_eq!(Record::watch(&STAKES, 0), Err(Refusal::BadSizes));
     assert_eq!(Record::watch(&[], 1), Err(Refusal::BadSizes));
 }
-
-/// Word 12 of a slot's row, the mark of a timeout, is unused in a watcher's record.
-#[test]
-fn its_record_has_no_timed_out_slot() {
-    let mark = |record: &Record, slot: usize| {
-        let nodes = STAKES.len();
-        let mut words = record.words().to_vec();
-        words[8 + nodes + slot * (59 + 7 * nodes) + 12] = 1;
-        Record::from_words(words)
-    };
-    let (node, watcher) = (Record::start(&STAKES, Node(2), 1).unwrap(), Record::watch(&STAKES, 1).unwrap());
-    for slot in [1, 2, 16] {
-        assert_eq!(mark(&node, slot).slot_marks(Slot(slot)).map(|marks| marks.timed_out), Ok(true));
-        assert_eq!(mark(&watcher, slot).slot_marks(Slot(slot)), Err(Refusal::BadRecord));
-        assert_eq!(mark(&watcher, slot).look(&mut Outbox::new()), Err(Refusal::BadRecord));
-    }
-    assert_eq!(mark(&node, 0).head(), Err(Refusal::BadRecord));
-}
