@@ -19,6 +19,6 @@ abbrev told : ℕ → ℕ → List ℕ
 told room n = let w = text_on room n in (write_panel w.answer).number ∷ w.bytes
 
 rooms : T (equals (told 511 18 ∷ told 512 18 ∷ told 600 10 ∷ told 512 2 ∷ told 512 19 ∷ [])
-    ((9 ∷ []) ∷ (0 ∷ bytes_of "The certificate or proof asked for is not held. The slot's board tells what is missing: feed the votes or certificates that other firms have, and ask again.") ∷ (0 ∷ bytes_of "The timeout is for a window that is not armed. Wait until the window is armed, which record 7 tells, and time out then.") ∷ (0 ∷ bytes_of "The node number is not in the table. Give one below the number of nodes; the first node is 0.") ∷ (0 ∷ bytes_of "No refusal has this number.") ∷ []))
+    ((9 ∷ []) ∷ (0 ∷ bytes_of "The certificate or proof asked for is not held.") ∷ (0 ∷ bytes_of "The timeout is for a window that is not armed.") ∷ (0 ∷ bytes_of "The node number is not in the table.") ∷ (0 ∷ bytes_of "No refusal has this number.") ∷ []))
 unfolding rules last_text later_text refusal_text text_on
 rooms = tt

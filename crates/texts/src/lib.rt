@@ -1,4 +1,4 @@
-// The text of each number that an operation answers, for people, put into lent bytes: what is wrong, and what to do next.
+// The text of each number that an operation answers, for people, put into lent bytes.
 #![tactic(auto)]
 ghost use Rattle.std.specs.Prelude.{◌≡◌, length};
 ghost use Rattle.rulebook.specs.Writers.{Writes};
@@ -16,36 +16,24 @@ fn put_last(line: &mut [u8], at: usize, n: u64) -> usize
     ensures { Put line.old at (last_text n) line.new result }
 {
     match n {
-        13 => put_text(
-            line,
-            at,
-            b"A number is not shortest, or above 64 bits. Ask for the packet again; if it comes so again, drop it: no writer that keeps the rules makes it.",
-        ),
+        13 => put_text(line, at, b"A number is not shortest, or above 64 bits."),
         14 => put_text(
             line,
             at,
-            b"A signer is beyond the table or in both masks, or mask B is used where 0 is due. Check with the stakes of the packet's own ring; if it was checked with these, drop it: no writer that keeps the rules makes it.",
+            b"A signer is beyond the table or in both masks, or mask B is used where 0 is due.",
         ),
         15 => put_text(
             line,
             at,
-            b"The weight is below the threshold; a check tells beside it what is missing. Check with the stakes of the packet's own ring; if it was checked with these, ask for one that more firms signed.",
+            b"The weight is below the threshold; a check tells beside it what is missing.",
         ),
-        16 => put_text(
-            line,
-            at,
-            b"The packet is not one of the two proof forms. Give a fast-final certificate, or a notar certificate and behind it the final certificate of its slot.",
-        ),
+        16 => put_text(line, at, b"The packet is not one of the two proof forms."),
         17 => put_text(
             line,
             at,
-            b"No node is started; or the record has a wrong length, a field outside its range, a total that is not the sum, a block or fallback block kept twice, an own notar-fallback below rule D's weights, a tally card that no recount gives, a kept certificate that the checker refuses or that repeats another, or an unused place that is not 0; or the lent state is none of a proof in pieces. Start a node, or go on from the record that was stored last; one that has voted is never started anew.",
+            b"No node is started; or the record has a wrong length, a field outside its range, an own number above the number of nodes, a total that is not the sum, a fallback block kept twice for one node, an own notar-fallback whose block does not reach rule D's weights, a block kept twice in a slot, a tally card that a recount of the slot's votes does not give, a kept certificate that the checker refuses or that repeats another, or an unused place that is not 0.",
         ),
-        18 => put_text(
-            line,
-            at,
-            b"The certificate or proof asked for is not held. The slot's board tells what is missing: feed the votes or certificates that other firms have, and ask again.",
-        ),
+        18 => put_text(line, at, b"The certificate or proof asked for is not held."),
         _ => put_text(line, at, b"No refusal has this number."),
     }
 }
@@ -58,32 +46,28 @@ fn put_later(line: &mut [u8], at: usize, n: u64) -> usize
         7 => put_text(
             line,
             at,
-            b"That very vote, block with parent, or timeout is already kept; or a certificate of that kind, slot and block. There is nothing to do: go on with the next.",
+            b"That very vote, block with parent, or timeout is already kept; or a certificate of that kind, slot and block.",
         ),
         8 => put_text(
             line,
             at,
-            b"Another stands in its place: a second initial vote, a fourth notar-fallback, a fifth block of a slot, a kept block with another parent, another block in a kept certificate's place, a tenth certificate of kind 3. Go on with what stands, and put this one by with its sender's name for the inquest.",
+            b"Another stands in its place: a second initial vote, a fourth notar-fallback, a fifth block of a slot, a kept block with another parent, another block in a kept certificate's place, a tenth certificate of kind 3.",
         ),
         9 => put_text(
             line,
             at,
-            b"The outbox is below 160 records; or the buffer below 32 bytes for a certificate, 64 for a proof (768 and 1,536 with more than 64 nodes), 16 for a vote message, 512 for a text like this; or a tray has fewer places for answers than votes; or a list fewer lines than there are to tell. Lend as much and call again; nothing was changed.",
+            b"The outbox is below 160 records; or the buffer below 32 bytes for a certificate, 64 for a proof (768 and 1,536 with more than 64 nodes), 16 for a vote message, 512 for a text like this; or a tray has fewer places for answers than votes; or a list fewer lines than there are to tell.",
         ),
-        10 => put_text(
-            line,
-            at,
-            b"The timeout is for a window that is not armed. Wait until the window is armed, which record 7 tells, and time out then.",
-        ),
+        10 => put_text(line, at, b"The timeout is for a window that is not armed."),
         11 => put_text(
             line,
             at,
-            b"The parent slot is not below the slot, or is slot 0 with another number than genesis. Compare genesis with the other firms: if theirs is the same, drop the block.",
+            b"The parent slot is not below the slot, or is slot 0 with another number than genesis.",
         ),
         12 => put_text(
             line,
             at,
-            b"The packet ends early, or bytes remain; or a part of a vote ends a tray; or no piece was taken before the end. Ask for the whole packet again; give four words a vote; give the pieces first.",
+            b"The packet ends early, or bytes remain; or a part of a vote ends a tray; or no piece was taken before the end.",
         ),
         _ => put_last(line, at, n),
     }
@@ -98,32 +82,24 @@ pub fn put_refusal(line: &mut [u8], at: usize, n: u64) -> usize
         1 => put_text(
             line,
             at,
-            b"The stake table, the own number or genesis breaks the sizes; or the stake tables of two records differ. Give 1 to 2,048 stakes, each at least 1 and all together at most 2^48, an own number below their count, and a genesis that is not 0; hold records of one ring against each other.",
+            b"The stake table, the own number or genesis breaks the sizes.",
         ),
-        2 => put_text(
-            line,
-            at,
-            b"The node number is not in the table. Give one below the number of nodes; the first node is 0.",
-        ),
-        3 => put_text(
-            line,
-            at,
-            b"The slot is not 1 to 16. Give one of these; the sixteen slots after them have a record of their own.",
-        ),
+        2 => put_text(line, at, b"The node number is not in the table."),
+        3 => put_text(line, at, b"The slot is not 1 to 16."),
         4 => put_text(
             line,
             at,
-            b"The kind is not 1 to 5; or, with more than 64 nodes, a certificate's is not 11 to 15; or the timeout is for a watcher. Give a kind that this ring has; give a watcher no timeouts.",
+            b"The kind is not 1 to 5; or, with more than 64 nodes, a certificate's is not 11 to 15; or the timeout is for a watcher.",
         ),
         5 => put_text(
             line,
             at,
-            b"The block is 0 where one is needed, or not 0 where none is; or a block's parent number is 0. Name a block with votes 1 and 2 and with certificates 1 to 3 or 11 to 13, put 0 with all others, and give a block its parent's number.",
+            b"The block is 0 where one is needed, or not 0 where none is; or a block's parent number is 0.",
         ),
         6 => put_text(
             line,
             at,
-            b"The vote is in the own node's name and came from outside. Do not feed it: the node casts its own votes. If it never cast this one, somebody votes in its name, or its record is not its latest: find out which before it votes on.",
+            b"The vote is in the own node's name and came from outside.",
         ),
         _ => put_later(line, at, n),
     }

@@ -7,9 +7,8 @@ use borrow.Author.Rules.{rules}
 use Rattle.rulebook.specs.Weights.{slot_ok}
 use Rattle.soundness.specs.Sound.{sound_words}
 use Rattle.shown.proofs.Laws.{first_off, second_off}
-use Rattle.kept_lines.proofs.Signers.{judgeable}
 use Rattle.shown_kept.specs.Kept.{none_told, kept_shown}
-use Rattle.shown_kept.proofs.Laws.{past_places, free_place_lem, kept_place}
+use Rattle.shown_kept.proofs.Laws.{past_places, free_place_lem, kept_place, judgeable}
 use Rattle.shown_kept.proofs.kept_certificate.Statement.{statement}
 use Rattle.shown_kept.proofs.kept_certificate.Tie as tie
 
@@ -39,7 +38,7 @@ returns-3 c =
 
 is-kept-requires : tie.Need-is-kept-requires
 is-kept-requires c κs =
-    let j = judgeable _ _ (sym c.before.before.before.before.slot_ok.ensures ∙ not-false _ c.before.before.before.if1.false) (sym c.before.sound.ensures ∙ not-false _ c.if3.false) in
+    let j = judgeable _ _ 0 (sym c.before.before.before.before.slot_ok.ensures ∙ not-false _ c.before.before.before.if1.false) (sym c.before.sound.ensures ∙ not-false _ c.if3.false) in
     record { long = j.long; slot = j.slot; place = omega (arith, c.before.before.if2.false) }
 
 returns-4 : tie.Need-returns-4
@@ -51,7 +50,7 @@ returns-4 c =
 told-of-requires : tie.Need-told-of-requires
 told-of-requires c κs =
     record {
-      judging = judgeable _ _ (sym c.before.before.before.before.before.before.slot_ok.ensures ∙ not-false _ c.before.before.before.before.before.if1.false) (sym c.before.before.before.sound.ensures ∙ not-false _ c.before.before.if3.false);
+      judging = judgeable _ _ 0 (sym c.before.before.before.before.before.before.slot_ok.ensures ∙ not-false _ c.before.before.before.before.before.if1.false) (sym c.before.before.before.sound.ensures ∙ not-false _ c.before.before.if3.false);
       place = omega (arith, c.before.before.before.before.if2.false);
     }
 
