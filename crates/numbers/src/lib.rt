@@ -1,5 +1,6 @@
 // Numbers in groups of seven bits: read at a place of a packet, written at a place of lent bytes.
 #![tactic(auto)]
+
 ghost use Rattle.std.specs.Prelude.{◌≡◌};
 ghost use Rattle.rulebook.specs.Packets.{last_fits, number_at, number_bytes};
 ghost use Rattle.numbers.specs.Written.{Room, Written};

@@ -2,7 +2,6 @@
 use mathlib.Core.Path.{◌≡◌}
 use Prim.Native.Nat.{◌-◌, ◌%◌, ◌^◌, ◌≤◌, ◌<◌}
 use lib.ListN.{length, drop}
-use Rattle.rulebook.specs.declared.Reading.TheVariants as reading
 use Rattle.rulebook.specs.Packets.{number_from, number_at}
 use Rattle.numbers.proofs.Turns.{onto}
 use Rattle.numbers.proofs.read_number.Given as goal

@@ -1,7 +1,7 @@
 -- The writing loop: the stores that are left, onto the bytes so far, are the stores of the whole number.
 use mathlib.Core.Path.{◌≡◌, refl, sym, ap, ◌∙◌}
 use mathlib.Core.List.{List}
-use Prim.Native.Nat.{ℕ, suc, ◌+◌, ◌-◌, ◌%◌, ◌/◌}
+use Prim.Native.Nat.{ℕ, suc, ◌+◌, ◌%◌, ◌/◌}
 use native.Mathlib.Omega.{arith}
 use native.Mathlib.Numerals.{add-one}
 use lib.ListN.{length, set, length-set}

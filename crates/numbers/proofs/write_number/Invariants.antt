@@ -1,7 +1,7 @@
 -- The writing loop: the stores that are left, onto the bytes so far, are the stores of the whole number.
 use mathlib.Core.Path.{◌≡◌}
-use Prim.Native.Nat.{ℕ, ◌+◌, ◌-◌, ◌*◌, ◌^◌, ◌<◌}
-use lib.ListN.{length, set}
+use Prim.Native.Nat.{ℕ, ◌+◌, ◌*◌, ◌^◌, ◌<◌}
+use lib.ListN.{length}
 use lib.Seq.{sets}
 use Rattle.rulebook.specs.Packets.{groups_of, number_bytes}
 use Rattle.numbers.proofs.write_number.Given as goal

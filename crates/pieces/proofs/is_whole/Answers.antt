@@ -1,0 +1,33 @@
+-- What a piece looks at, then the table and the bytes past the kept ones.
+use Rattle.pieces.proofs.Tests.{ready_words, ready_bytes, ready_within, whole_unready, whole_fresh, whole_decided}
+use mathlib.Core.Path.{◌∙◌, sym}
+use native.Mathlib.Omega.{arith}
+use Rattle.pieces.proofs.is_whole.Goals as goal
+
+pub returns-then-not-is_ready : goal.returns-then-not-is_ready
+returns-then-not-is_ready c = whole_unready _ _ (sym c.is_ready.ensures ∙ c.if-not-is_ready.true)
+
+pub bounds-words-0 : goal.bounds-words-0
+bounds-words-0 c = omega (arith, ready_words _ _ (sym c.is_ready.ensures ∙ c.if-not-is_ready.false))
+
+pub returns-then-words-eq0 : goal.returns-then-words-eq0
+returns-then-words-eq0 c =
+    whole_fresh _ _ (sym c.is_ready.ensures ∙ c.if-not-is_ready.false) c.if-words-eq0.true
+
+pub bounds-words-0-2 : goal.bounds-words-0-2
+bounds-words-0-2 c = omega (arith, ready_words _ _ (sym c.is_ready.ensures ∙ c.if-not-is_ready.false))
+
+pub holds_table-table-requires : goal.holds_table-table-requires
+holds_table-table-requires c = ready_words _ _ (sym c.is_ready.ensures ∙ c.if-not-is_ready.false)
+
+pub slice_bounds-blank_bytes-count : goal.slice_bounds-blank_bytes-count
+slice_bounds-blank_bytes-count c =
+    omega (arith, ready_bytes _ _ (sym c.is_ready.ensures ∙ c.if-not-is_ready.false), ready_within _ _ (sym c.is_ready.ensures ∙ c.if-not-is_ready.false) c.if-words-eq0.false)
+
+pub slice_bounds-blank_bytes-start : goal.slice_bounds-blank_bytes-start
+slice_bounds-blank_bytes-start c =
+    omega (arith, ready_bytes _ _ (sym c.is_ready.ensures ∙ c.if-not-is_ready.false), ready_within _ _ (sym c.is_ready.ensures ∙ c.if-not-is_ready.false) c.if-words-eq0.false)
+
+pub returns : goal.returns
+returns c =
+    whole_decided c.args.words.now c.args.front.now _ _ (sym c.is_ready.ensures ∙ c.if-not-is_ready.false) c.if-words-eq0.false c.holds_table-table.ensures c.blank_bytes.ensures
