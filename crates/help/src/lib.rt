@@ -1,5 +1,6 @@
 // What the panel says of itself: a screen of its commands, refusals and kinds; what a command takes and answers; what a number means.
 #![tactic(auto)]
+
 ghost use Rattle.std.specs.Prelude.{◌≡◌, [], ◌∷◌, ◌<◌, length};
 ghost use Rattle.std.proofs.lemmas.List.Edits.{sets};
 ghost use Rattle.rulebook.specs.Tools.{choose};
