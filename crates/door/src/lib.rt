@@ -33,10 +33,10 @@ pub fn send(page: &[u8], used: usize) -> bool
 pub fn send_into<W: Write>(out: &mut W, page: &[u8], used: usize) -> Result<()>
     ensures { length page.now ≤ used → IsErr result }
 {
-    if used < page.len() {
-        return out.write_all(&page[..used]);
+    if page.len() <= used {
+        return Err(Error::from(ErrorKind::WriteZero));
     }
-    Err(Error::from(ErrorKind::WriteZero))
+    out.write_all(&page[..used])
 }
 
 // Ends the line that stands in a page up to a place and sends it. Answers the place where the next line begins: the page's
