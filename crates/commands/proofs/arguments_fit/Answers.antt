@@ -1,5 +1,4 @@
 -- Each command asks for what follows it.
-use Prim.Native.Nat.{◌-◌}
 use Rattle.commands.specs.Commands.{arguments_fit}
 use Rattle.commands.proofs.arguments_fit.Goals as goal
 

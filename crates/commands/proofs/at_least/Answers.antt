@@ -1,6 +1,5 @@
 -- What is read of the rest of the line.
 use mathlib.Core.Bool.{◌&&◌}
-use Prim.Native.Nat.{◌-◌}
 use lib.Dec.{leb}
 use Rattle.commands.specs.Commands.{at_least}
 use Rattle.commands.proofs.at_least.Goals as goal

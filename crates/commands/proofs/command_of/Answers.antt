@@ -1,5 +1,4 @@
 -- The first word, and whether the rest fits.
-use Prim.Native.Nat.{◌-◌}
 use Rattle.commands.proofs.Laws.{command_fits, command_none}
 use Rattle.commands.proofs.command_of.Goals as goal
 

@@ -1,6 +1,5 @@
 -- The words in turn.
 use mathlib.Core.Path.{◌∙◌, sym}
-use Prim.Native.Nat.{◌-◌}
 use Rattle.rule_laws.proofs.ToolLaws.{choose_on, choose_off}
 use Rattle.commands.specs.Commands.{compared_of}
 use Rattle.commands.proofs.compared_of.Goals as goal

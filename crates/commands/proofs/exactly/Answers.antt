@@ -1,6 +1,5 @@
 -- What is read of the rest of the line.
 use mathlib.Core.Bool.{◌&&◌}
-use Prim.Native.Nat.{◌-◌}
 use lib.Dec.{eqb}
 use Rattle.commands.specs.Commands.{exactly}
 use Rattle.commands.proofs.exactly.Goals as goal

@@ -1,5 +1,5 @@
 -- No word, a word that is no packet, and the numbers after it.
-use Prim.Native.Nat.{ℕ, ◌-◌}
+use Prim.Native.Nat.{ℕ}
 use native.Mathlib.Omega.{arith}
 use lib.ListN.{length-replicate}
 use Rattle.std.proofs.lemmas.Bool.{not-true, not-false}

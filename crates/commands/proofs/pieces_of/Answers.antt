@@ -1,6 +1,5 @@
 -- The words in turn.
 use mathlib.Core.Path.{◌∙◌, sym}
-use Prim.Native.Nat.{◌-◌}
 use Rattle.rule_laws.proofs.ToolLaws.{choose_on, choose_off}
 use Rattle.commands.specs.Commands.{pieces_of}
 use Rattle.commands.proofs.pieces_of.Goals as goal

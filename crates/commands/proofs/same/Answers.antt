@@ -1,7 +1,5 @@
 -- The loop over two texts of one length.
 use mathlib.Core.Path.{◌≡◌, refl, ◌∙◌, ap, sym}
-use mathlib.Core.Bool.{true}
-use Prim.Native.Nat.{◌-◌}
 use native.Mathlib.Omega.{arith}
 use lib.ListN.{length}
 use Rattle.commands.proofs.Laws.{same_to, same_none, same_more, other_length, same_length, other_byte}

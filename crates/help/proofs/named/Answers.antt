@@ -1,5 +1,3 @@
-use mathlib.Core.Bool.{true, false}
-use Prim.Native.Nat.{◌-◌}
 use Rattle.help.proofs.Laws.{too_short, long_enough}
 use Rattle.help.proofs.named.Goals as goal
 

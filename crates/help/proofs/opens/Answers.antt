@@ -1,6 +1,4 @@
 use mathlib.Core.Path.{◌∙◌}
-use mathlib.Core.Bool.{true, false}
-use Prim.Native.Nat.{◌-◌}
 use Rattle.help.proofs.Laws.{goes_on_lem, indented, not_indented}
 use Rattle.help.proofs.opens.Goals as goal
 

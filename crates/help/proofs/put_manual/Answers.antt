@@ -1,4 +1,3 @@
-use Prim.Native.Nat.{◌-◌}
 use Rattle.lines.proofs.Putting.{and_then}
 use Rattle.help.specs.Topics.{topic_of}
 use Rattle.help.proofs.put_manual.Goals as goal

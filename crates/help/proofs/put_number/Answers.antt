@@ -1,5 +1,3 @@
-use mathlib.Core.Bool.{true, false}
-use Prim.Native.Nat.{◌-◌}
 use Rattle.help.proofs.Laws.{no_number, a_number}
 use Rattle.help.proofs.put_number.Goals as goal
 

@@ -1,6 +1,4 @@
 use mathlib.Core.Path.{sym}
-use mathlib.Core.Bool.{true, false}
-use Prim.Native.Nat.{◌-◌}
 use Rattle.rule_laws.proofs.ToolLaws.{choose_on, choose_off}
 use Rattle.lines.proofs.Putting.{as_text, put_nothing}
 use Rattle.help.proofs.put_told.Goals as goal

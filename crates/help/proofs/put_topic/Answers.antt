@@ -1,8 +1,5 @@
 use mathlib.Core.Path.{refl, ◌∙◌}
-use mathlib.Core.Bool.{true, false}
-use Prim.Native.Nat.{◌-◌}
 use native.Mathlib.Omega.{arith}
-use lib.ListN.{length}
 use Rattle.help.proofs.Laws.{all_left, none_left, one_less, to_end}
 use Rattle.lines.proofs.Putting.{put_length}
 use Rattle.help.proofs.put_topic.Goals as goal

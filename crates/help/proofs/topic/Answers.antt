@@ -1,5 +1,3 @@
-use mathlib.Core.Bool.{true, false}
-use Prim.Native.Nat.{◌-◌}
 use Rattle.help.proofs.Laws.{no_topic, some_topic}
 use Rattle.help.proofs.topic.Goals as goal
 

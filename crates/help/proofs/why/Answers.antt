@@ -1,4 +1,3 @@
-use Prim.Native.Nat.{◌-◌}
 use Rattle.lines.proofs.Putting.{and_then}
 use Rattle.help.specs.Topics.{why_line}
 use Rattle.help.proofs.why.Goals as goal
