@@ -2,7 +2,8 @@
 // when nothing is.
 #![tactic(auto)]
 
-ghost use Rattle.std.specs.Prelude.{◌≤◌, IsErr, length};
+ghost use Rattle.std.specs.Prelude.{◌≡◌, ◌≤◌, IsErr, MatchResult, length};
+ghost use Rattle.std.specs.Str.{IsUtf8};
 ghost use Rattle.door.specs.Sent.{NextLine, Whole};
 
 use lines::{put_byte, put_text};
@@ -83,8 +84,10 @@ pub fn fail(what: &[u8], error: Error) {
     io::write_all(ERR, b"\n");
 }
 
-// A file's name as text: std knows no other.
-pub fn file_name(name: &[u8]) -> Result<&str> {
+// A file's name as text: std opens no other.
+pub fn file_name(name: &[u8]) -> Result<&str>
+    ensures { MatchResult result (λ text. text.now ≡ name.now) (λ _. IsUtf8 name.now → ⊥) }
+{
     match str::from_utf8(name) {
         Ok(text) => Ok(text),
         Err(_) => Err(Error::from(ErrorKind::InvalidFilename)),
