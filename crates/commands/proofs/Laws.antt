@@ -1,5 +1,5 @@
 -- Laws of what a line is: two texts compared byte by byte, a packet and its stakes, the command by word and arguments. Assumes nothing.
-use mathlib.Core.Path.{◌≡◌, refl, sym, ap, ◌∙◌}
+use mathlib.Core.Path.{◌≡◌, sym, ap, ◌∙◌}
 use mathlib.Core.Bool.{Bool, true, false, ◌&&◌}
 use mathlib.Core.List.{List}
 use Prim.Native.Nat.{ℕ, ◌+◌, ◌-◌, ◌≤◌, ◌<◌}
@@ -7,7 +7,7 @@ use native.Mathlib.Omega.{arith}
 use lib.Dec.{eqb, ltb}
 use lib.ListN.{length, get_or, take, drop}
 use borrow.Author.Tests.{eq-eqb, ne_eqb, lt-ltb, le-ltb, eqb-true}
-use Rattle.rulebook.specs.Tools.{choose, all_to}
+use Rattle.rulebook.specs.Tools.{all_to}
 use Rattle.rule_laws.proofs.ToolLaws.{by_test, both_and, true_not_false, all_none, all_more, all_at, choose_on, choose_off}
 use Rattle.hex_bytes.specs.declared.Hex.{Hex}
 use Rattle.script.specs.declared.Word.{Word}

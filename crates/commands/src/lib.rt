@@ -1,5 +1,6 @@
 // Which command a line of a script is: by its first word, and by what follows it.
 #![tactic(auto)]
+
 ghost use Rattle.std.specs.Prelude.{◌≡◌};
 ghost use Rattle.commands.specs.Commands.{same_text, input_of, question_of, message_of, pieces_of, compared_of, inquest_of, reading_of, view_of, exactly, at_least, one_word, packet_and_stakes, packet_alone, count_and_message, arguments_fit, command_of};
 

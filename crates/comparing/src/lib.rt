@@ -1,12 +1,13 @@
 // The commands by which nodes are compared: a node set aside, its stored votes beside the present one's, own votes that do not stand, votes
 // that the node lacks, blocks with two parents, certificates that it keeps, and a record saved.
 #![tactic(auto)]
+
 ghost use Rattle.std.specs.Prelude.{◌≡◌, ◌+◌, ◌*◌, ◌%◌, ◌≤◌, eqb, length};
 ghost use Rattle.rulebook.specs.Tools.{choose};
 ghost use Rattle.lines.specs.Put.{Put};
 ghost use Rattle.comparing.specs.Compared.{line_text, lines_text, differ_line, word_bytes, words_bytes, SetAside};
 
-use door::{send, send_to};
+use door::{fail, file_name, send, send_into};
 use hex_bytes::read_hex;
 use lines::{put_byte, put_decimal, put_named, put_text};
 use quointrowel::{
@@ -16,6 +17,8 @@ use replies::{malformed, number};
 use script::{read_numbers, word_at};
 use slices::{copy_words, least};
 use soundness::sound;
+use std::fs::File;
+use std::io::{Error, ErrorKind, Result};
 use telling::node_words;
 
 // The words of 15,360 lines: more than two nodes of a ring of 64 can have.
@@ -225,60 +228,60 @@ fn put_words(page: &mut [u8], words: &[u64]) -> usize
     next
 }
 
-// Writes a record into an open file, and answers whether all of it was taken.
-fn write_record(page: &mut [u8], fd: i32, rec: &[u64]) -> bool {
+// Writes a record into an open file.
+fn write_record(page: &mut [u8], file: &mut File, rec: &[u64]) -> Result<()> {
     let mut from = 0;
     while from < rec.len() {
         let to = least(from + PIECE_WORDS, rec.len());
         let used = put_words(page, &rec[from..to]);
-        if !send_to(fd, page, used) {
-            return false;
-        }
+        send_into(file, page, used)?;
         from = to;
     }
-    true
+    Ok(())
+}
+
+// Has the system write what it still holds, as closing a file tells no error; what lies on no disk has nothing to be written.
+fn settle(file: &File) -> Result<()> {
+    match file.sync_all() {
+        Err(e) if e.kind() != ErrorKind::InvalidInput => Err(e),
+        _ => Ok(()),
+    }
+}
+
+// Writes a record into the file of that name, which is made, or emptied first.
+fn write_file(rt: &HostRuntime, page: &mut [u8], rec: &[u64], path: &[u8]) -> Result<()> {
+    let mut file = File::create(rt, file_name(path)?)?;
+    write_record(page, &mut file, rec)?;
+    settle(&file)
 }
 
 // Says on standard error that a file was not written, and why.
-fn blame(page: &mut [u8], path: &[u8]) {
+fn blame(page: &mut [u8], path: &[u8], error: Error) {
     let p = put_text(page, 0, b"panel: not saved: ");
     let q = put_text(page, p, path);
     let used = least(q, page.len());
-    os::fail(&page[0..used]);
-}
-
-// Writes a record into an open file and closes it.
-fn write_file(page: &mut [u8], rec: &[u64], fd: i32, path: &[u8]) -> bool {
-    if !write_record(page, fd, rec) {
-        blame(page, path);
-        libc::close(fd);
-        return malformed(page);
-    }
-    if libc::close(fd) < 0 {
-        blame(page, path);
-        return malformed(page);
-    }
-    number(page, 0)
+    fail(&page[0..used], error);
 }
 
 // Writes a record into the file of that name; no file is made for words that are none.
-fn save_as(page: &mut [u8], rec: &[u64], path: &[u8]) -> bool {
+fn save_as(rt: &HostRuntime, page: &mut [u8], rec: &[u64], path: &[u8]) -> bool {
     if !sound(rec) {
         return number(page, 17);
     }
-    let fd = os::open_overwrite(path);
-    if fd < 0 {
-        blame(page, path);
-        return malformed(page);
+    match write_file(rt, page, rec, path) {
+        Ok(()) => number(page, 0),
+        Err(e) => {
+            blame(page, path, e);
+            malformed(page)
+        }
     }
-    write_file(page, rec, fd, path)
 }
 
 // save FILE
-pub fn save(page: &mut [u8], line: &[u8], at: usize, rec: &[u64]) -> bool {
+pub fn save(rt: &HostRuntime, page: &mut [u8], line: &[u8], at: usize, rec: &[u64]) -> bool {
     let w = word_at(line, at);
     let from = w.from;
     let to = w.to;
     let words = node_words(rec);
-    save_as(page, &rec[0..words], &line[from..to])
+    save_as(rt, page, &rec[0..words], &line[from..to])
 }

@@ -1,10 +1,16 @@
 // For people: which stored votes of two saved records differ, in columns, and how many they are.
 #![tactic(auto)]
+
+ghost use Rattle.std.specs.Prelude.{◌≤◌, length};
+
 use answers::{differ_number, differ_value};
 use differences::differ;
-use door::{end_line, send_to, tell_line};
+use door::{end_line, file_name, send_to, tell_line};
 use lines::{put_byte, put_decimal, put_text};
 use rulebook::{Node, Slot};
+use std::env::{Env, FillError};
+use std::fs::File;
+use std::os::fd::AsRawFd;
 
 // No record has more words: a file that holds more is none.
 const RECORD_ROOM: usize = 270336;
@@ -113,20 +119,32 @@ fn load(fd: i32, words: &mut [u64]) -> Loaded {
     }
 }
 
+// Puts the name that an argument is at a buffer's front, and answers its length: 0 where it is missing or has no room.
+fn arg(rt: &HostRuntime, i: usize, path: &mut [u8]) -> usize
+    ensures { result ≤ length path.new }
+{
+    match rt.arg(i, path) {
+        Ok(length) => length,
+        Err(_) => 0,
+    }
+}
+
+// Opens the file of that name.
+fn open(rt: &HostRuntime, path: &[u8]) -> std::io::Result<File> {
+    File::open(rt, file_name(path)?)
+}
+
 // Opens the file that an argument names and reads it.
-fn load_arg(i: usize, words: &mut [u64]) -> Loaded {
+fn load_arg(rt: &HostRuntime, i: usize, words: &mut [u64]) -> Loaded {
     let mut path = io::buffer();
-    let length = os::arg(i, &mut path);
-    let fd = os::open_read(&path[..length]);
-    if fd < 0 {
-        return Loaded {
+    let length = arg(rt, i, &mut path);
+    match open(rt, &path[..length]) {
+        Ok(file) => load(file.as_raw_fd(), words),
+        Err(_) => Loaded {
             words: 0,
             whole: false,
-        };
+        },
     }
-    let loaded = load(fd, words);
-    libc::close(fd);
-    loaded
 }
 
 // A space, where one is wanted.
@@ -181,9 +199,9 @@ fn put_name(page: &mut [u8], at: usize, name: &[u8]) -> usize {
 }
 
 // The file that an argument names.
-fn put_file(page: &mut [u8], at: usize, i: usize) -> usize {
+fn put_file(rt: &HostRuntime, page: &mut [u8], at: usize, i: usize) -> usize {
     let mut path = io::buffer();
-    let length = os::arg(i, &mut path);
+    let length = arg(rt, i, &mut path);
     put_name(page, at, &path[..length])
 }
 
@@ -198,16 +216,17 @@ fn put_front(page: &mut [u8], at: usize, slot: Slot, node: Node, kind: u64) -> u
 }
 
 // Its block, and the file that has it.
-fn put_rest(page: &mut [u8], at: usize, block: u64, side: u64) -> usize {
+fn put_rest(rt: &HostRuntime, page: &mut [u8], at: usize, block: u64, side: u64) -> usize {
     let a = put_block(page, at, block);
     let b = fill(page, a, SIDE_COLUMN);
     let c = put_decimal(page, b, side);
     let d = put_byte(page, c, b' ');
-    put_file(page, d, side as usize)
+    put_file(rt, page, d, side as usize)
 }
 
 // One vote, in columns.
 fn vote_line(
+    rt: &HostRuntime,
     page: &mut [u8],
     at: usize,
     slot: Slot,
@@ -217,7 +236,7 @@ fn vote_line(
     side: u64,
 ) -> usize {
     let next = put_front(page, at, slot, node, kind);
-    let end = put_rest(page, next, block, side);
+    let end = put_rest(rt, page, next, block, side);
     end_line(page, end)
 }
 
@@ -249,7 +268,7 @@ fn heading(page: &mut [u8], lines: usize) -> usize {
 }
 
 // The vote whose five words begin at a place of the list, where they are there.
-fn listed_line(page: &mut [u8], at: usize, list: &[u64], i: usize) -> usize {
+fn listed_line(rt: &HostRuntime, page: &mut [u8], at: usize, list: &[u64], i: usize) -> usize {
     if list.len() < LINE_WORDS {
         return at;
     }
@@ -261,33 +280,40 @@ fn listed_line(page: &mut [u8], at: usize, list: &[u64], i: usize) -> usize {
     let kind = list[i + 2];
     let block = list[i + 3];
     let side = list[i + 4];
-    vote_line(page, at, slot, node, kind, block, side)
+    vote_line(rt, page, at, slot, node, kind, block, side)
 }
 
 // Line number i of so many.
-fn next_line(page: &mut [u8], at: usize, list: &[u64], lines: usize, i: usize) -> usize {
+fn next_line(
+    rt: &HostRuntime,
+    page: &mut [u8],
+    at: usize,
+    list: &[u64],
+    lines: usize,
+    i: usize,
+) -> usize {
     if lines <= i {
         return at;
     }
     if MOST_LINES <= i {
         return at;
     }
-    listed_line(page, at, list, LINE_WORDS * i)
+    listed_line(rt, page, at, list, LINE_WORDS * i)
 }
 
 // All lines of the list, and their number.
-fn tell(page: &mut [u8], list: &[u64], lines: usize) -> usize {
+fn tell(rt: &HostRuntime, page: &mut [u8], list: &[u64], lines: usize) -> usize {
     let mut at = heading(page, lines);
     for i in 0..MOST_LINES {
-        at = next_line(page, at, list, lines, i);
+        at = next_line(rt, page, at, list, lines, i);
     }
     count_line(page, at, lines)
 }
 
 // What stands on standard error where nothing is compared: the file, and why.
-fn blame(page: &mut [u8], i: usize, why: &[u8]) {
+fn blame(rt: &HostRuntime, page: &mut [u8], i: usize, why: &[u8]) {
     let mut path = io::buffer();
-    let length = os::arg(i, &mut path);
+    let length = arg(rt, i, &mut path);
     let p = put_text(page, 0, b"differ: ");
     let q = put_text(page, p, &path[..length]);
     let r = put_text(page, q, why);
@@ -296,9 +322,9 @@ fn blame(page: &mut [u8], i: usize, why: &[u8]) {
 }
 
 // A number that is not 0: the side's record is bad, or there are more lines than there is room for.
-fn refuse(page: &mut [u8], number: u64, beside: usize) {
+fn refuse(rt: &HostRuntime, page: &mut [u8], number: u64, beside: usize) {
     if number == 17 {
-        blame(page, beside, b": this is no node's record");
+        blame(rt, page, beside, b": this is no node's record");
         return;
     }
     let p = put_text(page, 0, b"differ: ");
@@ -312,13 +338,13 @@ fn refuse(page: &mut [u8], number: u64, beside: usize) {
 }
 
 // Compares two records.
-fn compare(page: &mut [u8], first: &[u64], second: &[u64]) {
+fn compare(rt: &HostRuntime, page: &mut [u8], first: &[u64], second: &[u64]) {
     let mut list = [0u64; LIST_WORDS];
     let a = differ(first, second, &mut list);
     let number = differ_number(a);
     let lines = differ_value(a);
     if number != 0 {
-        refuse(page, number, lines);
+        refuse(rt, page, number, lines);
         return;
     }
     if (lines == 1) & (list[4] == 0) {
@@ -329,30 +355,31 @@ fn compare(page: &mut [u8], first: &[u64], second: &[u64]) {
         );
         return;
     }
-    let end = tell(page, &list, lines);
+    let end = tell(rt, page, &list, lines);
     if page.len() <= end {
         io::write_all(ERR, b"differ: a line was not written, and none follows\n");
     }
 }
 
 // The words of the second file, as many as it has.
-fn compare_front(page: &mut [u8], first: &[u64], words: &[u64], many: usize) {
+fn compare_front(rt: &HostRuntime, page: &mut [u8], first: &[u64], words: &[u64], many: usize) {
     if many < words.len() {
-        compare(page, first, &words[0..many]);
+        compare(rt, page, first, &words[0..many]);
     } else {
-        compare(page, first, words);
+        compare(rt, page, first, words);
     }
 }
 
 // Reads the second file and compares.
-fn with_second(page: &mut [u8], first: &[u64]) {
+fn with_second(rt: &HostRuntime, page: &mut [u8], first: &[u64]) {
     let mut words = [0u64; RECORD_ROOM];
-    let second = load_arg(2, &mut words);
+    let second = load_arg(rt, 2, &mut words);
     let many = second.words;
     if second.whole {
-        compare_front(page, first, &words, many);
+        compare_front(rt, page, first, &words, many);
     } else {
         blame(
+            rt,
             page,
             2,
             b": this cannot be read, or its size is no record's",
@@ -361,23 +388,24 @@ fn with_second(page: &mut [u8], first: &[u64]) {
 }
 
 // The words of the first file, as many as it has.
-fn first_front(page: &mut [u8], words: &[u64], many: usize) {
+fn first_front(rt: &HostRuntime, page: &mut [u8], words: &[u64], many: usize) {
     if many < words.len() {
-        with_second(page, &words[0..many]);
+        with_second(rt, page, &words[0..many]);
     } else {
-        with_second(page, words);
+        with_second(rt, page, words);
     }
 }
 
 // Reads the first file, then the second.
-fn with_first(page: &mut [u8]) {
+fn with_first(rt: &HostRuntime, page: &mut [u8]) {
     let mut words = [0u64; RECORD_ROOM];
-    let first = load_arg(1, &mut words);
+    let first = load_arg(rt, 1, &mut words);
     let many = first.words;
     if first.whole {
-        first_front(page, &words, many);
+        first_front(rt, page, &words, many);
     } else {
         blame(
+            rt,
             page,
             1,
             b": this cannot be read, or its size is no record's",
@@ -406,11 +434,20 @@ fn help(page: &mut [u8]) {
     tell_line(page, d, b"8 bytes each, lowest byte first.");
 }
 
-fn main() {
+// Whether the program has an argument of that number.
+fn has_arg(rt: &HostRuntime, i: usize) -> bool {
+    let mut path = io::buffer();
+    match rt.arg(i, &mut path) {
+        Err(FillError::NotPresent) => false,
+        _ => true,
+    }
+}
+
+fn main(rt: HostRuntime) {
     let mut page = [0u8; PAGE_ROOM];
-    if os::arg_count() < 3 {
+    if !has_arg(&rt, 2) {
         help(&mut page);
         return;
     }
-    with_first(&mut page);
+    with_first(&rt, &mut page);
 }

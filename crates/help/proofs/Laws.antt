@@ -9,7 +9,7 @@ use lib.Dec.{eqb, leb, ltb}
 use lib.ListN.{length, get_or, take, drop, drop_of_length-le, length-drop}
 use lib.Seq.{sets, drop-cons, take-length}
 use borrow.Author.Tests.{eq-eqb, ne_eqb, lt-ltb, le-ltb}
-use Rattle.rulebook.specs.Tools.{choose, whenever}
+use Rattle.rulebook.specs.Tools.{choose}
 use Rattle.rule_laws.proofs.ToolLaws.{choose_on, choose_off, given_on, given_off}
 use Rattle.commands.specs.Commands.{same_text}
 use Rattle.lines.specs.Text.{decimal}

@@ -1,5 +1,5 @@
--- Computed cases of the help: the screen has its bounds, every command has its lines, a word that is none has none.
-use Rattle.std.specs.Prelude.{Bool, true, ◌&&◌, List, [], ◌∷◌, ℕ, ◌+◌, T, leb, length, take}
+-- Computed cases of the help: no line is too wide, every command has its lines, a word that is none has none.
+use Rattle.std.specs.Prelude.{Bool, true, ◌&&◌, List, [], ◌∷◌, ℕ, T, leb, length, take}
 use Prim.Native.String.{String}
 use Rattle.rulebook.specs.Tools.{choose, whenever, all_to}
 use Rattle.rulebook.specs.Scripts.{equal, all}
@@ -7,7 +7,7 @@ use Rattle.texts.specs.Texts.{bytes_of, last_text, later_text, refusal_text}
 use Rattle.commands.specs.Commands.{same_text, start_text, watch_text, vote_text, tray_text, block_text, timeout_text, look_text, take_text, cert_text, proof_text, check_text, check_proof_text, piece_text, end_text, pack_text, unpack_text, board_text, votes_text, card_text, blocks_text, marks_text, head_text, certificates_text, weights_text, aside_text, differ_text, stands_text, vouched_text, parents_text, save_text, why_text, help_text, quit_text}
 use Rattle.lines.specs.Text.{glyph, digits_of, decimal}
 use Rattle.lines.specs.Cases.{reads}
-use Rattle.help.specs.Manual.{screen, told, packets, shown, asked, compared}
+use Rattle.help.specs.Manual.{told, packets, shown, asked, compared}
 use Rattle.help.specs.Topics.{named, opens, topic_from, topic_in, topic_of, topic_line, numbered, why_line}
 
 -- No line has more than 80 columns.
@@ -15,14 +15,9 @@ unfoldable narrow : List String → Bool
 narrow [] = true
 narrow (l ∷ ls) = leb (length (bytes_of l)) 80 && narrow ls
 
--- How many lines there are.
-unfoldable many : List String → ℕ
-many [] = 0
-many (l ∷ ls) = 1 + many ls
-
--- The screen has 24 lines at most, and no text is too wide for it.
-screens : T (all (leb (many screen) 24 ∷ narrow screen ∷ narrow told ∷ narrow packets ∷ narrow shown ∷ narrow asked ∷ narrow compared ∷ []))
-unfolding narrow many screen told packets shown asked compared
+-- What is told of one command is not too wide for a screen.
+screens : T (all (narrow told ∷ narrow packets ∷ narrow shown ∷ narrow asked ∷ narrow compared ∷ []))
+unfolding narrow told packets shown asked compared
 screens = tt
 
 -- The manual tells of each of these words, and what it tells begins with it.
@@ -52,6 +47,6 @@ topics = tt
 
 -- A refusal has its number before it, a number that is none has not.
 whys : T (all (reads (why_line 0) "0: Done.\n" ∷ reads (why_line 19) "No refusal has this number.\n"
-    ∷ reads (why_line 18) "18: The certificate or proof asked for is not held. The slot's board tells what is missing: feed the votes or certificates that other firms have, and ask again.\n" ∷ []))
+    ∷ reads (why_line 18) "18: The certificate or proof asked for is not held.\n" ∷ []))
 unfolding choose whenever glyph digits_of decimal last_text later_text refusal_text numbered why_line
 whys = tt

@@ -1,5 +1,6 @@
-// What the panel says of itself: a screen of its commands, refusals and kinds; what a command takes and answers; what a number means.
+// What the panel says of itself: a page of its commands, refusals and kinds; what a command takes and answers; what a number means.
 #![tactic(auto)]
+
 ghost use Rattle.std.specs.Prelude.{◌≡◌, [], ◌∷◌, ◌<◌, length};
 ghost use Rattle.std.proofs.lemmas.List.Edits.{sets};
 ghost use Rattle.rulebook.specs.Tools.{choose};
@@ -16,37 +17,64 @@ use texts::put_refusal;
 // The number of the last refusal.
 const LAST_REFUSAL: u64 = 18;
 
-// ---- the screen
+// ---- the page
 
-// Puts the screen: 24 lines of 80 columns at most. A command's word goes into one of its groups.
+// Puts the page of the commands, kinds and refusals.
 fn put_screen(page: &mut [u8], at: usize) -> usize
     ensures { Put page.old at (lines_of screen) page.new result }
 {
     put_text(
         page,
         at,
-        b"One command a line; help COMMAND tells what it takes and what it answers.
-  a node     start watch save quit
-  told       vote tray block timeout look take
-  shown      board votes
-  asked      card blocks marks head certificates weights
-  packets    cert proof check checkproof piece end
-  messages   pack unpack
-  compared   aside differ stands vouched parents
-  this page  help why
-The answer is 0 and what belongs to it, or a refusal, which changed nothing:
-  1 sizes        2 no such node  3 no such slot    4 no such kind
-  5 block        6 own name      7 kept already    8 another stands there
-  9 no room      10 not armed    11 wrong parent   12 wrong length
-  13 bad number  14 bad signers  15 too light      16 not a proof
-  17 no record   18 not held     why NUMBER tells what to do next
-? is a line that is no command, or a file that was not written.
-Kinds of
-  votes         1 notar, 2 notar-fallback, 3 skip, 4 skip-fallback, 5 final
-  certificates  1 fast-final, 2 notar, 3 notar-fallback, 4 skip, 5 final;
-                11 to 15 with more than 64 nodes
-  records       1 to 5 a vote was cast, 6 a block is final, 7 a window is armed,
-                8 another block of the slot is final too
+        b"start OWN GENESIS STAKE..            0
+watch GENESIS STAKE..                0; a node that never votes
+vote KIND NODE SLOT BLOCK            0 N kind,slot,block ..
+tray KIND NODE SLOT BLOCK ..         0 N kind,slot,block .. : ANSWER ..
+take HEX                             0 N kind,slot,block ..
+block SLOT NUMBER PARENTSLOT PARENT  0 N kind,slot,block ..
+timeout SLOT | look                  0 N kind,slot,block ..
+cert KIND SLOT BLOCK                 0 BYTES HEX
+proof SLOT BLOCK                     0 BYTES HEX
+check HEX STAKE..                    0 KIND SLOT BLOCK SIGNERS WEIGHT, 15 MISSING
+checkproof HEX STAKE..               0 KIND SLOT BLOCK SIGNERS WEIGHT, 15 MISSING
+card SLOT                            0 SKIP FINAL SKIPCERT BLOCK WEIGHT
+piece HEX STAKE..                    more
+end                                  0 KIND SLOT BLOCK SIGNERS WEIGHT, 15 MISSING
+pack COUNT KIND NODE SLOT BLOCK      0 BYTES HEX
+unpack COUNT HEX                     0 KIND NODE SLOT BLOCK
+aside                                0
+differ                               0 N slot,node,kind,block,side .., 1 the node aside, 2 the present one; 17 SIDE, 9 LINES
+save FILE                            0; the node's record, as ./differ reads it
+stands                               0 N slot,node,kind,block,rule .., own votes that do not stand, rule 2 to 5 for B to E; 9 LINES
+vouched | vouched HEX                0 N slot,node,kind,block,source .., votes of the node that the node aside or a packet counts and it lacks; 17 SIDE
+board | board SLOT                   the node, one slot of it; with more than 64 nodes the heavy blocks alone
+board SLOT FROM                      a slot's blocks with that number or more, twenty of them
+votes                                the stored votes; with more than 64 nodes a line a slot
+votes SLOT FROM                      a slot's votes by that node and those after it, of 64 nodes
+why NUMBER                           what a refusal means
+help | quit                          these lines; the script's end
+votes         1 notar, 2 notar-fallback, 3 skip, 4 skip-fallback, 5 final
+certificates  1 fast-final, 2 notar, 3 notar-fallback, 4 skip, 5 final; 11 to 15 with more than 64 nodes
+records       1 to 5 a vote was cast, 6 a block is final, 7 a window is armed, 8 another block of the slot is final too
+? is a line that is no command, or a file that was not saved. A refusal is its number, and beside 15 of a check what is missing:
+1: The stake table, the own number or genesis breaks the sizes.
+2: The node number is not in the table.
+3: The slot is not 1 to 16.
+4: The kind is not 1 to 5; or, with more than 64 nodes, a certificate's is not 11 to 15; or the timeout is for a watcher.
+5: The block is 0 where one is needed, or not 0 where none is; or a block's parent number is 0.
+6: The vote is in the own node's name and came from outside.
+7: That very vote, block with parent, or timeout is already kept; or a certificate of that kind, slot and block.
+8: Another stands in its place: a second initial vote, a fourth notar-fallback, a fifth block of a slot, a kept block with another parent, another block in a kept certificate's place, a tenth certificate of kind 3.
+9: The outbox is below 160 records; or the buffer below 32 bytes for a certificate, 64 for a proof (768 and 1,536 with more than 64 nodes), 16 for a vote message, 512 for a text like this; or a tray has fewer places for answers than votes; or a list fewer lines than there are to tell.
+10: The timeout is for a window that is not armed.
+11: The parent slot is not below the slot, or is slot 0 with another number than genesis.
+12: The packet ends early, or bytes remain; or a part of a vote ends a tray; or no piece was taken before the end.
+13: A number is not shortest, or above 64 bits.
+14: A signer is beyond the table or in both masks, or mask B is used where 0 is due.
+15: The weight is below the threshold; a check tells beside it what is missing.
+16: The packet is not one of the two proof forms.
+17: No node is started; or the record has a wrong length, a field outside its range, an own number above the number of nodes, a total that is not the sum, a fallback block kept twice for one node, an own notar-fallback whose block does not reach rule D's weights, a block kept twice in a slot, a tally card that a recount of the slot's votes does not give, a kept certificate that the checker refuses or that repeats another, or an unused place that is not 0.
+18: The certificate or proof asked for is not held.
 ",
     )
 }

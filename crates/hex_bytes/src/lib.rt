@@ -1,5 +1,6 @@
 // A word of hex digits as the bytes of a packet.
 #![tactic(auto)]
+
 ghost use Rattle.std.specs.Prelude.{◌≡◌, ◌+◌, ◌*◌, ◌≤◌, ◌<◌, length};
 ghost use Rattle.hex_bytes.specs.Bytes.{hex_digit, hex_pair, is_dash, pairs_good, spells_bytes, Pairs, put_pairs, HexIn};
 

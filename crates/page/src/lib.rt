@@ -1,5 +1,6 @@
 // Writing to standard output: text, numbers, and bytes in hex digits. No contract can say what is written.
 #![tactic(auto)]
+
 const OUT: i32 = 1;
 
 // Text as it stands.

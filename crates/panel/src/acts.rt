@@ -16,6 +16,7 @@ fn ask(page: &mut [u8], c: Command, line: &[u8], at: usize, rec: &[u64]) -> Turn
 
 // Answers a command by which nodes are compared, or one that only asks; the node is lent to be read.
 fn others(
+    rt: &HostRuntime,
     page: &mut [u8],
     c: Command,
     line: &[u8],
@@ -26,7 +27,7 @@ fn others(
     match c {
         Command::Aside => answered(comparing::aside(page, rec, aside)),
         Command::Differ => answered(differ(page, aside, rec)),
-        Command::Save => answered(save(page, line, at, rec)),
+        Command::Save => answered(save(rt, page, line, at, rec)),
         Command::Stands => answered(stands(page, rec)),
         Command::Vouched => answered(vouched(page, line, at, aside, rec)),
         Command::Parents => answered(parents(page, aside, rec)),
@@ -38,6 +39,7 @@ fn others(
 // Answers a line, and tells what follows; nothing is answered where it has no word. A line that is none of the commands leaves record
 // and outbox as they were, and so does every command that only asks.
 pub fn obey(
+    rt: &HostRuntime,
     page: &mut [u8],
     line: &[u8],
     rec: &mut [u64],
@@ -65,6 +67,6 @@ pub fn obey(
         Command::Take => answered(take(page, line, at, rec, outbox)),
         Command::Piece => answered(piece(page, line, at, pieces, front)),
         Command::End => answered(end(page, pieces, front)),
-        _ => others(page, c, line, at, rec, aside),
+        _ => others(rt, page, c, line, at, rec, aside),
     }
 }

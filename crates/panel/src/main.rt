@@ -1,11 +1,16 @@
 // The panel: answers a script, one command a line, read from standard input or from the file that the first argument names.
 #![tactic(auto)]
+
 mod acts;
 
 ghost use Rattle.std.specs.Prelude.{◌<◌};
 
 use acts::obey;
+use door::{fail, file_name};
 use replies::{Turn, answered, goes_on, malformed};
+use std::env::{Env, FillError};
+use std::fs::File;
+use std::io::{Error, Read};
 
 // A line has at most 65,536 bytes without its end; two more are kept, so that a longer one shows.
 const LINE_ROOM: usize = 65538;
@@ -25,6 +30,11 @@ const OUTBOX_WORDS: usize = 480;
 const PIECES_WORDS: usize = 2050;
 
 const PIECES_BYTES: usize = 1341;
+
+const ERR: i32 = 2;
+
+// The C library's number for a name that is too long.
+const NAME_TOO_LONG: i32 = 36;
 
 // The line's bytes without a carriage return at their end.
 fn trimmed(line: &[u8]) -> usize {
@@ -49,6 +59,7 @@ fn is_comment(line: &[u8]) -> bool {
 
 // Answers a line, its carriage return gone. A line that is too long gets ? whatever it holds, spaces alone or a comment too.
 fn answer(
+    rt: &HostRuntime,
     page: &mut [u8],
     line: &[u8],
     rec: &mut [u64],
@@ -63,11 +74,12 @@ fn answer(
     if is_comment(line) {
         return Turn::On;
     }
-    obey(page, line, rec, aside, outbox, pieces, front)
+    obey(rt, page, line, rec, aside, outbox, pieces, front)
 }
 
 // Answers the line that stands in the front of the buffer.
 fn finish_line(
+    rt: &HostRuntime,
     page: &mut [u8],
     buffer: &[u8],
     used: usize,
@@ -85,7 +97,7 @@ fn finish_line(
     if end > line.len() {
         return Turn::On;
     }
-    answer(page, &line[0..end], rec, aside, outbox, pieces, front)
+    answer(rt, page, &line[0..end], rec, aside, outbox, pieces, front)
 }
 
 // Keeps a byte of a line, where there is room, and answers how many are kept.
@@ -99,6 +111,7 @@ fn keep(line: &mut [u8], used: usize, b: u8) -> usize {
 
 // Takes a byte of the script: it goes to the line, and a line feed has the line answered.
 fn take_byte(
+    rt: &HostRuntime,
     b: u8,
     page: &mut [u8],
     line: &mut [u8],
@@ -115,11 +128,12 @@ fn take_byte(
     }
     let kept = *used;
     *used = 0;
-    finish_line(page, line, kept, rec, aside, outbox, pieces, front)
+    finish_line(rt, page, line, kept, rec, aside, outbox, pieces, front)
 }
 
 // Takes bytes of the script, up to the first answer after which nothing more is answered.
 fn take(
+    rt: &HostRuntime,
     bytes: &[u8],
     page: &mut [u8],
     line: &mut [u8],
@@ -132,7 +146,7 @@ fn take(
 ) -> Turn {
     for i in 0..bytes.len() {
         let turn = take_byte(
-            bytes[i], page, line, used, rec, aside, outbox, pieces, front,
+            rt, bytes[i], page, line, used, rec, aside, outbox, pieces, front,
         );
         if !goes_on(turn) {
             return turn;
@@ -142,8 +156,9 @@ fn take(
 }
 
 // Reads a piece of the script and takes it.
-fn take_piece(
-    fd: i32,
+fn take_piece<R: Read>(
+    rt: &HostRuntime,
+    script: &mut R,
     page: &mut [u8],
     line: &mut [u8],
     used: &mut usize,
@@ -154,25 +169,25 @@ fn take_piece(
     front: &mut [u8],
 ) -> Turn {
     let mut buffer = io::large_buffer();
-    let got = libc::read(fd, &mut buffer);
-    if got < 0 {
-        return Turn::Unread;
+    match script.read(&mut buffer) {
+        Err(e) => {
+            fail(b"panel: the script was not read to its end", e);
+            Turn::Unread
+        }
+        Ok(0) => Turn::End,
+        Ok(n) => take(
+            rt,
+            &buffer[..n],
+            page,
+            line,
+            used,
+            rec,
+            aside,
+            outbox,
+            pieces,
+            front,
+        ),
     }
-    if got == 0 {
-        return Turn::End;
-    }
-    let n = io::count(got, &buffer);
-    take(
-        &buffer[..n],
-        page,
-        line,
-        used,
-        rec,
-        aside,
-        outbox,
-        pieces,
-        front,
-    )
 }
 
 // The turns that are left after one: one fewer, or none where nothing more is answered.
@@ -185,8 +200,9 @@ fn turns_left(more: bool, turns: u64) -> u64
 
 // Answers the whole script, and how it ended. A proved loop has to end and nothing says that a script does, so the turns are
 // counted down from a number that no run uses up.
-fn run(
-    fd: i32,
+fn run<R: Read>(
+    rt: &HostRuntime,
+    script: &mut R,
     page: &mut [u8],
     line: &mut [u8],
     rec: &mut [u64],
@@ -199,17 +215,19 @@ fn run(
     let mut last = Turn::On;
     let mut turns = u64::MAX;
     while turns > 0 {
-        last = take_piece(fd, page, line, &mut used, rec, aside, outbox, pieces, front);
+        last = take_piece(
+            rt, script, page, line, &mut used, rec, aside, outbox, pieces, front,
+        );
         turns = turns_left(goes_on(last), turns);
     }
     match last {
-        Turn::End => finish_line(page, line, used, rec, aside, outbox, pieces, front),
+        Turn::End => finish_line(rt, page, line, used, rec, aside, outbox, pieces, front),
         _ => last,
     }
 }
 
-// Answers the script of an open file, for a node that is not started yet, and says on standard error what was not done.
-fn play(fd: i32) {
+// Answers a script, for a node that is not started yet, and says on standard error what was not done.
+fn play<R: Read>(rt: &HostRuntime, script: &mut R) {
     let mut page = [0u8; PAGE_ROOM];
     let mut line = [0u8; LINE_ROOM];
     let mut rec = [0u64; RECORD_WORDS];
@@ -218,7 +236,8 @@ fn play(fd: i32) {
     let mut pieces = [0u64; PIECES_WORDS];
     let mut front = [0u8; PIECES_BYTES];
     match run(
-        fd,
+        rt,
+        script,
         &mut page,
         &mut line,
         &mut rec,
@@ -227,33 +246,34 @@ fn play(fd: i32) {
         &mut pieces,
         &mut front,
     ) {
-        Turn::Unwritten => os::fail(b"panel: an answer was not written whole, and none follows"),
-        Turn::Unread => os::fail(b"panel: the script was not read to its end"),
+        Turn::Unwritten => {
+            io::write_all(
+                ERR,
+                b"panel: an answer was not written whole, and none follows\n",
+            );
+        }
         _ => {}
     }
 }
 
-// Answers the script in a file.
-fn play_file() {
-    let mut path = io::buffer();
-    let length = os::arg(1, &mut path);
-    if os::errno() != 0 {
-        os::fail(b"panel: FILE");
-        return;
-    }
-    let fd = os::open_read(&path[..length]);
-    if fd < 0 {
-        os::fail(&path[..length]);
-        return;
-    }
-    play(fd);
-    libc::close(fd);
+// Opens the file of that name.
+fn open(rt: &HostRuntime, path: &[u8]) -> std::io::Result<File> {
+    File::open(rt, file_name(path)?)
 }
 
-fn main() {
-    if os::arg_count() > 1 {
-        play_file();
-    } else {
-        play(0);
+// Answers the script in a file.
+fn play_file(rt: &HostRuntime, path: &[u8]) {
+    match open(rt, path) {
+        Ok(mut file) => play(rt, &mut file),
+        Err(e) => fail(path, e),
+    }
+}
+
+fn main(rt: HostRuntime) {
+    let mut path = io::buffer();
+    match rt.arg(1, &mut path) {
+        Ok(length) => play_file(&rt, &path[..length]),
+        Err(FillError::TooLong) => fail(b"panel: FILE", Error::from_raw_os_error(NAME_TOO_LONG)),
+        Err(FillError::NotPresent) => play(&rt, &mut rt.stdin()),
     }
 }

@@ -1,5 +1,6 @@
 // The commands of proofs in pieces: which of a line's words go to which function of the face, and how it is answered.
 #![tactic(auto)]
+
 ghost use Rattle.std.specs.Prelude.{◌≡◌};
 ghost use Rattle.std.proofs.lemmas.List.Edits.{sets};
 ghost use Rattle.piecing.specs.Answer.{piece_line};

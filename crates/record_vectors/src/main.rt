@@ -2,6 +2,7 @@
 // be spoiled, PLACE VALUE by PLACE VALUE; a line of numbers puts such words into a copy of it, which is then asked for a look, a
 // certificate and a proof: their numbers are told, and whether record, outbox and buffers are as found. Any other line is a title.
 #![tactic(auto)]
+
 use kinds::refusal_number;
 use node::step;
 use page::{end_line, say, tell};
@@ -293,8 +294,7 @@ fn main() {
     let mut sound = [0u64; RECORD_WORDS];
     let mut buffer = io::large_buffer();
     begin(&mut sound);
-    let got = libc::read(0, &mut buffer);
-    let n = io::count(got, &buffer);
+    let n = io::read_full(0, &mut buffer);
     lines(&buffer[..n], &mut sound);
     look_as(&sound, Node(0));
     look_as(&sound, Node(2));

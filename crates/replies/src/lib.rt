@@ -1,6 +1,7 @@
 // The panel's answers: each line is built whole in the page and leaves by the door, and the contract says what stood there. Each
 // answers whether it was written.
 #![tactic(auto)]
+
 ghost use Rattle.std.specs.Prelude.{◌≡◌, [], ◌∷◌};
 ghost use Rattle.std.proofs.lemmas.List.Edits.{sets};
 ghost use Rattle.lines.specs.Answers.{number_line, step_line, tray_line, packet_line, message_line, check_line};

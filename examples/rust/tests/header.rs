@@ -27,8 +27,8 @@ fn versions_agree() {
 
 #[test]
 fn refusals_are_told_in_the_librarys_words() {
-    assert_eq!(Refusal::BadSlot.to_string(), "The slot is not 1 to 16. Give one of these; the sixteen slots after them have a record of their own.");
-    assert_eq!(Refusal::NotHeld.to_string(), "The certificate or proof asked for is not held. The slot's board tells what is missing: feed the votes or certificates that other firms have, and ask again.");
+    assert_eq!(Refusal::BadSlot.to_string(), "The slot is not 1 to 16.");
+    assert_eq!(Refusal::NotHeld.to_string(), "The certificate or proof asked for is not held.");
     let light = Refusal::TooLight { missing: Weight(3) }.to_string();
     assert!(light.starts_with("The weight is below the threshold;") && light.ends_with(" 3 is missing."));
     assert_eq!(Refusal::Unknown(99).to_string(), "No refusal has this number. It is 99.");

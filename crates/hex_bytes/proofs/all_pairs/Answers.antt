@@ -1,7 +1,5 @@
 -- The loop over pairs: all before the present one are digits.
 use mathlib.Core.Path.{sym, ap, ◌∙◌}
-use mathlib.Core.Bool.{true}
-use Prim.Native.Nat.{◌-◌}
 use native.Mathlib.Omega.{arith}
 use Rattle.hex_bytes.specs.Bytes.{pairs_good}
 use Rattle.hex_bytes.proofs.Pairs.{pairs_none, pairs_more, pairs_bad}

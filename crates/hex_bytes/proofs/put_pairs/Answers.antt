@@ -1,8 +1,7 @@
 -- The loop over pairs: those before the present one stand in the buffer.
 use mathlib.Core.Path.{refl}
-use Prim.Native.Nat.{◌-◌}
 use native.Mathlib.Omega.{arith}
-use lib.ListN.{length, length-set}
+use lib.ListN.{length-set}
 use Rattle.hex_bytes.proofs.Pairs.{pair_at_lem, put_none, put_more, put_end}
 use Rattle.hex_bytes.proofs.put_pairs.Goals as goal
 

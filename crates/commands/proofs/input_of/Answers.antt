@@ -1,0 +1,49 @@
+-- The words in turn.
+use mathlib.Core.Path.{◌∙◌, sym}
+use Rattle.rule_laws.proofs.ToolLaws.{choose_on, choose_off}
+use Rattle.commands.specs.Commands.{input_of}
+use Rattle.commands.proofs.input_of.Goals as goal
+
+pub returns-then-same : goal.returns-then-same
+unfolding input_of
+returns-then-same c = sym (choose_on _ _ _ (sym c.same.ensures ∙ c.if-same.true))
+
+pub returns-then-same-2 : goal.returns-then-same-2
+unfolding input_of
+returns-then-same-2 c =
+    sym (choose_off _ _ _ (sym c.same.ensures ∙ c.if-same.false) ∙ choose_on _ _ _ (sym c.same-2.ensures ∙ c.if-same-2.true))
+
+pub returns-then-same-3 : goal.returns-then-same-3
+unfolding input_of
+returns-then-same-3 c =
+    sym (choose_off _ _ _ (sym c.same.ensures ∙ c.if-same.false) ∙ choose_off _ _ _ (sym c.same-2.ensures ∙ c.if-same-2.false) ∙ choose_on _ _ _ (sym c.same-3.ensures ∙ c.if-same-3.true))
+
+pub returns-then-same-4 : goal.returns-then-same-4
+unfolding input_of
+returns-then-same-4 c =
+    sym (choose_off _ _ _ (sym c.same.ensures ∙ c.if-same.false) ∙ choose_off _ _ _ (sym c.same-2.ensures ∙ c.if-same-2.false) ∙ choose_off _ _ _ (sym c.same-3.ensures ∙ c.if-same-3.false) ∙ choose_on _ _ _ (sym c.same-4.ensures ∙ c.if-same-4.true))
+
+pub returns-then-same-5 : goal.returns-then-same-5
+unfolding input_of
+returns-then-same-5 c =
+    sym (choose_off _ _ _ (sym c.same.ensures ∙ c.if-same.false) ∙ choose_off _ _ _ (sym c.same-2.ensures ∙ c.if-same-2.false) ∙ choose_off _ _ _ (sym c.same-3.ensures ∙ c.if-same-3.false) ∙ choose_off _ _ _ (sym c.same-4.ensures ∙ c.if-same-4.false) ∙ choose_on _ _ _ (sym c.same-5.ensures ∙ c.if-same-5.true))
+
+pub returns-then-same-6 : goal.returns-then-same-6
+unfolding input_of
+returns-then-same-6 c =
+    sym (choose_off _ _ _ (sym c.same.ensures ∙ c.if-same.false) ∙ choose_off _ _ _ (sym c.same-2.ensures ∙ c.if-same-2.false) ∙ choose_off _ _ _ (sym c.same-3.ensures ∙ c.if-same-3.false) ∙ choose_off _ _ _ (sym c.same-4.ensures ∙ c.if-same-4.false) ∙ choose_off _ _ _ (sym c.same-5.ensures ∙ c.if-same-5.false) ∙ choose_on _ _ _ (sym c.same-6.ensures ∙ c.if-same-6.true))
+
+pub returns-then-same-7 : goal.returns-then-same-7
+unfolding input_of
+returns-then-same-7 c =
+    sym (choose_off _ _ _ (sym c.same.ensures ∙ c.if-same.false) ∙ choose_off _ _ _ (sym c.same-2.ensures ∙ c.if-same-2.false) ∙ choose_off _ _ _ (sym c.same-3.ensures ∙ c.if-same-3.false) ∙ choose_off _ _ _ (sym c.same-4.ensures ∙ c.if-same-4.false) ∙ choose_off _ _ _ (sym c.same-5.ensures ∙ c.if-same-5.false) ∙ choose_off _ _ _ (sym c.same-6.ensures ∙ c.if-same-6.false) ∙ choose_on _ _ _ (sym c.same-7.ensures ∙ c.if-same-7.true))
+
+pub returns-then-same-8 : goal.returns-then-same-8
+unfolding input_of
+returns-then-same-8 c =
+    sym (choose_off _ _ _ (sym c.same.ensures ∙ c.if-same.false) ∙ choose_off _ _ _ (sym c.same-2.ensures ∙ c.if-same-2.false) ∙ choose_off _ _ _ (sym c.same-3.ensures ∙ c.if-same-3.false) ∙ choose_off _ _ _ (sym c.same-4.ensures ∙ c.if-same-4.false) ∙ choose_off _ _ _ (sym c.same-5.ensures ∙ c.if-same-5.false) ∙ choose_off _ _ _ (sym c.same-6.ensures ∙ c.if-same-6.false) ∙ choose_off _ _ _ (sym c.same-7.ensures ∙ c.if-same-7.false) ∙ choose_on _ _ _ (sym c.same-8.ensures ∙ c.if-same-8.true))
+
+pub returns : goal.returns
+unfolding input_of
+returns c =
+    c.question_of.ensures ∙ sym (choose_off _ _ _ (sym c.same.ensures ∙ c.if-same.false) ∙ choose_off _ _ _ (sym c.same-2.ensures ∙ c.if-same-2.false) ∙ choose_off _ _ _ (sym c.same-3.ensures ∙ c.if-same-3.false) ∙ choose_off _ _ _ (sym c.same-4.ensures ∙ c.if-same-4.false) ∙ choose_off _ _ _ (sym c.same-5.ensures ∙ c.if-same-5.false) ∙ choose_off _ _ _ (sym c.same-6.ensures ∙ c.if-same-6.false) ∙ choose_off _ _ _ (sym c.same-7.ensures ∙ c.if-same-7.false) ∙ choose_off _ _ _ (sym c.same-8.ensures ∙ c.if-same-8.false))
