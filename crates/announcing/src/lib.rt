@@ -1,6 +1,7 @@
 // Whether a host may announce a block now, by the policy for blocks: 17, then what the block itself would be refused with, then a slot's
 // first block as it comes and a further one with rule D's weights.
 #![tactic(auto)]
+
 ghost use Rattle.std.specs.Prelude.{◌≡◌, ◌||◌};
 ghost use Rattle.rulebook.specs.Ledger.{blocks_at, all_blocks, is_free};
 ghost use Rattle.rulebook.specs.Rules.{fallback_weights};

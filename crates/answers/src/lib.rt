@@ -1,5 +1,6 @@
 // What the operations answer, as numbers and values on the panel: the definitions of the paper's numbers say which.
 #![tactic(auto)]
+
 ghost use Rattle.std.specs.Prelude.{◌≡◌};
 ghost use Rattle.rulebook.specs.Tools.{part};
 ghost use Rattle.rulebook.specs.PaperNumbers.{start_panel, step_panel, write_panel, read_panel, check_number, check_values, check_missing};

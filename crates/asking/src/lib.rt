@@ -1,5 +1,6 @@
 // The commands that only ask: which of a line's words go to which function, and how it is answered.
 #![tactic(auto)]
+
 use commands::Command;
 use help::{help, topic, why};
 use hex_bytes::read_hex;

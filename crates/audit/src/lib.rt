@@ -1,6 +1,7 @@
 // The 17 test of a slot's votes: every cell in range, and the tally card what a recount gives. One pass over the cells tests them
 // and sums all that the card is held to. Only where no block has more than all the others together are others looked at.
 #![tactic(auto)]
+
 ghost use Rattle.std.specs.Prelude.{◌≡◌, true, ◌&&◌, ◌+◌, ◌≤◌, ◌^◌, eqb};
 ghost use Rattle.rulebook.specs.Tools.{part};
 ghost use Rattle.rulebook.specs.Weights.{stake_in};

@@ -1,5 +1,6 @@
 // Rows of a record with nothing in them, found by or-ing all words of a slot's row.
 #![tactic(auto)]
+
 ghost use Rattle.std.specs.Prelude.{◌≡◌, ◌+◌, ◌≤◌, length};
 ghost use Rattle.rulebook.specs.Ledger.{none};
 ghost use Rattle.record.specs.Layout.{InSlot, ledger_of};

@@ -2,6 +2,7 @@
 // it. Lines are built in a lent page and leave by the door one by one; a function takes the place that was reached in the page and
 // answers the next, which is the page's end once a line was not written.
 #![tactic(auto)]
+
 use door::end_line;
 use kinds::{is_other, slot_ok};
 use lines::{put_missing, put_named, put_share, put_text};

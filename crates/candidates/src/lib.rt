@@ -1,6 +1,7 @@
 // The tests of rules D to F: what they ask of the weights, and the block that D and F act on. Nothing is weighed where the
 // cheap tests or the slot's card settle it.
 #![tactic(auto)]
+
 ghost use Rattle.std.specs.Prelude.{◌≡◌, not, ◌-◌, length};
 ghost use Rattle.rulebook.specs.Tools.{lower, lowest};
 ghost use Rattle.rulebook.specs.Weights.{reaches, d_weights};

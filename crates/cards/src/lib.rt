@@ -1,5 +1,6 @@
 // A slot's tally card, asked of a record.
 #![tactic(auto)]
+
 ghost use Rattle.std.specs.Prelude.{◌≡◌};
 ghost use Rattle.cards.specs.Asked.{card_on};
 

@@ -1,5 +1,6 @@
 // What is kept of a node in a slot: where a vote would go, and the votes with one more.
 #![tactic(auto)]
+
 ghost use Rattle.std.specs.Prelude.{◌≡◌};
 ghost use Rattle.rulebook.specs.Ledger.{none};
 ghost use Rattle.rulebook.specs.Pool.{has_fallback};

@@ -1,5 +1,6 @@
 // A certificate as numbers: read at a place of a packet, its masks into lent words, and written at a place of lent bytes.
 #![tactic(auto)]
+
 ghost use Rattle.std.specs.Prelude.{◌≡◌};
 ghost use Rattle.rulebook.specs.Packets.{words_in, certificate_of, certificate_at, certificate_bytes};
 ghost use Rattle.certificate_numbers.specs.Failed.{failed_of, failed_mask};

@@ -1,5 +1,6 @@
 // One certificate of a packet, read and judged on lent stakes and their table.
 #![tactic(auto)]
+
 ghost use Rattle.std.specs.Prelude.{◌≡◌};
 ghost use Rattle.rulebook.specs.declared.Heading.{Heading};
 ghost use Rattle.rulebook.specs.Packets.{certificate_of};

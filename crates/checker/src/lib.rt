@@ -1,5 +1,6 @@
 // The checker of certificates and finality proofs, on lent stakes and a lent packet.
 #![tactic(auto)]
+
 ghost use Rattle.std.specs.Prelude.{◌≡◌};
 ghost use Rattle.rulebook.specs.Checker.{check_certificate, check_proof};
 ghost use Rattle.stakes.specs.Table.{Fit};

@@ -1,5 +1,6 @@
 // Heavy names by few counters (Misra and Gries): one pass over names with weights leaves every heavy name among the counters' names.
 #![tactic(auto)]
+
 ghost use Rattle.std.specs.Prelude.{◌≡◌, length};
 ghost use Rattle.counters.specs.Counting.{counters, Room, Place, Least, Lowerable, Lowered, Lower, Added};
 

@@ -3,6 +3,7 @@
 
 // Which of two records has a vote.
 #![tactic(auto)]
+
 #[derive(Clone, Copy)]
 pub enum Side {
     First,

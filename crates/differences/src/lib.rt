@@ -1,5 +1,6 @@
 // Which votes of two records differ: every stored vote that one of them has and the other has not, as lines in a lent list.
 #![tactic(auto)]
+
 ghost use Rattle.std.specs.Prelude.{◌≡◌, [], ◌∷◌, ◌+◌, ◌≤◌, set, ltb};
 ghost use Rattle.rulebook.specs.Tools.{lower, lowest};
 ghost use Rattle.record.specs.Layout.{ledger_of};

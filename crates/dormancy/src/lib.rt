@@ -1,5 +1,6 @@
 // Whether a look that weighs nothing shows that no rule applies in a slot.
 #![tactic(auto)]
+
 ghost use Rattle.std.specs.Prelude.{◌≡◌, ◌+◌, ◌*◌, ◌≤◌, length};
 ghost use Rattle.rulebook.specs.Ledger.{most_certificates};
 ghost use Rattle.record.specs.Layout.{InSlot, ledger_of};

@@ -1,5 +1,6 @@
 // The rules D and E: the fallbacks, cast behind the skips of their window.
 #![tactic(auto)]
+
 ghost use Rattle.std.specs.Prelude.{◌≡◌, not, ◌&&◌, ◌||◌};
 ghost use Rattle.rulebook.specs.Ledger.{none, own_cell};
 ghost use Rattle.rulebook.specs.Rules.{window_open, cast_fallback, rule_d, may_skip_fallback, cast_skip_fallback, rule_e};

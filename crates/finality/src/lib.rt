@@ -1,5 +1,6 @@
 // The rules F and G: a final block is told of, and its ancestors with it.
 #![tactic(auto)]
+
 ghost use Rattle.std.specs.Prelude.{◌≡◌};
 ghost use Rattle.rulebook.specs.Rules.{tell_clash, tell_final, rule_f, rule_g};
 ghost use Rattle.record.specs.Layout.{InSlot, ledger_of};

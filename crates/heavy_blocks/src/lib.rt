@@ -1,5 +1,6 @@
 // The blocks of a slot that can have the weights of rules A and D: at most six, found in one pass over the slot's cells.
 #![tactic(auto)]
+
 ghost use Rattle.rulebook.specs.declared.Who.TheVariants as who;
 ghost use Rattle.record.specs.Layout.{ledger_of};
 ghost use Rattle.pool.specs.Weighing.{Weighing};

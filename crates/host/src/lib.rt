@@ -2,6 +2,7 @@
 // life is made of, and what is written, read, checked, compared and taken in pieces, in the words in which the promises speak of it, by name and
 // argument. Where a contract of the face drifts, the host is refused. Then it lives: what its calls make together.
 #![tactic(auto)]
+
 ghost use Rattle.std.specs.Prelude.{◌≡◌, length};
 ghost use Rattle.rulebook.specs.declared.Input.TheVariants as input;
 ghost use Rattle.rulebook.specs.Checker.{check_certificate, check_proof};

@@ -1,5 +1,6 @@
 // The inputs that a host's numbers stand for.
 #![tactic(auto)]
+
 ghost use Rattle.std.specs.Prelude.{◌≡◌};
 ghost use Rattle.rulebook.specs.Messages.{vote_of};
 ghost use Rattle.inputs.specs.Inputs.{vote_input, block_input, timeout_input};

@@ -1,5 +1,6 @@
 // Lines of the inquest in a lent list, five words a line.
 #![tactic(auto)]
+
 ghost use Rattle.std.specs.Prelude.{[], ◌∷◌, ◌+◌, ◌≤◌};
 ghost use Rattle.inquest.specs.Lists.{unless};
 ghost use Rattle.inquest_lines.specs.Lent.{Laid, most_lines};

@@ -1,5 +1,6 @@
 // What an accepted input stores in the record, and casts before the rules run.
 #![tactic(auto)]
+
 ghost use Rattle.rulebook.specs.Inputs.{time_out, intake};
 ghost use Rattle.record.specs.Layout.{ledger_of};
 ghost use Rattle.voter.specs.Voting.{CastingAt, Onward};

@@ -1,6 +1,7 @@
 // The 17 test of kept certificates: each is judged as the checker would with the record's stakes, places are filled from the front
 // and no block is kept twice for one kind.
 #![tactic(auto)]
+
 ghost use Rattle.std.specs.Prelude.{◌≡◌};
 ghost use Rattle.rulebook.specs.Tools.{all_to};
 ghost use Rattle.rulebook.specs.Ledger.{table_of, certificates_at, kept_at};

@@ -1,5 +1,6 @@
 // Certificates from other firms as a record keeps them, by slot and place: the block, and the masks as words.
 #![tactic(auto)]
+
 ghost use Rattle.std.specs.Prelude.{◌≡◌, not, set};
 ghost use Rattle.std.proofs.lemmas.List.Edits.{sets};
 ghost use Rattle.rulebook.specs.Packets.{joined};

@@ -1,5 +1,6 @@
 // The certificates from other firms that a slot keeps, as an accepted check tells them, and as lines in a lent list.
 #![tactic(auto)]
+
 ghost use Rattle.std.specs.Prelude.{◌≡◌, [], ◌∷◌, ◌+◌, ◌≤◌, length};
 ghost use Rattle.rulebook.specs.Pool.{place_kind};
 ghost use Rattle.record.specs.Layout.{ledger_of};

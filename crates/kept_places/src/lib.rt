@@ -1,6 +1,7 @@
 // A slot's places for certificates from other firms by their kinds: looked through for room, for a repeat, for one that serves,
 // and a certificate kept.
 #![tactic(auto)]
+
 ghost use Rattle.std.specs.Prelude.{◌≡◌};
 ghost use Rattle.rulebook.specs.Packets.{joined};
 ghost use Rattle.rulebook.specs.Ledger.{certificates_at, put_certificates};

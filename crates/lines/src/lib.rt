@@ -1,5 +1,6 @@
 // The text of the panel's answers, put into a lent buffer. A place that is the buffer's end says that it was full.
 #![tactic(auto)]
+
 ghost use Rattle.std.specs.Prelude.{◌≡◌, [], ◌∷◌, ◌++◌, ◌+◌, ◌*◌, ◌≤◌, ◌<◌, min, length, take};
 ghost use Rattle.lines.specs.Text.{decimal, hex_pair, hex_text, record_text, records_text};
 ghost use Rattle.lines.specs.Text.{glyph as Text·glyph};

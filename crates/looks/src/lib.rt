@@ -1,6 +1,7 @@
 // What a tray keeps in mind of who names blocks: a word for each slot, no less than the stake of the nodes that name some block there, the own
 // node's with it. While it stays short of 60 percent no block of the slot can hold kind 3 by votes, and nobody need be counted.
 #![tactic(auto)]
+
 ghost use Rattle.std.specs.Prelude.{◌≡◌, ◌≤◌, ◌<◌, length};
 ghost use Rattle.record.specs.Layout.{Long, InWindow, ledger_of};
 ghost use Rattle.record.specs.Tabled.{Tabled};

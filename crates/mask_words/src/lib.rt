@@ -1,5 +1,6 @@
 // The words of a signer mask: read at a place of a packet into lent words, written at a place of lent bytes.
 #![tactic(auto)]
+
 ghost use Rattle.std.specs.Prelude.{◌≡◌, length};
 ghost use Rattle.rulebook.specs.Packets.{mask_at, mask_bytes, joined};
 ghost use Rattle.mask_words.specs.Told.{failed_word, laid_as};

@@ -1,5 +1,6 @@
 // Votes as bytes: a vote message is kind, node, slot and block, four numbers in groups of seven bits.
 #![tactic(auto)]
+
 ghost use Rattle.std.specs.Prelude.{◌≡◌, length};
 ghost use Rattle.rulebook.specs.Messages.{vote_tests, read_on, read_vote, message_bytes, message_verdict, write_vote};
 ghost use Rattle.rulebook.specs.Writers.{Writes};

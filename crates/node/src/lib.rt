@@ -1,5 +1,6 @@
 // The node: one input judged, stored, and the rules run until none applies; its records stand at the front of the outbox.
 #![tactic(auto)]
+
 ghost use Rattle.std.specs.Prelude.{◌≡◌};
 ghost use Rattle.rulebook.specs.Run.{run};
 ghost use Rattle.rulebook.specs.Inputs.{intake};

@@ -1,5 +1,6 @@
 // What the own votes let rules C to E still cast.
 #![tactic(auto)]
+
 ghost use Rattle.std.specs.Prelude.{◌≡◌};
 ghost use Rattle.rulebook.specs.Rules.{window_open, may_final, may_fallback, may_skip_fallback};
 ghost use Rattle.record.specs.Layout.{InWindow, ledger_of};

@@ -1,6 +1,7 @@
 // Ready parents: a block that a slot holds, or genesis, with every slot between skipped. A slot's blocks are those that its votes
 // and its kept certificates name.
 #![tactic(auto)]
+
 ghost use Rattle.std.specs.Prelude.{◌≡◌, ◌+◌, length, get_or};
 ghost use Rattle.rulebook.specs.declared.CertificateKind.TheVariants as certificate;
 ghost use Rattle.rulebook.specs.Tools.{any_of, some_to};

@@ -1,5 +1,6 @@
 // The checker of a finality proof that arrives in pieces. The host lends the state, words and bytes; all zeros, nothing has been taken.
 #![tactic(auto)]
+
 ghost use Rattle.std.specs.Prelude.{◌≡◌, ◌+◌, ◌≤◌, min, length, get_or, set, replicate};
 ghost use Rattle.std.proofs.Math.Seq.{paste};
 ghost use Rattle.pieces.specs.State.{state_words, front_bytes, nodes, blank, is_sized, is_ready, holds_table, is_whole, Pasted, Sized, Taking, Keeps, with_table, PieceOf, EndOf};

@@ -1,5 +1,6 @@
 // What a writer wrote, read back by the checker with the record's own stakes.
 #![tactic(auto)]
+
 ghost use Rattle.std.specs.Prelude.{length};
 ghost use Rattle.record.specs.Layout.{ledger_of};
 ghost use Rattle.writers.specs.Writing.{kind_on, certificate_on, proof_on};

@@ -1,6 +1,7 @@
 // What a host asks of a record: a slot's final block, whether its window is armed, a node's stored votes in it, its kept blocks, its
 // marks, and what its votes weigh for a block; and whose record it is.
 #![tactic(auto)]
+
 ghost use Rattle.std.specs.Prelude.{◌≡◌, min, max};
 ghost use Rattle.readers.specs.Asked.{final_on, armed_on, votes_on, blocks_kept, blocks_on, marks_kept, marks_on, head_kept, head_on};
 ghost use Rattle.readers.specs.Weighed.{missing_d, Light, weights_kept, weights_on};

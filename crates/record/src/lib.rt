@@ -1,6 +1,7 @@
 // The node's record: words lent by the host, and the ledger that they hold. Every other crate reads and changes a
 // record through these functions, and kept certificates through those of kept_certificates.
 #![tactic(auto)]
+
 ghost use Rattle.std.specs.Prelude.{◌≡◌, not, ◌<◌, length, get_or, set, take, replicate};
 ghost use Rattle.rulebook.specs.Weights.{places_for, windows, stake_in};
 ghost use Rattle.rulebook.specs.Ledger.{none, no_block, places, row_at, cell_at, is_watcher, own_cell, blocks_at, is_armed, put_cell, put_card, put_blocks, put_timed_out, put_final, put_clash, put_armed};

@@ -1,6 +1,7 @@
 // Whether some block of a slot leads a claimed leader. The votes for other blocks are summed in groups first; where a group has enough
 // they are listed by block; and only where that shows nothing are blocks weighed, each once.
 #![tactic(auto)]
+
 ghost use Rattle.std.specs.Prelude.{◌≡◌, false, ◌≤◌, ◌^◌};
 ghost use Rattle.rulebook.specs.Cards.{leads};
 ghost use Rattle.record.specs.Layout.{ledger_of};

@@ -1,5 +1,6 @@
 // The rules A, B and C.
 #![tactic(auto)]
+
 ghost use Rattle.std.specs.Prelude.{◌≡◌, not, ◌&&◌};
 ghost use Rattle.rulebook.specs.Weights.{is_first};
 ghost use Rattle.rulebook.specs.Ledger.{is_armed};

@@ -1,6 +1,7 @@
 // The first of the rules A to G that applies, and settling: again from slot 1 until none applies. A dormant slot is passed over; what a tray
 // keeps in mind of who names blocks tells of some that they are.
 #![tactic(auto)]
+
 ghost use Rattle.rulebook.specs.Rules.{rule_g};
 ghost use Rattle.rulebook.specs.Run.{rule_at, first_rule, scan, run};
 ghost use Rattle.record.specs.Layout.{ledger_of};

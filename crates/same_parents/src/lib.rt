@@ -1,5 +1,6 @@
 // Blocks that two records keep with two parents, as lines in a lent list, two for each such block.
 #![tactic(auto)]
+
 ghost use Rattle.std.specs.Prelude.{◌≡◌, [], ◌∷◌, ◌+◌, ◌≤◌, length};
 ghost use Rattle.rulebook.specs.Ledger.{blocks_at};
 ghost use Rattle.record.specs.Layout.{ledger_of};

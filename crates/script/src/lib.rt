@@ -1,5 +1,6 @@
 // The words of a script's line: where they stand, and what they say as a decimal number.
 #![tactic(auto)]
+
 ghost use Rattle.std.specs.Prelude.{◌≡◌, ◌+◌, ◌*◌, ◌≤◌, ◌<◌, length};
 ghost use Rattle.script.specs.Words.{is_space, is_ink, Spanned, WordIn};
 ghost use Rattle.script.specs.Numbers.{NumbersIn};

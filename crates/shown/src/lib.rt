@@ -1,6 +1,7 @@
 // What a node's record shows to people, read and nothing printed: the node, and what is kept of a slot. Every function takes any
 // words, any slot and any place: words that are not as many as a record's show nothing.
 #![tactic(auto)]
+
 ghost use Rattle.std.specs.Prelude.{◌≡◌, not, get_or};
 ghost use Rattle.rulebook.specs.Tools.{part};
 ghost use Rattle.rulebook.specs.Weights.{is_large};

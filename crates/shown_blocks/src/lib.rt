@@ -1,5 +1,6 @@
 // The blocks that the votes of a slot name, in the order of their numbers, of any words and any slot.
 #![tactic(auto)]
+
 ghost use Rattle.std.specs.Prelude.{◌≡◌, ltb};
 ghost use Rattle.rulebook.specs.Tools.{lower, lowest};
 ghost use Rattle.shown.specs.Shown.{ledger_in};

@@ -1,6 +1,7 @@
 // The blocks that a fifth of the stake stands behind, and how many are lighter. The public functions take any words and any slot;
 // only a sound record has such blocks.
 #![tactic(auto)]
+
 ghost use Rattle.std.specs.Prelude.{◌≡◌};
 ghost use Rattle.rulebook.specs.Tools.{lower, lowest};
 ghost use Rattle.rulebook.specs.Pool.{names};

@@ -1,6 +1,7 @@
 // The certificates from other firms that a slot keeps, as people are shown them: kind, block, signers and their weight. Any words, any
 // slot and any place are taken; only a sound record keeps certificates.
 #![tactic(auto)]
+
 ghost use Rattle.std.specs.Prelude.{◌≡◌};
 ghost use Rattle.rulebook.specs.Pool.{place_kind};
 ghost use Rattle.record.specs.Layout.{ledger_of};

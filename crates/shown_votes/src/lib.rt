@@ -1,6 +1,7 @@
 // The votes that are stored in a slot: how many, whose, and the next node that has some. The public functions take any words and
 // any slot; only a sound record has weights.
 #![tactic(auto)]
+
 ghost use Rattle.std.specs.Prelude.{◌≡◌};
 ghost use Rattle.rulebook.specs.Tools.{part};
 ghost use Rattle.record.specs.Layout.{ledger_of};

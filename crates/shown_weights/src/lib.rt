@@ -1,6 +1,7 @@
 // What the votes of a slot weigh, which certificates it holds, whether a block is final by them and what is missing to one. Every
 // function takes any words and any slot; only a sound record has weights and certificates.
 #![tactic(auto)]
+
 ghost use Rattle.std.specs.Prelude.{◌≡◌};
 ghost use Rattle.shown_weights.specs.Weights.{weight_shown, held_shown, certified_shown, missing_shown, short_of, next_for, percent};
 

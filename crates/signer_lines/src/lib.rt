@@ -1,5 +1,6 @@
 // Lines of votes that a firm's own cell lacks: those that another record stores in its name, and those that a certificate counts it for.
 #![tactic(auto)]
+
 ghost use Rattle.std.specs.Prelude.{◌≡◌, not, ◌+◌, ◌≤◌, get_or};
 ghost use Rattle.rulebook.specs.Packets.{bit, joined};
 ghost use Rattle.rulebook.specs.Checker.{without_b};

@@ -1,6 +1,7 @@
 // The signers that a certificate names: those that a record has stored, as masks in lent words and with the certificate, or those of
 // a kept certificate, by its place.
 #![tactic(auto)]
+
 ghost use Rattle.std.specs.Prelude.{◌≡◌, ◌+◌, ◌-◌, min};
 ghost use Rattle.rulebook.specs.Ledger.{cell_at, certificates_at, kept_at};
 ghost use Rattle.rulebook.specs.Packets.{mask_of, joined, certificate_of};

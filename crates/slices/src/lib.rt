@@ -1,5 +1,6 @@
 // What is done with lent words in several places: the lesser of two counts, a word put where it has a place, and words copied.
 #![tactic(auto)]
+
 ghost use Rattle.std.specs.Prelude.{◌≡◌, ◌≤◌, min, set};
 ghost use Rattle.std.proofs.lemmas.List.Edits.{sets};
 

@@ -1,5 +1,6 @@
 // The 17 test.
 #![tactic(auto)]
+
 ghost use Rattle.std.specs.Prelude.{◌≡◌, ◌&&◌, ◌||◌, suc, get_or, eqb, ltb};
 ghost use Rattle.rulebook.specs.Tools.{all_to};
 ghost use Rattle.rulebook.specs.Weights.{last_slot, windows, stake_in, stakes_fit, total_to};

@@ -1,6 +1,7 @@
 // Which own votes of a record do not stand on what the record holds: one test for each kind of vote, by the rule that casts it, and the
 // lines of those that fail it.
 #![tactic(auto)]
+
 ghost use Rattle.std.specs.Prelude.{◌≡◌, not, ◌&&◌, length};
 ghost use Rattle.rulebook.specs.Weights.{is_first};
 ghost use Rattle.rulebook.specs.Ledger.{none};

@@ -1,5 +1,6 @@
 // The starts of a node and of a watcher.
 #![tactic(auto)]
+
 ghost use Rattle.std.specs.Prelude.{◌≡◌};
 ghost use Rattle.rulebook.specs.Ledger.{fresh};
 ghost use Rattle.record.specs.Layout.{ledger_of};

@@ -1,6 +1,7 @@
 // Whether a vote can stir another slot than its own, in a record in which no rule applied before it: the rules A, B and D look at what lower
 // slots hold, and one vote more is rarely one certificate more.
 #![tactic(auto)]
+
 ghost use Rattle.std.specs.Prelude.{◌≡◌, false, ◌≤◌};
 ghost use Rattle.rulebook.specs.Weights.{last_slot};
 ghost use Rattle.rulebook.specs.Rules.{fallback_block};

@@ -1,5 +1,6 @@
 // Storing a vote: the node's cell and the slot's tally card together. The one way in for own and outside votes.
 #![tactic(auto)]
+
 ghost use Rattle.std.specs.Prelude.{◌≡◌};
 ghost use Rattle.rulebook.specs.Cards.{change_of};
 ghost use Rattle.rulebook.specs.Votes.{store_vote};

@@ -1,5 +1,6 @@
 // Certificates from other firms: a packet that the checker accepts is kept, and the rules run until none applies.
 #![tactic(auto)]
+
 ghost use Rattle.std.specs.Prelude.{◌≡◌, []};
 ghost use Rattle.rulebook.specs.Ledger.{certificates_at};
 ghost use Rattle.rulebook.specs.Rules.{state_of};

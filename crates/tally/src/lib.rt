@@ -1,6 +1,7 @@
 // The tally card of one slot, changed in place. `tallied` does the work and is covered; `update` takes the card by `&mut` and is
 // proved by hand; `updated`, above it, has plain parameters, so that no other caller needs a walk.
 #![tactic(auto)]
+
 ghost use Rattle.std.specs.Prelude.{◌≡◌, ◌≤◌, ◌^◌};
 ghost use Rattle.rulebook.specs.Tools.{part};
 ghost use Rattle.rulebook.specs.Ledger.{card_of};

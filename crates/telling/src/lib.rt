@@ -1,5 +1,6 @@
 // The commands that tell the node something: which of a line's numbers go to which function of the face, and how it is answered.
 #![tactic(auto)]
+
 ghost use Rattle.std.specs.Prelude.{◌≤◌, length};
 
 use hex_bytes::read_hex;

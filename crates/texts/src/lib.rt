@@ -1,5 +1,6 @@
 // The text of each number that an operation answers, for people, put into lent bytes.
 #![tactic(auto)]
+
 ghost use Rattle.std.specs.Prelude.{◌≡◌, length};
 ghost use Rattle.rulebook.specs.Writers.{Writes};
 ghost use Rattle.lines.specs.Put.{Put};

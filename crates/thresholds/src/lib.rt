@@ -1,5 +1,6 @@
 // Thresholds of stake, and how much is missing to one.
 #![tactic(auto)]
+
 ghost use Rattle.std.specs.Prelude.{◌≡◌};
 ghost use Rattle.rulebook.specs.Weights.{missing, Weighable};
 

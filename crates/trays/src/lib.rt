@@ -1,6 +1,7 @@
 // A tray: a run of votes taken in one call, each as if it came alone; 17 and 9 are tested once. Who names blocks in the slots before windows is
 // counted once, and kept in mind from vote to vote.
 #![tactic(auto)]
+
 ghost use Rattle.std.specs.Prelude.{◌≡◌, ◌+◌, ◌*◌, ◌<◌, length, get_or};
 ghost use Rattle.rulebook.specs.Rules.{state_of};
 ghost use Rattle.rulebook.specs.Run.{run};

@@ -2,6 +2,7 @@
 // by one; a function takes the place that was reached in the page and answers the next, which is the page's end once a line was not
 // written.
 #![tactic(auto)]
+
 use door::end_line;
 use kinds::slot_ok;
 use lines::{put_named, put_share, put_text, put_vote};

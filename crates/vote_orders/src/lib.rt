@@ -1,6 +1,7 @@
 // What a list of a slot's notar votes shows of a claimed leader. It is checked in one pass to have each vote at most once, by block and
 // node, and each run of equal blocks is summed. However the list came about, what it shows holds.
 #![tactic(auto)]
+
 ghost use Rattle.std.specs.Prelude.{◌≡◌, ◌+◌, ◌<◌, ◌^◌};
 ghost use Rattle.record.specs.Layout.{ledger_of};
 ghost use Rattle.vote_orders.specs.Ordering.{Ordering, Shows, comes_next, next_run};

@@ -1,5 +1,6 @@
 // The voter's casts: an own vote goes into the own pool and to the outbox; skips for a window.
 #![tactic(auto)]
+
 ghost use Rattle.std.specs.Prelude.{◌≡◌, ◌+◌, ◌*◌, ◌<◌, length};
 ghost use Rattle.rulebook.specs.Ledger.{no_initial};
 ghost use Rattle.rulebook.specs.Rules.{cast, cast_skip, cast_skips};

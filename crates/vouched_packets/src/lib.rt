@@ -1,6 +1,7 @@
 // What a packet counts a record's firm for and the record lacks, as lines in a lent list; and where the first certificate of a finality
 // proof ends.
 #![tactic(auto)]
+
 ghost use Rattle.std.specs.Prelude.{◌≡◌, length};
 ghost use Rattle.rulebook.specs.Ledger.{own_cell};
 ghost use Rattle.rulebook.specs.Packets.{certificate_of, certificate_at};

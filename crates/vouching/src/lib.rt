@@ -1,5 +1,6 @@
 // What one record counts in the name of another's firm and that firm's own record lacks, as lines in a lent list.
 #![tactic(auto)]
+
 ghost use Rattle.std.specs.Prelude.{◌≡◌, length};
 ghost use Rattle.rulebook.specs.Ledger.{certificates_at};
 ghost use Rattle.rulebook.specs.Pool.{place_kind};

@@ -1,5 +1,6 @@
 // The certificate writer and the proof writer: packets of the stored signers, or of those of a kept certificate, in lent bytes.
 #![tactic(auto)]
+
 ghost use Rattle.std.specs.Prelude.{◌≡◌, true, length};
 ghost use Rattle.rulebook.specs.Packets.{certificate_bytes};
 ghost use Rattle.rulebook.specs.Pool.{held, kept_as};

@@ -18,9 +18,17 @@ block_at-block-requires c = c.requires.place
 
 pub loop-m-init : goal.loop-m-init
 loop-m-init c =
-    let a = c.args in
-    (omega arith, (omega (arith, ((let a = c.args in
-    past_first (certificates_at (ledger_of a.rec.now) a.s.0) a.n _ c.requires.asked (c.if-not-kept-n.false))).1), apart_none (certificates_at (ledger_of a.rec.now) a.s.0) a.n))
+    let a = c.args in (
+      omega arith,
+      (
+        omega (
+          arith,
+          ((let a = c.args in
+              past_first (certificates_at (ledger_of a.rec.now) a.s.0) a.n _ c.requires.asked (c.if-not-kept-n.false))).1,
+        ),
+        apart_none (certificates_at (ledger_of a.rec.now) a.s.0) a.n,
+      ),
+    )
 
 pub block_at-requires : goal.block_at-requires
 block_at-requires c =

@@ -12,10 +12,10 @@ pub loop-i-init : goal.loop-i-init
 loop-i-init c = (omega arith, refl, refl)
 
 pub overflow_add-rec : goal.overflow_add-rec
-overflow_add-rec c = omega (arith, c.requires.inside) 
+overflow_add-rec c = omega (arith, c.requires.inside)
 
 pub offset_bounds-rec-at : goal.offset_bounds-rec-at
-offset_bounds-rec-at c = omega (arith, c.requires.inside) 
+offset_bounds-rec-at c = omega (arith, c.requires.inside)
 
 pub bounds-rec-at : goal.bounds-rec-at
 bounds-rec-at c =

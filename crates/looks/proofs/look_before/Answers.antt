@@ -15,7 +15,7 @@ total-requires c = c.requires.0.long
 
 pub returns-then-is_armed-nothing_kept : goal.returns-then-is_armed-nothing_kept
 returns-then-is_armed-nothing_kept c =
-    omega (arith, beside_total (ledger_of c.args.rec.now) c.args.s.0 c.requires.0.table, c.total.ensures) 
+    omega (arith, beside_total (ledger_of c.args.rec.now) c.args.s.0 c.requires.0.table, c.total.ensures)
 
 pub named_beside-requires : goal.named_beside-requires
 named_beside-requires c = c.requires.0

@@ -27,7 +27,7 @@ loop-n-preserved c =
     let n = c.loop-n.n in
     let here = c.is_beside.ensures in
     elim c.if-is_beside.branch [
-      then-is_beside w ↦ (omega arith, omega (arith, beside_on l a.s.0 n _ here w.if-is_beside.true, w.stake-w.ensures))
+      | then-is_beside w ↦ (omega arith, omega (arith, beside_on l a.s.0 n _ here w.if-is_beside.true, w.stake-w.ensures))
       | else-is_beside w ↦ (omega arith, omega (arith, beside_off l a.s.0 n _ here w.if-is_beside.false))
     ]
 

@@ -15,7 +15,7 @@ loop-i-init c =
     let a = c.args in (omega arith, some_none (unvoted (ledger_of a.rec.now) ((a.s.0 - 1) / 4 * 4 + 1)))
 
 pub own_cell-c-requires : goal.own_cell-c-requires
-own_cell-c-requires c = record { long = c.requires.long; slot = omega (arith, c.requires.slot, c.requires.later) } 
+own_cell-c-requires c = record { long = c.requires.long; slot = omega (arith, c.requires.slot, c.requires.later) }
 
 pub returns-then-c : goal.returns-then-c
 returns-then-c c =

@@ -7,7 +7,7 @@ use Rattle.parents.proofs.enough_named.Goals as goal
 pub loop-n-init : goal.loop-n-init
 loop-n-init c =
     let t = c.total-all.ensures in
-    (needed_within c.requires.table _ _ t c.missing-needed.ensures, left_begun c.requires.table c.args.p.0 _ t) 
+    (needed_within c.requires.table _ _ t c.missing-needed.ensures, left_begun c.requires.table c.args.p.0 _ t)
 
 pub left_behind-left-requires : goal.left_behind-left-requires
 left_behind-left-requires c =
@@ -23,4 +23,4 @@ loop-n-preserved c = (omega (arith, c.if-left-needed.false), c.left_behind-left.
 pub returns : goal.returns
 returns c =
     let k = c.loop-n in
-    left_enough c.requires.table c.args.p.0 k.n _ _ _ k.invariant.1 (omega (arith, k.invariant.1.few, c.count-nodes.ensures)) c.total-all.ensures c.missing-needed.ensures k.invariant.0 
+    left_enough c.requires.table c.args.p.0 k.n _ _ _ k.invariant.1 (omega (arith, k.invariant.1.few, c.count-nodes.ensures)) c.total-all.ensures c.missing-needed.ensures k.invariant.0

@@ -11,7 +11,7 @@ load_cell-requires c =
 pub returns-then-names_some : goal.returns-then-names_some
 returns-then-names_some c =
     let p = c.requires in
-    left_named p.weighing.table c.args.p.0 c.args.n.0 c.args.left.0 p.begun p.node _ _ c.load_cell.ensures c.names_some.ensures c.if-names_some.true 
+    left_named p.weighing.table c.args.p.0 c.args.n.0 c.args.left.0 p.begun p.node _ _ c.load_cell.ensures c.names_some.ensures c.if-names_some.true
 
 pub stake-w-requires : goal.stake-w-requires
 stake-w-requires c =
@@ -21,9 +21,9 @@ stake-w-requires c =
 pub overflow_sub-result : goal.overflow_sub-result
 overflow_sub-result c =
     let p = c.requires in
-    left_room p.weighing.table c.args.p.0 c.args.n.0 c.args.left.0 p.begun p.node _ _ c.load_cell.ensures c.names_some.ensures _ c.stake-w.ensures 
+    left_room p.weighing.table c.args.p.0 c.args.n.0 c.args.left.0 p.begun p.node _ _ c.load_cell.ensures c.names_some.ensures _ c.stake-w.ensures
 
 pub returns : goal.returns
 returns c =
     let p = c.requires in
-    left_other p.weighing.table c.args.p.0 c.args.n.0 c.args.left.0 p.begun p.node _ _ c.load_cell.ensures c.names_some.ensures _ c.stake-w.ensures c.if-names_some.false 
+    left_other p.weighing.table c.args.p.0 c.args.n.0 c.args.left.0 p.begun p.node _ _ c.load_cell.ensures c.names_some.ensures _ c.stake-w.ensures c.if-names_some.false

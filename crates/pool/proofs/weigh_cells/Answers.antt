@@ -32,7 +32,7 @@ loop-n-preserved c =
     let n = c.loop-n.n in
     let f = weigh_more l a.s.0 a.who n (cell_at l a.s.0 n) c.counts_at.result in
     elim c.if-counts_at.branch [
-      then-counts_at w ↦ (omega arith, omega (arith, f true refl c.counts_at.ensures w.if-counts_at.true, part_on true (stake_in l.stakes n) refl, w.stake-w.ensures))
+      | then-counts_at w ↦ (omega arith, omega (arith, f true refl c.counts_at.ensures w.if-counts_at.true, part_on true (stake_in l.stakes n) refl, w.stake-w.ensures))
       | else-counts_at w ↦ (omega arith, omega (arith, f false refl c.counts_at.ensures w.if-counts_at.false, part_off false (stake_in l.stakes n) refl))
     ]
 

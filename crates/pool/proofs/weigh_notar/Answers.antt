@@ -37,7 +37,7 @@ loop-n-preserved c =
     let here = notar_counts a.b (cell_at l a.s.0 n) x c.notar_of.ensures in
     let f = weigh_more l a.s.0 (who.Notar a.b) n (cell_at l a.s.0 n) (eqb x a.b) in
     elim c.if-notar_of-b.branch [
-      then-notar_of-b w ↦ (omega arith, omega (arith, f true refl here (eq-eqb x a.b w.if-notar_of-b.true), part_on true (stake_in l.stakes n) refl, w.stake-w.ensures))
+      | then-notar_of-b w ↦ (omega arith, omega (arith, f true refl here (eq-eqb x a.b w.if-notar_of-b.true), part_on true (stake_in l.stakes n) refl, w.stake-w.ensures))
       | else-notar_of-b w ↦ (omega arith, omega (arith, f false refl here (ne_eqb x a.b w.if-notar_of-b.false), part_off false (stake_in l.stakes n) refl))
     ]
 

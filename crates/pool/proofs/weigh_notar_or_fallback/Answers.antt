@@ -37,7 +37,7 @@ loop-n-preserved c =
     let here = either_counts a.b cell.result fallback.result fallback.ensures in
     let f = weigh_more l a.s.0 (who.NotarOrFallback a.b) n cell.result (eqb cell.result.notar a.b || fallback.result) in
     elim c.if-c-b.branch [
-      then-c-b w ↦ (omega arith, omega (arith, f true cell.ensures here w.if-c-b.true, part_on true (stake_in l.stakes n) refl, w.stake-w.ensures))
+      | then-c-b w ↦ (omega arith, omega (arith, f true cell.ensures here w.if-c-b.true, part_on true (stake_in l.stakes n) refl, w.stake-w.ensures))
       | else-c-b w ↦ (omega arith, omega (arith, f false cell.ensures here w.if-c-b.false, part_off false (stake_in l.stakes n) refl))
     ]
 

@@ -74,10 +74,10 @@ loop-n-preserved c =
     let After : List ℕ → Type 0 = λ gs. Grouped l a.s.0 a.b a.v.0 size gs (k.n + 1) in (
       omega arith,
       elim c.if-m-b.branch [
-      then-m-b+else-is_ahead w ↦ subst After (sym w.groups-is)
-          (grouped_more l a.s.0 a.b a.v.0 size k.n x.result x.ensures k.groups _ (omega (arith, w.stake-w.ensures)) (sym w.is_ahead.ensures ∙ w.if-is_ahead.false) k.invariant.1)
-      | else-m-b w ↦ subst After (sym w.groups-is) (grouped_same l a.s.0 a.b a.v.0 size k.n x.result x.ensures k.groups w.if-m-b.false k.invariant.1)
-    ],
+        | then-m-b+else-is_ahead w ↦ subst After (sym w.groups-is)
+            (grouped_more l a.s.0 a.b a.v.0 size k.n x.result x.ensures k.groups _ (omega (arith, w.stake-w.ensures)) (sym w.is_ahead.ensures ∙ w.if-is_ahead.false) k.invariant.1)
+        | else-m-b w ↦ subst After (sym w.groups-is) (grouped_same l a.s.0 a.b a.v.0 size k.n x.result x.ensures k.groups w.if-m-b.false k.invariant.1)
+      ],
     )
 
 pub returns : goal.returns

@@ -14,6 +14,6 @@ pub returns : goal.returns
 returns c =
     let a = c.args in
     elim c.if-m-b.branch [
-      then-m-b k ↦ ap (λ (x : ℕ). ltb a.v.0 x) k.most-is ∙ ahead_lower a.m a.w.0 a.b a.v.0 k.if-m-b.true
+      | then-m-b k ↦ ap (λ (x : ℕ). ltb a.v.0 x) k.most-is ∙ ahead_lower a.m a.w.0 a.b a.v.0 k.if-m-b.true
       | else-m-b k ↦ ap (λ (x : ℕ). ltb a.v.0 x) k.most-is ∙ ahead_higher a.m a.w.0 a.b a.v.0 k.if-m-b.false
     ]

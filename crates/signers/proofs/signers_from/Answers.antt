@@ -36,7 +36,7 @@ loop-j-preserved c =
     let who : ℕ → Bool = λ i. in_mask a.which a.kind a.b (cell_at (ledger_of a.rec.now) a.s.0 (a.from.0 + i)) in
     let found : c.in_mask.result ≡ who l.j = c.in_mask.ensures ∙ ap (in_mask a.which a.kind a.b) c.load_cell-c.ensures in
     elim c.if-in_mask.branch [
-      then-in_mask w ↦ (l.invariant.0, omega arith, w.word-is ∙ signer_in who l.j l.word c.in_mask.result (omega (arith, l.invariant.0)) l.invariant.2 found w.if-in_mask.true)
+      | then-in_mask w ↦ (l.invariant.0, omega arith, w.word-is ∙ signer_in who l.j l.word c.in_mask.result (omega (arith, l.invariant.0)) l.invariant.2 found w.if-in_mask.true)
       | else-in_mask w ↦ (l.invariant.0, omega arith, w.word-is ∙ signer_out who l.j l.word c.in_mask.result l.invariant.2 found w.if-in_mask.false)
     ]
 
