@@ -19,7 +19,7 @@ pub returns-then-no_initial : goal.returns-then-no_initial
 returns-then-no_initial c =
     let a = c.args in let p = c.requires in let o : State = state_in a.rec.now a.outbox.now a.at in let q = c.cast_vote in
     let e = ap (λ (x : Cell). no_initial x) (sym c.own_cell.ensures) ∙ sym c.no_initial.ensures ∙ c.if-no_initial.true in
-    onward p.live.live q.auto.0 q.auto.1.0 (moved_is q.ensures (skip_on o a.s.0 e)) (skip_comes o a.s.0 p.live.live.sound p.votes p.live.low p.live.high)
+    onward p.live.live q.auto.rec q.auto.outbox (moved_is q.ensures (skip_on o a.s.0 e)) (skip_comes o a.s.0 p.live.live.sound p.votes p.live.low p.live.high)
 
 pub returns : goal.returns
 returns c =
