@@ -3,7 +3,7 @@
 use mathlib.Core.Path.{◌≡◌, refl, sym, ap, ◌∙◌, subst}
 use mathlib.Core.List.{List, []}
 use mathlib.Core.Bool.{Bool, true, false, not, ◌&&◌, ◌||◌}
-use Prim.Native.Nat.{ℕ, zero, suc, ◌+◌, ◌-◌, ◌≤◌, ◌<◌, ◌^◌}
+use Prim.Native.Nat.{ℕ, ◌+◌, ◌-◌, ◌≤◌, ◌<◌, ◌^◌}
 use native.Mathlib.Omega.{arith}
 use lib.ListN.{get_or}
 use lib.Dec.{eqb, leb}
@@ -19,12 +19,14 @@ use Rattle.rulebook.specs.Ledger.{Ledger, none, no_cell, no_kept, no_card, card_
 use Rattle.rulebook.specs.Pool.{counts, weigh, weighs, signers_of, fifths_of, reached, place_kind, serves_as, some_kept, is_for, kept_as, held, named, names, kept_names, certifiable}
 use Rattle.rulebook.specs.Rules.{fallback_weights, skip_weights, is_final, is_newcomer}
 use Rattle.rulebook.specs.Cards.{Light, most, leader, recount, same_card}
-use Rattle.rule_laws.proofs.ToolLaws.{by_test, and_both, both_and, or_cases, same_test, true_not_false}
-use Rattle.rule_laws.proofs.WeightLaws.{reaches_fact, short_fact, fact_short, reaches_more, reaches_fewer, reaches_nothing, weight_none, weight_same, weight_mono, weight_both, weight_total, weight_apart_lem}
+use Rattle.rule_laws.proofs.ToolLaws.{by_test, and_both, or_cases, true_not_false}
+use Rattle.rule_laws.proofs.WeightLaws.{short_fact, fact_short, reaches_more, weight_none, weight_same, weight_mono, weight_apart_lem}
 use Rattle.rule_laws.proofs.LowestLaws.{Among, among_name, named_cases, free_none, free_named, free_positive, lowest_same, names_free, heavy_named}
 use Rattle.rule_laws.proofs.CertificateLaws.{some_place, kept_free, kept_name, kept_beside, kept_names_cases}
 use Rattle.rule_laws.proofs.FourthLaws.{weights_more}
 use Rattle.recounting.proofs.Leading.{Lead, lead_one, lead_recount, lead_same}
+pub use Rattle.recounting.proofs.Quick.{notar_apart, weigh_within, lead_quick, recount_leader}
+pub use Rattle.recounting.proofs.Sixty.{sixty_leads, reached_some, notar_card}
 
 -- ---- a slot whose cells stay, a blank slot, weights within the sizes
 
@@ -44,41 +46,6 @@ recount_same l l' s c t e =
     rw (same who.Skip, same who.Final, same who.SkipOrFallback, r.0, r.1)
 
 module _ (l : Ledger) (s : ℕ) where
-  -- two blocks share no node
-  pub notar_apart : (b m : ℕ) → (m ≡ b → ⊥) → 1 ≤ b → 1 ≤ m → weigh l s (who.Notar b) + weigh l s (who.Notar m) ≤ weigh l s who.AnyNotar
-  unfolding weigh counts
-  notar_apart b m ne h k =
-      let p : ℕ → Bool = (λ n. eqb (cell_at l s n).notar b) in
-      let q : ℕ → Bool = (λ n. eqb (cell_at l s n).notar m) in
-      let any : ℕ → Bool = (λ n. not (none (cell_at l s n).notar)) in
-      omega (
-        arith,
-        weight_both l.stakes l.count p q,
-        weight_none l.stakes l.count (λ n. p n && q n)
-            (λ i d. by_test (p i && q i) (λ t. let z = and_both (p i) (q i) t in absurd (ne (sym (eqb-true (cell_at l s i).notar m z.1) ∙ eqb-true (cell_at l s i).notar b z.0))) (λ t. t)),
-        weight_mono l.stakes l.count (λ n. p n || q n) any
-            (λ i d t. ap not (ne_eqb (cell_at l s i).notar 0 (λ z. or_cases (p i) (q i) t (λ u. omega (arith, eqb-true (cell_at l s i).notar b u)) (λ u. omega (arith, eqb-true (cell_at l s i).notar m u))))),
-      )
-
-  pub weigh_within : (w : Who) → weigh l s w ≤ total_to l.stakes l.count
-  unfolding weigh
-  weigh_within w = weight_total l.stakes l.count (λ n. counts w (cell_at l s n))
-
-  -- ---- the quick test of a claimed leader
-
-  -- A block with more than all the others together leads.
-  pub lead_quick : (b w : ℕ) → 1 ≤ b → 1 ≤ w → weigh l s (who.Notar b) ≡ w → weigh l s who.AnyNotar < w + w → Lead l s b w
-  lead_quick b w h k e q =
-      record {
-        empty = λ z. absurd (omega arith);
-        block = λ _. h;
-        weight = λ _. e;
-        above = λ m i. by_test (eqb m b) (λ t. let z = ap (λ (x : ℕ). weigh l s (who.Notar x)) (eqb-true m b t) in omega arith)
-            (λ t. omega (arith, notar_apart b m (eqb-false m b t) h i));
-        lower = λ m i j z. by_test (eqb m b) (λ t. omega (arith, eqb-true m b t))
-            (λ t. absurd (omega (arith, notar_apart b m (eqb-false m b t) h i)));
-      }
-
   notar_any : (m : ℕ) → 1 ≤ m → weigh l s (who.Notar m) ≤ weigh l s who.AnyNotar
   unfolding weigh counts
   notar_any m k =
@@ -96,46 +63,17 @@ module _ (l : Ledger) (s : ℕ) where
         lower = λ m k j z. absurd (omega arith);
       }
 
-  -- So the recount's leader is the one claimed.
-  pub recount_leader : (b w : ℕ) → Lead l s b w → (leader l s ≡ b) × (most l s ≡ w)
-  recount_leader b w h = lead_one l s (leader l s) (most l s) b w (lead_recount l s) h
-
 -- ---- the card in the rules: with a total that is the sum, and some stake
 
 module _ (l : Ledger) (s : ℕ) (sum : total_to l.stakes l.count ≡ l.total) (some : 1 ≤ l.total) where
-  -- A block that reaches 60 is the leader, and its weight is on the card.
-  pub sixty_leads : (b : ℕ) → 1 ≤ b → reaches 3 l.total (weigh l s (who.Notar b)) ≡ true → (leader l s ≡ b) × (most l s ≡ weigh l s (who.Notar b))
-  sixty_leads b h e =
-      let f = reaches_fact 3 l.total (weigh l s (who.Notar b)) e in
-      recount_leader l s b (weigh l s (who.Notar b))
-      (lead_quick l s b (weigh l s (who.Notar b)) h (omega arith) refl (omega (arith, weigh_within l s who.AnyNotar)))
-
-  -- a weight that reaches a threshold is not 0
-  pub reached_some : (k w : ℕ) → 1 ≤ k → reaches k l.total w ≡ true → 1 ≤ w
-  reached_some k zero h e = true_not_false (reaches k l.total 0) e (reaches_nothing k l.total h some)
-  reached_some k (suc w) h e = omega arith
-
-  -- From 60 percent on "notar(b) reaches" is a question to the card.
-  pub notar_card : (k b : ℕ) → 3 ≤ k → 1 ≤ b → reaches k l.total (weigh l s (who.Notar b)) ≡ (eqb (leader l s) b && reaches k l.total (most l s))
-  notar_card k b h i =
-      same_test (reaches k l.total (weigh l s (who.Notar b))) (eqb (leader l s) b && reaches k l.total (most l s))
-      (λ e.
-      let r = sixty_leads b i (reaches_fewer 3 k l.total (weigh l s (who.Notar b)) h e) in
-      both_and (eqb (leader l s) b) (reaches k l.total (most l s)) (eq-eqb (leader l s) b r.0) (ap (reaches k l.total) r.1 ∙ e))
-      (λ e.
-      let r = and_both (eqb (leader l s) b) (reaches k l.total (most l s)) e in
-      let w = (lead_recount l s).weight (reached_some k (most l s) (omega arith) r.1) in
-      let z = ap (λ (x : ℕ). weigh l s (who.Notar x)) (eqb-true (leader l s) b r.0) in
-      ap (reaches k l.total) (sym z ∙ w) ∙ r.1)
-
   -- Kinds 1, 2, 4 and 5 by the card.
   pub reached_one : (b : ℕ) → 1 ≤ b → reached l certificate.FastFinal s b ≡ (eqb (leader l s) b && reaches 4 l.total (most l s))
   unfolding reached weighs signers_of fifths_of
-  reached_one b h = notar_card 4 b (omega arith) h
+  reached_one b h = notar_card l s sum some 4 b (omega arith) h
 
   pub reached_two : (b : ℕ) → 1 ≤ b → reached l certificate.Notar s b ≡ (eqb (leader l s) b && reaches 3 l.total (most l s))
   unfolding reached weighs signers_of fifths_of
-  reached_two b h = notar_card 3 b (omega arith) h
+  reached_two b h = notar_card l s sum some 3 b (omega arith) h
 
   pub reached_four : (b : ℕ) → reached l certificate.Skip s b ≡ reaches 3 l.total (recount l s).skipcert.0
   unfolding reached weighs signers_of fifths_of recount

@@ -10,7 +10,7 @@ use Rattle.rulebook.specs.declared.Refusal.TheVariants as refusal
 use Rattle.rulebook.specs.declared.Verdict.TheVariants.{Fine}
 use Rattle.rulebook.specs.Weights.{places_for, last_slot}
 use Rattle.rulebook.specs.Ledger.{Ledger, Row, no_card, blank_row, no_row, row_at, fresh}
-use Rattle.rulebook.specs.Cards.{CardsAgree, recount, leader}
+use Rattle.rulebook.specs.Cards.{CardsAgree, recount}
 use Rattle.rulebook.specs.Rules.{State}
 use Rattle.rulebook.specs.Run.{rule_at, run}
 use Rattle.rulebook.specs.Inputs.{start_verdict, refused_with, feed}

@@ -21,13 +21,13 @@ use Rattle.rulebook.specs.declared.Verdict.TheVariants.{Fine, Refused}
 use Rattle.rulebook.specs.Tools.{part}
 use Rattle.rulebook.specs.Weights.{last_slot}
 use Rattle.rulebook.specs.PaperNumbers.{vote_number}
-use Rattle.rulebook.specs.Ledger.{places, is_watcher, Ledger, Row, none, no_cell, table_of, no_initial, row_at, cell_at, own_cell, fill_block, certificates_at, put_row, put_timed_out, fresh}
+use Rattle.rulebook.specs.Ledger.{places, is_watcher, Ledger, Row, none, no_cell, table_of, no_initial, row_at, cell_at, own_cell, fill_block, certificates_at, put_row, put_timed_out}
 use Rattle.rulebook.specs.Certificates.{Certificate, Kept}
 use Rattle.rulebook.specs.Cards.{tallied, change_of}
 use Rattle.rulebook.specs.Votes.{place_of, with_vote, store_vote}
 use Rattle.rulebook.specs.Rules.{Record, State, state_of, cast, cast_skips}
 use Rattle.rulebook.specs.Run.{run}
-use Rattle.rulebook.specs.Inputs.{Fed, misfits, start_verdict, keep_block, verdict, time_out, intake, fed_with, refused_with, fed_on, feed}
+use Rattle.rulebook.specs.Inputs.{Fed, misfits, keep_block, verdict, time_out, intake, fed_with, refused_with, fed_on, feed}
 use Rattle.rulebook.specs.Checker.{judge}
 use Rattle.rulebook.specs.Taking.{fill_kept, kept_verdict, kept_of, keep_certificate, taken_on, taken, take_packet, Arrival, of_input, of_packet, served}
 use Rattle.rule_laws.proofs.AcceptedLaws.{packet_cases}
@@ -46,7 +46,6 @@ use Rattle.settling.proofs.LawfulRules.{voter_casting, skips_keep, run_keeps}
 use Rattle.settling.proofs.Soundness.{sound_lawful, intake_sound, served_sound}
 use Rattle.settling.proofs.Verdicts.{vote_fine, block_fine, timeout_fine}
 use Rattle.settling.proofs.Life.{taken_fine}
-use Rattle.settling.proofs.Start.{fresh_sound}
 
 -- ---- told in any order
 
@@ -246,8 +245,3 @@ pub life_three : (l : Ledger) → Sound l → (s : ℕ) (cs : List Arrival) → 
 life_three l h s cs =
     let c : Cell = own_cell l s in
     omega (arith, life_taken l h s cs, part_le (none c.fallback1) 1, part_le (none c.fallback2) 1, part_le (none c.fallback3) 1)
-
--- "Show that it cannot from a fresh start, whatever the others do, with no limit on faulty stake."
-pub start_three : (stakes : List ℕ) (own genesis : ℕ) → start_verdict stakes own genesis ≡ Fine → (s : ℕ) (cs : List Arrival)
-    → fallbacks_told s (life (fresh stakes own genesis) cs) ≤ 3
-start_three stakes own genesis e s cs = life_three (fresh stakes own genesis) (fresh_sound stakes own genesis e) s cs

@@ -3,7 +3,7 @@
 use mathlib.Core.Path.{◌≡◌, refl, sym, ap, ◌∙◌}
 use mathlib.Core.Bool.{false}
 use mathlib.Core.List.{List, [], ◌∷◌, ◌++◌, append_assoc}
-use Prim.Native.Nat.{ℕ, suc, ◌+◌, ◌-◌, ◌≤◌}
+use Prim.Native.Nat.{ℕ, suc, ◌+◌, ◌≤◌}
 use native.Mathlib.Omega.{arith}
 use lib.ListN.{length, length-append}
 use Rattle.rulebook.specs.declared.VoteKind.{VoteKind}
@@ -16,7 +16,6 @@ use Rattle.rulebook.specs.Run.{made, rule_at, first_rule, first_slot, scan, run_
 use Rattle.settling.specs.Spare.{spare}
 use Rattle.settling.specs.Steps.{SameNode, Lawful, Casting, AndVotes, Came}
 use Rattle.settling.specs.Facts.{Sound}
-use Rattle.settling.proofs.FactLaws.{formed}
 use Rattle.settling.proofs.Sounding.{own_in, own_placed, sound_vote, sound_armed, sound_final, sound_clash}
 use Rattle.settling.proofs.SpareLaws.{spare_own, spare_armed, spare_final, spare_clash}
 use Rattle.settling.proofs.LawfulRules.{voter_casting, skips_keep, A-keeps, B-keeps, C-keeps, D-keeps, E-keeps, clash_keeps, tell_keeps, F-keeps, G-keeps, rule_keeps, rules_keep, slots_keep, scan_keeps, run_for_keeps, run_keeps}

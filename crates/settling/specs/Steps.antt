@@ -10,7 +10,7 @@ use Rattle.rulebook.specs.declared.Verdict.TheVariants.{Fine}
 use Rattle.rulebook.specs.Certificates.{Certificate}
 use Rattle.rulebook.specs.PaperNumbers.{kind_in}
 use Rattle.rulebook.specs.Weights.{last_slot}
-use Rattle.rulebook.specs.Ledger.{Ledger, none, places, table_of, row_at, cell_at, is_watcher, own_cell, is_armed, blocks_at, some_block, is_free, has_number, certificates_at, put_armed, put_final, put_clash}
+use Rattle.rulebook.specs.Ledger.{Ledger, none, table_of, row_at, cell_at, is_watcher, own_cell, is_armed, blocks_at, some_block, is_free, has_number, certificates_at, put_armed, put_final, put_clash}
 use Rattle.rulebook.specs.Pool.{some_kept}
 use Rattle.rulebook.specs.Votes.{place_of}
 use Rattle.rulebook.specs.Rules.{Record, State, report, cast, fallback_weights}

@@ -6,7 +6,7 @@ pub enum Kind {
     Name,
     Number,
     Text,
-    /// `.field` behind a blank.
+    /// `.field` right behind what has it.
     Field,
     /// One of `( ) { } ; , .`
     Mark(char),
@@ -28,6 +28,12 @@ impl Token {
 
 fn is_name(c: char) -> bool {
     !c.is_whitespace() && !"(){}.;,@\"«»".contains(c)
+}
+
+/// Whether what begins with `next` behind a dot is of the module that begins with `first`, and no field: a path begins with a capital, and
+/// of a module that has a name of its own only constructors and operators are named.
+fn is_inside(first: char, next: char) -> bool {
+    is_name(next) && (first.is_uppercase() || !next.is_ascii_lowercase() && !next.is_ascii_digit())
 }
 
 /// The tokens of a part of the text, by their places in the whole.
@@ -66,14 +72,14 @@ fn token(rest: &str, before: Option<char>, at: usize) -> Result<(Kind, usize), S
             });
             end.map(|end| (Kind::Text, end + 2)).ok_or(format!("a text without an end at {at}"))
         }
-        '.' if before.map_or(true, |c| c.is_whitespace()) && rest[1..].starts_with(is_name) => {
+        '.' if before.is_some_and(|c| c == ')' || is_name(c)) && rest[1..].starts_with(is_name) => {
             Ok((Kind::Field, word(1)))
         }
         '(' | ')' | '{' | '}' | ';' | ',' | '.' => Ok((Kind::Mark(c), 1)),
         '@' | '«' | '»' => Err(format!("`{c}` is not read at {at}")),
         _ => {
             let mut end = word(0);
-            while rest[end..].starts_with('.') && rest[end + 1..].starts_with(is_name) {
+            while rest[end..].starts_with('.') && rest[end + 1..].starts_with(|next| is_inside(c, next)) {
                 end = word(end + 1);
             }
             let numeral =

@@ -371,17 +371,11 @@ impl<'a> Parser<'a> {
 
     fn apply(&mut self) -> Parsed<Expr> {
         let start = self.peek().ok_or("it ends early")?.start;
-        let mut expr = self.atom()?;
+        let expr = self.atom()?;
         let mut args: Vec<Expr> = Vec::new();
         loop {
             let Some(token) = self.peek() else { break };
             match token.kind {
-                Kind::Field => {
-                    expr = applied(expr, &mut args, start, self.tokens[self.at - 1].end);
-                    self.at += 1;
-                    let form = Form::Project { of: Box::new(expr), field: token.text[1..].to_string() };
-                    expr = made(form, start, token.end);
-                }
                 Kind::Mark('{') => self.past("}")?,
                 Kind::Mark('(') | Kind::Number | Kind::Text => args.push(self.atom()?),
                 Kind::Name
@@ -395,7 +389,19 @@ impl<'a> Parser<'a> {
         Ok(applied(expr, &mut args, start, self.tokens[self.at - 1].end))
     }
 
+    /// A name, a number, a text or what stands in parentheses, with the fields right behind it.
     fn atom(&mut self) -> Parsed<Expr> {
+        let mut expr = self.alone()?;
+        while let Some(token) = self.peek().filter(|token| token.kind == Kind::Field) {
+            self.at += 1;
+            let start = expr.outer.start;
+            let form = Form::Project { of: Box::new(expr), field: token.text[1..].to_string() };
+            expr = made(form, start, token.end);
+        }
+        Ok(expr)
+    }
+
+    fn alone(&mut self) -> Parsed<Expr> {
         let token = self.next()?;
         let form = match token.kind {
             Kind::Mark('(') => {

@@ -130,7 +130,7 @@ builtins! {
     Reverse "reverse" 1 "{A : Type 0} → List A → List A",
     Map "map" 2 "{A B : Type 0} → (A → B) → List A → List B",
     Length "length" 1 "{A : Type 0} → List A → ℕ",
-    GetD "getD" 3 "{A : Type 0} → List A → ℕ → A → A",
+    GetD "get_or" 3 "{A : Type 0} → List A → ℕ → A → A",
     Set "set" 3 "{A : Type 0} → List A → ℕ → A → List A",
     Sets "sets" 3 "{A : Type 0} → List A → ℕ → List A → List A",
     Paste "paste" 4 "{A : Type 0} → List A → ℕ → List A → ℕ → List A",
@@ -139,12 +139,12 @@ builtins! {
     Replicate "replicate" 2 "{A : Type 0} → ℕ → A → List A",
     Code "code" 1 "Char → ℕ",
     EmptyText "string.[]" 0 "String",
-    TextCons "string._∷_" 2 "Char → String → String",
+    TextCons "string.◌∷◌" 2 "Char → String → String",
 }
 
 /// An operator's name without its argument places.
 pub fn bare(name: &str) -> &str {
-    let inner = name.strip_prefix('_').and_then(|name| name.strip_suffix('_'));
+    let inner = name.strip_prefix('◌').and_then(|name| name.strip_suffix('◌'));
     inner.filter(|inner| !inner.is_empty()).unwrap_or(name)
 }
 
@@ -327,12 +327,13 @@ impl Program {
 
     /// What a path leads to, by its words behind the crate's.
     fn module(&self, path: &str) -> Option<Module> {
-        let Some(path) = path.strip_prefix("Rattle·") else { return Some(Module::Native) };
+        let Some(path) = path.strip_prefix("Rattle.").filter(|path| !path.starts_with("std.")) else {
+            return Some(Module::Native);
+        };
         let (home, rest) = path.split_once('.')?;
-        let home = home.trim_end_matches("·specs").trim_end_matches("·proofs");
         let words: Vec<&str> = rest.split('.').collect();
         match words[..] {
-            ["specs", "declared", ty] | ["specs", "declared", ty, "the-variants"] => {
+            ["specs", "declared", ty] | ["specs", "declared", ty, "TheVariants"] => {
                 self.declared.get(&format!("{home}.{ty}")).map(|&ty| Module::Variants(ty))
             }
             ["specs", module] => {

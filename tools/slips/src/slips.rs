@@ -142,7 +142,9 @@ impl Maker<'_> {
     /// The source of an expression, in parentheses where it has several words.
     fn closed(&self, expr: &Expr) -> String {
         match expr.form {
-            Form::Name(_) | Form::Number(_) | Form::Text(_) => self.text[expr.span.clone()].to_string(),
+            Form::Name(_) | Form::Number(_) | Form::Text(_) | Form::Project { .. } => {
+                self.text[expr.span.clone()].to_string()
+            }
             _ => format!("({})", &self.text[expr.span.clone()]),
         }
     }

@@ -21,21 +21,18 @@ pub struct Pair {
 ";
 
 const RULES: &str = "-- Rules.
-use mathlib.Core.Bool.{Bool, true, false, not, _&&_}
-use mathlib.Core.List.{List, [], _∷_, _++_}
-use Prim.Native.Nat.{ℕ, zero, suc, _+_, _-_, _*_, _^_}
-use lib.Dec.{leb}
-use Rattle·small·specs.specs.declared.Kind.{Kind}
-use Rattle·small·specs.specs.declared.Kind.the-variants as kind
-use Rattle·small·specs.specs.declared.Pair.{Pair}
+use Rattle.std.specs.Prelude.{Bool, true, false, not, ◌&&◌, List, [], ◌∷◌, ◌++◌, ℕ, zero, suc, ◌+◌, ◌-◌, ◌*◌, ◌^◌, leb}
+use Rattle.small.specs.declared.Kind.{Kind}
+use Rattle.small.specs.declared.Kind.TheVariants as kind
+use Rattle.small.specs.declared.Pair.{Pair}
 
 -- f 0 + .. + f (n - 1).
-unfoldable pub sumTo : ℕ → (ℕ → ℕ) → ℕ
-sumTo zero f = 0
-sumTo (suc n) f = sumTo n f + f n
+unfoldable pub sum_to : ℕ → (ℕ → ℕ) → ℕ
+sum_to zero f = 0
+sum_to (suc n) f = sum_to n f + f n
 
 unfoldable pub within : Pair → ℕ → Bool
-within p n = leb (p .left) n && leb n (p .right)
+within p n = leb p.left n && leb n p.right
 
 unfoldable pub number : Kind → ℕ
 number (kind.Low n) = n
@@ -53,13 +50,9 @@ lonely = 7
 ";
 
 const CASES: &str = "-- Cases.
-use mathlib.Core.Bool.{Bool, true, not, _&&_}
-use mathlib.Core.List.{List, [], _∷_, _++_}
-use mathlib.Core.Path.{_≡_}
-use Prim.Native.Nat.{ℕ, _+_, _-_, _*_, _^_, _/_, _%_}
-use lib.Dec.{T, eqb}
-use Rattle·small·specs.specs.declared.Kind.the-variants as kind
-use Rattle·small·specs.specs.Rules.{sumTo, within, outside, number, shut}
+use Rattle.std.specs.Prelude.{Bool, true, not, ◌&&◌, List, [], ◌∷◌, ◌++◌, ◌≡◌, ℕ, ◌+◌, ◌-◌, ◌*◌, ◌^◌, ◌/◌, ◌%◌, T, eqb}
+use Rattle.small.specs.declared.Kind.TheVariants as kind
+use Rattle.small.specs.Rules.{sum_to, within, outside, number, shut}
 
 abbrev all : List Bool → Bool
 all [] = true
@@ -73,8 +66,8 @@ strong =
 abbrev range : Bool
 range = within shut 2 && (within shut 4 && (not (within shut 5) && not (within shut 1)))
 
-cases : T (all (strong ∷ range ∷ eqb (number (kind.Low 3)) 3 ∷ eqb (sumTo 4 (λ i. i * i)) 14 ∷ []))
-unfolding sumTo within number
+cases : T (all (strong ∷ range ∷ eqb (number (kind.Low 3)) 3 ∷ eqb (sum_to 4 (λ i. i * i)) 14 ∷ []))
+unfolding sum_to within number
 cases = tt
 
 joined : 1 ∷ 2 ∷ [] ++ (3 ∷ []) ≡ 1 ∷ 2 ∷ 3 ∷ []
@@ -153,10 +146,7 @@ fn a_case_taken_out_is_missed() {
         "within shut 3",
     );
     let (texts, _) = unnoticed(&program, "within");
-    assert!(
-        texts.contains(&"within p n = leb (p .left) n [&& leb n (p .right) => ]".to_string()),
-        "{texts:?}"
-    );
+    assert!(texts.contains(&"within p n = leb p.left n [&& leb n p.right => ]".to_string()), "{texts:?}");
 }
 
 #[test]
