@@ -1,0 +1,16 @@
+-- The loop over the slots: the lines of those behind it are put.
+use Prim.Native.Nat.{◌-◌, ◌≤◌}
+use Prim.Native.Nat.{suc}
+use Rattle.rulebook.specs.Weights.{last_slot}
+use Rattle.record.specs.Layout.{ledger_of}
+use Rattle.difference_lines.specs.Lines.{lines_to, slot_lines}
+use Rattle.differences.specs.Lent.{Laid}
+use Rattle.differences.proofs.put_votes.Given as goal
+
+abbrev pub invariant-loop-i : goal.invariant-loop-i
+invariant-loop-i l =
+    (l.i ≤ last_slot) × Laid l.initial.list 0 (lines_to l.i (λ k. slot_lines (ledger_of l.one) (ledger_of l.two) (suc k))) l.list l.next
+
+abbrev pub decreases-loop-i : goal.decreases-loop-i
+decreases-loop-i l =
+    last_slot - l.i
