@@ -9,9 +9,6 @@ use Rattle.writers.proofs.Verdicts.{slot_row}
 use Rattle.writers.proofs.Laid.{place_there, kept_words_lem, number_asked, kept_named, kept_masks, laid_same}
 use Rattle.writers.proofs.lay_kept.Goals as goal
 
-abbrev start : tie.After-number-in → tie.Start
-start c = c.before.before.before.before.before.before.before
-
 pub kept_place-n-requires : goal.kept_place-n-requires
 kept_place-n-requires c = let pre = c.requires.0 in record { long = sound_long _ pre.sound; slot = slot_row _ pre.slot }
 
@@ -30,16 +27,16 @@ count-requires c = sound_long _ c.requires.0.sound
 
 pub write_certificate-requires : goal.write_certificate-requires
 write_certificate-requires c =
-    let s = (start c).args in
-    let pre = (start c).requires.0 in
+    let s = c.args in
+    let pre = c.requires.0 in
     let masks = kept_masks (ledger_of s.rec.now) s.kind s.s.0 s.b _ c.kept_place-n.ensures _ _ c.mask_a-x.ensures c.mask_b-y.ensures _
     (number_asked s.rec.now s.kind c.number_in.ensures c.count.ensures) (kept_words_lem s.rec.now s.kind pre.sound pre.kind) in
-    (masks, subst (λ (z : Certificate). Room s.buffer.now s.at (certificate_bytes z)) (sym ((let s = (start c).args in
+    (masks, subst (λ (z : Certificate). Room s.buffer.now s.at (certificate_bytes z)) (sym ((let s = c.args in
     kept_named (ledger_of s.rec.now) s.kind s.s.0 s.b _ c.kept_place-n.ensures _ _ c.mask_a-x.ensures c.mask_b-y.ensures _
     (number_asked s.rec.now s.kind c.number_in.ensures c.count.ensures)))) pre.room)
 
 pub returns : goal.returns
 returns c =
-    laid_same ((let s = (start c).args in
+    laid_same ((let s = c.args in
     kept_named (ledger_of s.rec.now) s.kind s.s.0 s.b _ c.kept_place-n.ensures _ _ c.mask_a-x.ensures c.mask_b-y.ensures _
     (number_asked s.rec.now s.kind c.number_in.ensures c.count.ensures))) c.write_certificate.ensures

@@ -1,0 +1,26 @@
+-- No line without a vote; else that of its test.
+use Rattle.record.specs.Layout.{ledger_of}
+use Rattle.safety.specs.Slot.{notar}
+use Rattle.inquest.specs.Stands.{notar_stands}
+use Rattle.inquest.specs.Lists.{rule_b}
+use Rattle.inquest_lines.proofs.Laws.{vote_none, vote_put}
+use Rattle.standing.proofs.put_notar.Goals as goal
+
+pub returns-then-b-eq0 : goal.returns-then-b-eq0
+returns-then-b-eq0 c = vote_none c.args.b _ _ c.if-b-eq0.true
+
+pub notar_stands-stands-requires : goal.notar_stands-stands-requires
+notar_stands-stands-requires c = c.requires.judging.carded
+
+pub own-requires : goal.own-requires
+own-requires c = c.requires.judging.carded.weighing.long
+
+pub put_unless-requires : goal.put_unless-requires
+put_unless-requires c = c.requires.room
+
+pub returns : goal.returns
+returns c =
+    let a = c.args in
+    let l = ledger_of a.rec.now in
+    let mine = c.own in
+    vote_put a.b (λ _. notar_stands l a.s.0 a.b) a.s.0 l.own mine.result.0 (notar a.b) rule_b c.if-b-eq0.left c.notar_stands-stands.ensures mine.ensures c.put_unless.ensures
