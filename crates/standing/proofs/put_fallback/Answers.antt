@@ -23,4 +23,4 @@ returns c =
     let a = c.args in
     let l = ledger_of a.rec.now in
     let mine = c.own in
-    vote_put a.b (λ _. fallback_stands l a.s.0 a.b) a.s.0 l.own mine.result.0 (notar_fallback a.b) rule_d c.if-b-eq0.left c.fallback_stands-stands.ensures mine.ensures c.put_unless.ensures
+    vote_put a.b (λ _. fallback_stands l a.s.0 a.b) a.s.0 l.own mine.result.0 (notar_fallback a.b) rule_d c.if-b-eq0.false c.fallback_stands-stands.ensures mine.ensures c.put_unless.ensures

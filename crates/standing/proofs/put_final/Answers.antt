@@ -23,4 +23,4 @@ returns c =
     let a = c.args in
     let l = ledger_of a.rec.now in
     let mine = c.own in
-    vote_put a.last (λ _. final_stands l a.s.0) a.s.0 l.own mine.result.0 final rule_c c.if-last-eq0.left c.final_stands-stands.ensures mine.ensures c.put_unless.ensures
+    vote_put a.last (λ _. final_stands l a.s.0) a.s.0 l.own mine.result.0 final rule_c c.if-last-eq0.false c.final_stands-stands.ensures mine.ensures c.put_unless.ensures

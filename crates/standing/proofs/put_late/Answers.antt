@@ -23,4 +23,4 @@ returns c =
     let a = c.args in
     let l = ledger_of a.rec.now in
     let mine = c.own in
-    vote_put a.late (λ _. late_stands l a.s.0) a.s.0 l.own mine.result.0 skip_fallback rule_e c.if-late-eq0.left c.late_stands-stands.ensures mine.ensures c.put_unless.ensures
+    vote_put a.late (λ _. late_stands l a.s.0) a.s.0 l.own mine.result.0 skip_fallback rule_e c.if-late-eq0.false c.late_stands-stands.ensures mine.ensures c.put_unless.ensures

@@ -23,4 +23,4 @@ returns c =
     let a = c.args in
     let l = ledger_of a.rec.now in
     let mine = c.own in
-    vote_put a.b (λ _. notar_stands l a.s.0 a.b) a.s.0 l.own mine.result.0 (notar a.b) rule_b c.if-b-eq0.left c.notar_stands-stands.ensures mine.ensures c.put_unless.ensures
+    vote_put a.b (λ _. notar_stands l a.s.0 a.b) a.s.0 l.own mine.result.0 (notar a.b) rule_b c.if-b-eq0.false c.notar_stands-stands.ensures mine.ensures c.put_unless.ensures

@@ -17,12 +17,12 @@ put_fallback-b-requires c =
 
 pub put_fallback-d-requires : goal.put_fallback-d-requires
 put_fallback-d-requires c =
-    let p = c.pre in
+    let p = c.requires in
     record { judging = p.judging; room = omega (arith, p.room, line_on _ _ c.put_notar-a.ensures, line_on _ _ c.put_fallback-b.ensures) }
 
 pub put_fallback-e-requires : goal.put_fallback-e-requires
 put_fallback-e-requires c =
-    let p = c.pre in
+    let p = c.requires in
     record {
       judging = p.judging;
       room = omega (arith, p.room, line_on _ _ c.put_notar-a.ensures, line_on _ _ c.put_fallback-b.ensures, line_on _ _ c.put_fallback-d.ensures);
@@ -30,7 +30,7 @@ put_fallback-e-requires c =
 
 pub put_late-f-requires : goal.put_late-f-requires
 put_late-f-requires c =
-    let p = c.pre in
+    let p = c.requires in
     record {
       judging = p.judging;
       room = omega (
@@ -45,7 +45,7 @@ put_late-f-requires c =
 
 pub put_final-requires : goal.put_final-requires
 put_final-requires c =
-    let p = c.pre in
+    let p = c.requires in
     record {
       judging = p.judging;
       room = omega (
