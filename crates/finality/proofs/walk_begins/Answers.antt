@@ -20,7 +20,7 @@ pub final_block-requires-2 : goal.final_block-requires-2
 final_block-requires-2 c =
     let s : ℕ = c.args.s.0 in let p : ℕ = c.find_block-k.result.parentslot.0 in
     let below = leb-false s p (or_none (eqb p 0) (leb s p) c.if-p-s.false).1 in
-    record { long = c.requires.long; slot = omega (arith, c.requires.slot, below) } 
+    record { long = c.requires.long; slot = omega (arith, c.requires.slot, below) }
 
 pub returns : goal.returns
 returns c =

@@ -12,7 +12,7 @@ pub take_in-made-requires : goal.take_in-made-requires
 take_in-made-requires c = taking_in c.requires
 
 pub settle-requires : goal.settle-requires
-settle-requires c = under_way (sound_tabled c.args.rec.now c.requires.sound) c.take_in-made.ensures 
+settle-requires c = under_way (sound_tabled c.args.rec.now c.requires.sound) c.take_in-made.ensures
 
 pub returns : goal.returns
 returns c = onward_then (λ (x : State). run x) c.take_in-made.ensures c.settle.ensures

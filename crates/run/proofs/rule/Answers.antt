@@ -83,4 +83,4 @@ returns-in-6 c =
 pub returns-in_default : goal.returns-in_default
 returns-in_default c =
     let n = c.in_default.in_default-own.rest in
-    onward_none c.requires.under.live.live (rule_beyond c.args.r _ c.args.s.0 n.0.0.0.0.0.0.1 n.0.0.0.0.0.1 n.0.0.0.0.1 n.0.0.0.1 n.0.0.1 n.0.1 n.1) 
+    onward_none c.requires.under.live.live (rule_beyond c.args.r _ c.args.s.0 n.0.0.0.0.0.0.1 n.0.0.0.0.0.1 n.0.0.0.0.1 n.0.0.0.1 n.0.0.1 n.0.1 n.1)

@@ -14,7 +14,7 @@ pub loop-i-init : goal.loop-i-init
 loop-i-init c = (omega arith, sym (all_none _))
 
 pub own_fits-requires : goal.own_fits-requires
-own_fits-requires c = standing_backs c.args.rec.now c.requires _ (omega arith) (omega arith) 
+own_fits-requires c = standing_backs c.args.rec.now c.requires _ (omega arith) (omega arith)
 
 pub returns-then-not-own_fits : goal.returns-then-not-own_fits
 returns-then-not-own_fits c =

@@ -5,7 +5,7 @@ use Rattle.writers.proofs.Laid.{carded, by_votes_lem, by_masks, held_kept, missi
 use Rattle.writers.proofs.lay_certificate.Goals as goal
 
 pub missing_to-missing-requires : goal.missing_to-missing-requires
-missing_to-missing-requires c = carded c.args.rec.now c.args.s.0 c.requires.0.sound c.requires.0.slot 
+missing_to-missing-requires c = carded c.args.rec.now c.args.s.0 c.requires.0.sound c.requires.0.slot
 
 pub lay_voted-requires : goal.lay_voted-requires
 lay_voted-requires c =

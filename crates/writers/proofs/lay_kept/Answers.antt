@@ -30,10 +30,12 @@ write_certificate-requires c =
     let s = c.args in
     let pre = c.requires.0 in
     let masks = kept_masks (ledger_of s.rec.now) s.kind s.s.0 s.b _ c.kept_place-n.ensures _ _ c.mask_a-x.ensures c.mask_b-y.ensures _
-    (number_asked s.rec.now s.kind c.number_in.ensures c.count.ensures) (kept_words_lem s.rec.now s.kind pre.sound pre.kind) in
-    (masks, subst (λ (z : Certificate). Room s.buffer.now s.at (certificate_bytes z)) (sym ((let s = c.args in
-    kept_named (ledger_of s.rec.now) s.kind s.s.0 s.b _ c.kept_place-n.ensures _ _ c.mask_a-x.ensures c.mask_b-y.ensures _
-    (number_asked s.rec.now s.kind c.number_in.ensures c.count.ensures)))) pre.room)
+    (number_asked s.rec.now s.kind c.number_in.ensures c.count.ensures) (kept_words_lem s.rec.now s.kind pre.sound pre.kind) in (
+      masks,
+      subst (λ (z : Certificate). Room s.buffer.now s.at (certificate_bytes z)) (sym ((let s = c.args in
+          kept_named (ledger_of s.rec.now) s.kind s.s.0 s.b _ c.kept_place-n.ensures _ _ c.mask_a-x.ensures c.mask_b-y.ensures _
+          (number_asked s.rec.now s.kind c.number_in.ensures c.count.ensures)))) pre.room,
+    )
 
 pub returns : goal.returns
 returns c =
