@@ -1,0 +1,22 @@
+-- What the certificate writer lays is a packet that the checker accepts.
+use mathlib.Core.Path.{sym, refl, ◌∙◌}
+use Prim.Native.Nat.{◌-◌}
+use lib.ListN.{length}
+use Rattle.soundness.proofs.Laws.{sound_counted}
+use Rattle.readback.proofs.Words.{certificate_sound, certificate_inside, certificate_back, refused_back}
+use Rattle.readback.proofs.certificate_read_back.Goals as goal
+
+pub stakes_of-requires : goal.stakes_of-requires
+stakes_of-requires c =
+    sound_counted c.args.rec.now (certificate_sound c.args.rec.now (length c.args.buffer.now) c.args.kind c.args.slot.0 c.args.block _ (sym c.write_certificate-w.ensures.answered ∙ c.in-Written.is))
+
+pub slice_bounds-check_certificate-end : goal.slice_bounds-check_certificate-end
+slice_bounds-check_certificate-end c =
+    certificate_inside c.args.rec.now c.args.buffer.now c.args.kind c.args.slot.0 c.args.block _ c.write_certificate-w.ensures c.in-Written.is
+
+pub returns-in-Refused : goal.returns-in-Refused
+returns-in-Refused c = refused_back _ _ c.write_certificate-w.ensures c.in-Refused.is
+
+pub returns-in-Written : goal.returns-in-Written
+returns-in-Written c =
+    certificate_back c.args.rec.now c.args.buffer.now c.args.kind c.args.slot.0 c.args.block _ c.ranges.block.fits c.write_certificate-w.ensures c.in-Written.is c.stakes_of.ensures refl c.check_certificate.ensures
