@@ -36,8 +36,8 @@ lay_certificate-requires-2 c =
     let s = c.args in
     let first = c.lay_certificate-next in
     let room = room_next (ledger_of s.rec.now) s.s.0 s.b s.buffer.now _ _ (slot_row _ c.requires.slot) c.requires.room first.auto.buffer first.ensures in
-    let both = proof_held (ledger_of s.rec.now) s.s.0 s.b c.requires.final (sym c.held.ensures ∙ c.if-held.false) in
-    (record { sound = c.requires.sound; kind = refl; slot = c.requires.slot; room = room }, both.1)
+    let pair = proof_held (ledger_of s.rec.now) s.s.0 s.b c.requires.final (sym c.held.ensures ∙ c.if-held.false) in
+    (record { sound = c.requires.sound; kind = refl; slot = c.requires.slot; room = room }, pair.1)
 
 pub returns : goal.returns
 returns c =
