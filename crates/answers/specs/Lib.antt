@@ -1,2 +1,0 @@
--- What the face's contracts cite.
-pub mod Face

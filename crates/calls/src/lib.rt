@@ -1,3 +1,0 @@
-// Calls, lives made of them, and that they are seen: no code of its own.
-
-#![tactic(auto)]

@@ -1,2 +1,0 @@
--- Laws of what stands aside and of a comparison's line.
-pub mod Laws

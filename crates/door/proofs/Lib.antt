@@ -1,2 +1,0 @@
--- Laws of lines that are sent.
-pub mod Laws

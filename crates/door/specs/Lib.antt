@@ -1,2 +1,0 @@
--- Where lines leave the program.
-pub mod Sent

@@ -1,4 +1,0 @@
--- Why they hold.
-pub mod Tables
-pub mod Compared
-pub mod Written

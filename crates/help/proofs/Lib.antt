@@ -1,2 +1,0 @@
--- Laws of the help.
-pub mod Laws

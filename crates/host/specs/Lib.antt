@@ -1,2 +1,0 @@
--- Answers of the public operations, in the face's words.
-pub mod Answered

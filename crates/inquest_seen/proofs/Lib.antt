@@ -1,2 +1,0 @@
--- The inquest over words, by the inquest over ledgers.
-pub mod Named

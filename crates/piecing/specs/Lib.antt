@@ -1,2 +1,0 @@
--- The line that answers a piece.
-pub mod Answer

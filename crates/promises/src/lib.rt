@@ -1,3 +1,0 @@
-// The customer's sentences over the contracts of the public operations: no code of its own.
-
-#![tactic(auto)]

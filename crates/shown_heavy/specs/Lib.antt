@@ -1,2 +1,0 @@
--- Blocks by weight.
-pub mod Heavy

@@ -1,2 +1,0 @@
--- What is shown of kept certificates, defined for any words, slot and place.
-pub mod Kept

@@ -1,2 +1,0 @@
--- Stored votes.
-pub mod Votes
