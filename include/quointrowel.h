@@ -452,8 +452,8 @@ uint64_t qr_same_parents(const uint64_t *first, size_t first_words, const uint64
                          size_t list_words, size_t *beside);
 
 /*
- * Writes what a number of enum qr_number means and what to do next, for people, to the buffer's front, which has at least QR_TEXT_BYTES
- * bytes, and puts the number of its bytes into *written; no zero byte ends it, and bytes past it stay. 0 has a text too, and for every other
+ * Writes what a number of enum qr_number means, a sentence for people, to the buffer's front, which has at least QR_TEXT_BYTES bytes,
+ * and puts the number of its bytes into *written; no zero byte ends it, and bytes past it stay. 0 has a text too, and for every other
  * number it is "No refusal has this number." Refusals: 9.
  */
 uint64_t qr_refusal_text(uint8_t *buffer, size_t buffer_bytes, size_t *written, uint64_t number);

@@ -175,7 +175,7 @@ help COMMAND
     (
         "why",
         "why NUMBER
-  What a refusal means, and what to do next.
+  What a refusal means, in a sentence.
   A line for people.",
     ),
     (

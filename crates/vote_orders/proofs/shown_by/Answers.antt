@@ -55,9 +55,6 @@ returns-then-leads c =
     (omega (arith, c.count-nodes.ensures, c.if-nodes-n.false)) (sym c.comes_next.ensures ∙ c.if-not-comes_next.false) c.if-rest-w.false next.ensures
     (sym c.leads.ensures ∙ c.if-leads.true)
 
--- TODO add-i : tie.Need-overflow-add-i invariant-loop decreases-loop
--- add-i c = omega (arith, c.before.before.before.before.before.before.before.before.before.before.before.before.before.before.before.loop.invariant.1, c.before.before.before.before.before.before.before.before.before.before.before.before.before.before.loop-test.true)
-
 pub loop-i-preserved : goal.loop-i-preserved
 loop-i-preserved c =
     let a = c.args in

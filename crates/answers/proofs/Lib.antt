@@ -1,0 +1,3 @@
+-- Laws that the face's proofs cite.
+pub mod Answers
+pub mod OneResult

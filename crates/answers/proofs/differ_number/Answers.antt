@@ -1,0 +1,15 @@
+-- The number of each answer.
+use Rattle.differences.specs.Lent.{differ_panel}
+use Rattle.answers.proofs.differ_number.Goals as goal
+
+pub returns-in-Listed : goal.returns-in-Listed
+unfolding differ_panel
+returns-in-Listed c = simp c.in-Listed.is
+
+pub returns-in-BadRecord : goal.returns-in-BadRecord
+unfolding differ_panel
+returns-in-BadRecord c = simp c.in-BadRecord.is c.refusal_number.ensures
+
+pub returns-in-NoRoom : goal.returns-in-NoRoom
+unfolding differ_panel
+returns-in-NoRoom c = simp c.in-NoRoom.is c.refusal_number-in-NoRoom.ensures

@@ -1,0 +1,19 @@
+-- The number of each answer.
+use Rattle.inquest_lines.specs.Lent.{list_panel}
+use Rattle.answers.proofs.list_number.Goals as goal
+
+pub returns-in-Listed : goal.returns-in-Listed
+unfolding list_panel
+returns-in-Listed c = simp c.in-Listed.is
+
+pub returns-in-BadRecord : goal.returns-in-BadRecord
+unfolding list_panel
+returns-in-BadRecord c = simp c.in-BadRecord.is c.refusal_number.ensures
+
+pub returns-in-Refused : goal.returns-in-Refused
+unfolding list_panel
+returns-in-Refused c = simp c.in-Refused.is c.refusal_number-in-Refused.ensures
+
+pub returns-in-NoRoom : goal.returns-in-NoRoom
+unfolding list_panel
+returns-in-NoRoom c = simp c.in-NoRoom.is c.refusal_number-in-NoRoom.ensures

@@ -1,0 +1,23 @@
+-- The value beside each answer.
+use mathlib.Core.Path.{ap}
+use Prim.Native.Nat.{ℕ}
+use mathlib.Core.List.{[], ◌∷◌}
+use Rattle.inquest_lines.specs.Lent.{list_panel}
+use borrow.Author.Rules.{rules}
+use Rattle.answers.proofs.list_value.Goals as goal
+
+pub returns-in-Listed : goal.returns-in-Listed
+unfolding list_panel
+returns-in-Listed c = search rules
+
+pub returns-in-BadRecord : goal.returns-in-BadRecord
+unfolding list_panel
+returns-in-BadRecord c = simp c.in-BadRecord.is (ap (λ (x : ℕ). x ∷ []) c.side_number.ensures)
+
+pub returns-in-Refused : goal.returns-in-Refused
+unfolding list_panel
+returns-in-Refused c = simp c.in-Refused.is
+
+pub returns-in-NoRoom : goal.returns-in-NoRoom
+unfolding list_panel
+returns-in-NoRoom c = search rules

@@ -1,0 +1,10 @@
+-- Both ways.
+use mathlib.Core.Path.{sym}
+use Rattle.rule_laws.proofs.ToolLaws.{part_on, part_off}
+use Rattle.answers.proofs.mark.Goals as goal
+
+pub returns-then-there : goal.returns-then-there
+returns-then-there c = sym (part_on _ 1 c.if-there.true)
+
+pub returns-else-there : goal.returns-else-there
+returns-else-there c = sym (part_off _ 1 c.if-there.false)

@@ -1,0 +1,2 @@
+-- What the face's contracts cite.
+pub mod Face

@@ -1,0 +1,485 @@
+// What the operations answer, as numbers and values on the panel: the definitions of the paper's numbers say which.
+#![tactic(auto)]
+
+ghost use Rattle.std.specs.Prelude.{◌≡◌};
+ghost use Rattle.rulebook.specs.Tools.{part};
+ghost use Rattle.rulebook.specs.PaperNumbers.{start_panel, step_panel, write_panel, read_panel, check_number, check_values, check_missing};
+ghost use Rattle.announcing.specs.Asked.{announce_panel};
+ghost use Rattle.cards.specs.Asked.{card_values, card_panel};
+ghost use Rattle.differences.specs.Lent.{differ_panel};
+ghost use Rattle.inquest_lines.specs.Lent.{list_panel};
+ghost use Rattle.pieces.specs.Pieces.{piece_panel};
+ghost use Rattle.readers.specs.Asked.{final_panel, armed_panel, cell_values, votes_panel, block_values, kept_values, blocks_panel, mark_values, marks_panel, head_values, head_panel};
+ghost use Rattle.readers.specs.Weighed.{weight_values, weights_panel};
+ghost use Rattle.vouched_packets.specs.Split.{split_panel};
+ghost use Rattle.answers.specs.Face.{Beside, vote_values, accepted_values};
+
+use announcing::AnnounceAnswer;
+use cards::CardAnswer;
+use differences::{DifferAnswer, side_number};
+use inquest_lines::ListAnswer;
+use kinds::{number_in, refusal_missing, refusal_number, vote_number};
+use pieces::PieceAnswer;
+use readers::{
+    ArmedAnswer, BlockWeights, BlocksAnswer, FinalAnswer, HeadAnswer, KeptBlocks, MarksAnswer,
+    RecordHead, SlotMarks, VotesAnswer, WeightsAnswer,
+};
+use rulebook::{
+    Accepted, Cell, CheckAnswer, ReadAnswer, Refusal, StartAnswer, StepAnswer, Tally, Vote, Weight,
+    WriteAnswer,
+};
+use vouched_packets::SplitAnswer;
+
+// What start answers, as a number.
+pub fn start_number(a: StartAnswer) -> u64
+    ensures { result ≡ (start_panel a).number }
+{
+    match a {
+        StartAnswer::Started => 0,
+        StartAnswer::Refused(r) => refusal_number(r),
+    }
+}
+
+// What a step answers, as a number.
+pub fn step_number(a: StepAnswer) -> u64
+    ensures { result ≡ (step_panel a).number }
+{
+    match a {
+        StepAnswer::Done(_) => 0,
+        StepAnswer::Refused(r) => refusal_number(r),
+    }
+}
+
+// How many records a step made, 0 beside a refusal.
+pub fn records_made(a: StepAnswer) -> usize
+    ensures { Beside result (step_panel a).values }
+{
+    match a {
+        StepAnswer::Done(n) => n,
+        StepAnswer::Refused(_) => 0,
+    }
+}
+
+// What a writer answers, as a number.
+pub fn write_number(a: WriteAnswer) -> u64
+    ensures { result ≡ (write_panel a).number }
+{
+    match a {
+        WriteAnswer::Written(_) => 0,
+        WriteAnswer::Refused(r) => refusal_number(r),
+    }
+}
+
+// How many bytes a writer wrote, 0 beside a refusal.
+pub fn bytes_written(a: WriteAnswer) -> usize
+    ensures { Beside result (write_panel a).values }
+{
+    match a {
+        WriteAnswer::Written(n) => n,
+        WriteAnswer::Refused(_) => 0,
+    }
+}
+
+// What the reader of vote messages answers, as a number.
+pub fn read_number(a: ReadAnswer) -> u64
+    ensures { result ≡ (read_panel a).number }
+{
+    match a {
+        ReadAnswer::Read(_) => 0,
+        ReadAnswer::Refused(r) => refusal_number(r),
+    }
+}
+
+// Kind, node, slot and block of the vote that was read, zeros beside a refusal.
+pub fn read_values(a: ReadAnswer) -> [u64; 4]
+    ensures { result ≡ (read_panel a).values }
+{
+    match a {
+        ReadAnswer::Read(v) => vote_values(v),
+        ReadAnswer::Refused(_) => [0, 0, 0, 0],
+    }
+}
+
+// The four numbers of a vote.
+fn vote_values(v: Vote) -> [u64; 4]
+    ensures { result ≡ vote_values v }
+{
+    let k = v.kind;
+    let n = v.node;
+    let s = v.slot;
+    [vote_number(k), n.0 as u64, s.0 as u64, v.block]
+}
+
+// What the checker answers, as a number.
+pub fn check_number(a: CheckAnswer) -> u64
+    ensures { result ≡ check_number a }
+{
+    match a {
+        CheckAnswer::Accepted(_) => 0,
+        CheckAnswer::Refused(r) => refusal_number(r),
+    }
+}
+
+// Kind, slot, block, signer count and weight of what was checked under a table of so many nodes, zeros beside a refusal.
+pub fn check_values(count: usize, a: CheckAnswer) -> [u64; 5]
+    ensures { result ≡ check_values count a }
+{
+    match a {
+        CheckAnswer::Accepted(x) => accepted_values(count, x),
+        CheckAnswer::Refused(_) => [0, 0, 0, 0, 0],
+    }
+}
+
+// What a piece of a proof is answered, as a number: 0 is "more".
+pub fn piece_number(a: PieceAnswer) -> u64
+    ensures { result ≡ (piece_panel a).number }
+{
+    match a {
+        PieceAnswer::More => 0,
+        PieceAnswer::Refused(r) => refusal_number(r),
+    }
+}
+
+// What is missing to the threshold, 0 unless the number is 15.
+pub fn check_missing(a: CheckAnswer) -> Weight
+    ensures { result.0 ≡ check_missing a }
+{
+    match a {
+        CheckAnswer::Accepted(_) => Weight(0),
+        CheckAnswer::Refused(r) => refusal_missing(r),
+    }
+}
+
+// The five values of an accepted check.
+fn accepted_values(count: usize, x: Accepted) -> [u64; 5]
+    ensures { result ≡ accepted_values count x }
+{
+    let k = x.kind;
+    let s = x.slot;
+    let w = x.weight;
+    [number_in(count, k), s.0 as u64, x.block, x.signers, w.0]
+}
+
+// What the comparison of two records answers, as a number.
+pub fn differ_number(a: DifferAnswer) -> u64
+    ensures { result ≡ (differ_panel a).number }
+{
+    match a {
+        DifferAnswer::Listed(_) => 0,
+        DifferAnswer::BadRecord(_) => refusal_number(Refusal::BadRecord),
+        DifferAnswer::NoRoom(_) => refusal_number(Refusal::NoRoom),
+    }
+}
+
+// How many lines there are, beside 17 the side, beside 9 how many lines are needed.
+pub fn differ_value(a: DifferAnswer) -> usize
+    ensures { Beside result (differ_panel a).values }
+{
+    match a {
+        DifferAnswer::Listed(n) => n,
+        DifferAnswer::BadRecord(s) => side_number(s) as usize,
+        DifferAnswer::NoRoom(n) => n,
+    }
+}
+
+// What a question for a list answers, as a number.
+pub fn list_number(a: ListAnswer) -> u64
+    ensures { result ≡ (list_panel a).number }
+{
+    match a {
+        ListAnswer::Listed(_) => 0,
+        ListAnswer::BadRecord(_) => refusal_number(Refusal::BadRecord),
+        ListAnswer::Refused(r) => refusal_number(r),
+        ListAnswer::NoRoom(_) => refusal_number(Refusal::NoRoom),
+    }
+}
+
+// How many lines there are, beside 17 of two records the side, beside 9 how many lines are needed, beside another refusal 0.
+pub fn list_value(a: ListAnswer) -> usize
+    ensures { Beside result (list_panel a).values }
+{
+    match a {
+        ListAnswer::Listed(n) => n,
+        ListAnswer::BadRecord(s) => side_number(s) as usize,
+        ListAnswer::Refused(_) => 0,
+        ListAnswer::NoRoom(n) => n,
+    }
+}
+
+// What the question for a card is answered, as a number.
+pub fn card_number(a: CardAnswer) -> u64
+    ensures { result ≡ (card_panel a).number }
+{
+    match a {
+        CardAnswer::Card(_) => 0,
+        CardAnswer::Refused(r) => refusal_number(r),
+    }
+}
+
+// Skip, final and skip-certificate weight, the leading block and its weight, zeros beside a refusal.
+pub fn card_values(a: CardAnswer) -> [u64; 5]
+    ensures { result ≡ (card_panel a).values }
+{
+    match a {
+        CardAnswer::Card(t) => tally_values(t),
+        CardAnswer::Refused(_) => [0, 0, 0, 0, 0],
+    }
+}
+
+// The five words of a card.
+fn tally_values(t: Tally) -> [u64; 5]
+    ensures { result ≡ card_values t }
+{
+    let skip = t.skip;
+    let finals = t.finals;
+    let skipcert = t.skipcert;
+    let weight = t.weight;
+    [skip.0, finals.0, skipcert.0, t.leader, weight.0]
+}
+
+// What the question for a final block is answered, as a number.
+pub fn final_number(a: FinalAnswer) -> u64
+    ensures { result ≡ (final_panel a).number }
+{
+    match a {
+        FinalAnswer::Block(_) => 0,
+        FinalAnswer::Refused(r) => refusal_number(r),
+    }
+}
+
+// The final block, 0 where there is none and beside a refusal.
+pub fn final_value(a: FinalAnswer) -> u64
+    ensures { Beside result (final_panel a).values }
+{
+    match a {
+        FinalAnswer::Block(b) => b,
+        FinalAnswer::Refused(_) => 0,
+    }
+}
+
+// What the question whether a window is armed is answered, as a number.
+pub fn armed_number(a: ArmedAnswer) -> u64
+    ensures { result ≡ (armed_panel a).number }
+{
+    match a {
+        ArmedAnswer::Armed(_) => 0,
+        ArmedAnswer::Refused(r) => refusal_number(r),
+    }
+}
+
+// 1 where the window is armed, else 0, and beside a refusal.
+pub fn armed_value(a: ArmedAnswer) -> u64
+    ensures { Beside result (armed_panel a).values }
+{
+    match a {
+        ArmedAnswer::Armed(there) => mark(there),
+        ArmedAnswer::Refused(_) => 0,
+    }
+}
+
+// What the question where a proof's first certificate ends is answered, as a number.
+pub fn split_number(a: SplitAnswer) -> u64
+    ensures { result ≡ (split_panel a).number }
+{
+    match a {
+        SplitAnswer::First(_) => 0,
+        SplitAnswer::Refused(r) => refusal_number(r),
+    }
+}
+
+// The bytes of the first certificate; 0 beside a refusal.
+pub fn split_value(a: SplitAnswer) -> usize
+    ensures { Beside result (split_panel a).values }
+{
+    match a {
+        SplitAnswer::First(n) => n,
+        SplitAnswer::Refused(_) => 0,
+    }
+}
+
+// What the question whether a block may be announced is answered, as a number.
+pub fn announce_number(a: AnnounceAnswer) -> u64
+    ensures { result ≡ (announce_panel a).number }
+{
+    match a {
+        AnnounceAnswer::Now(_) => 0,
+        AnnounceAnswer::Refused(r) => refusal_number(r),
+    }
+}
+
+// 1 where it may be announced now; 0 where not yet, and beside a refusal.
+pub fn announce_value(a: AnnounceAnswer) -> u64
+    ensures { Beside result (announce_panel a).values }
+{
+    match a {
+        AnnounceAnswer::Now(now) => mark(now),
+        AnnounceAnswer::Refused(_) => 0,
+    }
+}
+
+// What the question for a node's votes is answered, as a number.
+pub fn votes_number(a: VotesAnswer) -> u64
+    ensures { result ≡ (votes_panel a).number }
+{
+    match a {
+        VotesAnswer::Votes(_) => 0,
+        VotesAnswer::Refused(r) => refusal_number(r),
+    }
+}
+
+// The seven words of the node's cell, zeros beside a refusal.
+pub fn votes_values(a: VotesAnswer) -> [u64; 7]
+    ensures { result ≡ (votes_panel a).values }
+{
+    match a {
+        VotesAnswer::Votes(c) => cell_values(c),
+        VotesAnswer::Refused(_) => [0, 0, 0, 0, 0, 0, 0],
+    }
+}
+
+// What the question for a slot's blocks is answered, as a number.
+pub fn blocks_number(a: BlocksAnswer) -> u64
+    ensures { result ≡ (blocks_panel a).number }
+{
+    match a {
+        BlocksAnswer::Blocks(_) => 0,
+        BlocksAnswer::Refused(r) => refusal_number(r),
+    }
+}
+
+// The twelve words of the slot's kept blocks, zeros beside a refusal.
+pub fn blocks_values(a: BlocksAnswer) -> [u64; 12]
+    ensures { result ≡ (blocks_panel a).values }
+{
+    match a {
+        BlocksAnswer::Blocks(k) => kept_values(k),
+        BlocksAnswer::Refused(_) => [0, 0, 0, 0, 0, 0, 0, 0, 0, 0, 0, 0],
+    }
+}
+
+// What the question for a slot's marks is answered, as a number.
+pub fn marks_number(a: MarksAnswer) -> u64
+    ensures { result ≡ (marks_panel a).number }
+{
+    match a {
+        MarksAnswer::Marks(_) => 0,
+        MarksAnswer::Refused(r) => refusal_number(r),
+    }
+}
+
+// The slot's two marks, zeros beside a refusal.
+pub fn marks_values(a: MarksAnswer) -> [u64; 2]
+    ensures { result ≡ (marks_panel a).values }
+{
+    match a {
+        MarksAnswer::Marks(m) => mark_values(m),
+        MarksAnswer::Refused(_) => [0, 0],
+    }
+}
+
+// What the question for a record's head is answered, as a number.
+pub fn head_number(a: HeadAnswer) -> u64
+    ensures { result ≡ (head_panel a).number }
+{
+    match a {
+        HeadAnswer::Head(_) => 0,
+        HeadAnswer::Refused(r) => refusal_number(r),
+    }
+}
+
+// The four words of the record's head, zeros beside a refusal.
+pub fn head_values(a: HeadAnswer) -> [u64; 4]
+    ensures { result ≡ (head_panel a).values }
+{
+    match a {
+        HeadAnswer::Head(h) => facts_values(h),
+        HeadAnswer::Refused(_) => [0, 0, 0, 0],
+    }
+}
+
+// What the question for a block's weights is answered, as a number.
+pub fn weights_number(a: WeightsAnswer) -> u64
+    ensures { result ≡ (weights_panel a).number }
+{
+    match a {
+        WeightsAnswer::Weights(_) => 0,
+        WeightsAnswer::Refused(r) => refusal_number(r),
+    }
+}
+
+// The block's four weights, zeros beside a refusal.
+pub fn weights_values(a: WeightsAnswer) -> [u64; 4]
+    ensures { result ≡ (weights_panel a).values }
+{
+    match a {
+        WeightsAnswer::Weights(w) => four_weights(w),
+        WeightsAnswer::Refused(_) => [0, 0, 0, 0],
+    }
+}
+
+// The four words of a block's weights.
+fn four_weights(w: BlockWeights) -> [u64; 4]
+    ensures { result ≡ weight_values w }
+{
+    let notar = w.notar;
+    let fallback = w.fallback;
+    let skip = w.skip;
+    let missing = w.missing;
+    [notar.0, fallback.0, skip.0, missing.0]
+}
+
+// The twelve words of four blocks.
+fn kept_values(k: KeptBlocks) -> [u64; 12]
+    ensures { result ≡ kept_values k }
+{
+    let a = k.first;
+    let b = k.second;
+    let c = k.third;
+    let d = k.fourth;
+    let p = a.parentslot;
+    let q = b.parentslot;
+    let r = c.parentslot;
+    let s = d.parentslot;
+    [
+        a.number, p.0 as u64, a.parent, b.number, q.0 as u64, b.parent, c.number, r.0 as u64,
+        c.parent, d.number, s.0 as u64, d.parent,
+    ]
+}
+
+// The two words of a slot's marks.
+fn mark_values(m: SlotMarks) -> [u64; 2]
+    ensures { result ≡ mark_values m }
+{
+    [m.timedout, m.clash]
+}
+
+// The four words of a head.
+fn facts_values(h: RecordHead) -> [u64; 4]
+    ensures { result ≡ head_values h }
+{
+    let own = h.own;
+    let stake = h.stake;
+    [own.0 as u64, h.nodes as u64, stake.0, h.genesis]
+}
+
+// 1 for yes.
+fn mark(there: bool) -> u64
+    ensures { result ≡ part there 1 }
+{
+    if there { 1 } else { 0 }
+}
+
+// The seven words of a cell.
+fn cell_values(c: Cell) -> [u64; 7]
+    ensures { result ≡ cell_values c }
+{
+    [
+        c.notar,
+        c.skip,
+        c.fallback1,
+        c.fallback2,
+        c.fallback3,
+        c.skipfallback,
+        c.finalvote,
+    ]
+}

@@ -1,0 +1,3 @@
+// Calls, lives made of them, and that they are seen: no code of its own.
+
+#![tactic(auto)]

@@ -1,0 +1,2 @@
+-- Laws of what stands aside and of a comparison's line.
+pub mod Laws

@@ -1,0 +1,3 @@
+-- What stands aside, how a comparison is answered, and a record's bytes.
+pub mod Compared
+pub mod Cases

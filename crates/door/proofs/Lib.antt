@@ -1,0 +1,2 @@
+-- Laws of lines that are sent.
+pub mod Laws

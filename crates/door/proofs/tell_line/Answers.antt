@@ -1,0 +1,6 @@
+-- The text, and the line's end.
+use Rattle.door.proofs.Laws.{next_after}
+use Rattle.door.proofs.tell_line.Goals as goal
+
+pub returns : goal.returns
+returns c = next_after c.put_text-next.ensures c.end_line.ensures

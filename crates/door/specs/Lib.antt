@@ -1,0 +1,2 @@
+-- Where lines leave the program.
+pub mod Sent

@@ -1,0 +1,95 @@
+// Where a line leaves the program: whole and in one go, or not at all and said so. No contract can say what is written; these say
+// when nothing is.
+#![tactic(auto)]
+
+ghost use Rattle.std.specs.Prelude.{◌≡◌, ◌≤◌, IsErr, MatchResult, length};
+ghost use Rattle.std.specs.Str.{IsUtf8};
+ghost use Rattle.door.specs.Sent.{NextLine, Whole};
+
+use lines::{put_byte, put_text};
+use std::io::{Error, ErrorKind, Result, Write};
+
+const OUT: i32 = 1;
+
+const ERR: i32 = 2;
+
+// Writes the text at a page's front to an open file, and answers whether all of it was taken. A page that is full may hold less.
+pub fn send_to(fd: i32, page: &[u8], used: usize) -> bool
+    ensures { Whole (length page.now) used result }
+{
+    if used < page.len() {
+        return io::write_all(fd, &page[..used]);
+    }
+    false
+}
+
+// The same to standard output.
+pub fn send(page: &[u8], used: usize) -> bool
+    ensures { Whole (length page.now) used result }
+{
+    send_to(OUT, page, used)
+}
+
+// The same into a writer, with the error where not all of it was taken.
+pub fn send_into<W: Write>(out: &mut W, page: &[u8], used: usize) -> Result<()>
+    ensures { length page.now ≤ used → IsErr result }
+{
+    if page.len() <= used {
+        return Err(Error::from(ErrorKind::WriteZero));
+    }
+    out.write_all(&page[..used])
+}
+
+// Ends the line that stands in a page up to a place and sends it. Answers the place where the next line begins: the page's
+// front, or its end where the line was not written, so that nothing follows it.
+pub fn end_line(page: &mut [u8], at: usize) -> usize
+    ensures { NextLine (length page.old) at result }
+{
+    let used = put_byte(page, at, b'\n');
+    if send(page, used) {
+        return 0;
+    }
+    page.len()
+}
+
+// A text as a line of its own, after those that were sent.
+pub fn tell_line(page: &mut [u8], at: usize, text: &[u8]) -> usize
+    ensures { NextLine (length page.old) at result }
+{
+    let next = put_text(page, at, text);
+    end_line(page, next)
+}
+
+// Where an error's text ends: before the number that the library puts behind it, in brackets.
+fn text_end(text: &[u8]) -> usize
+    ensures { result ≤ length text.now }
+{
+    for i in 0..text.len() {
+        if (text[i] == 0) | text[i..].starts_with(b" (os error ") {
+            return i;
+        }
+    }
+    text.len()
+}
+
+// Says on standard error in one line what was not done, and why.
+pub fn fail(what: &[u8], error: Error) {
+    let mut text = [0u8; 256];
+    let mut room = &mut text[..];
+    let _ = write!(room, "{error}");
+    let end = text_end(&text);
+    io::write_all(ERR, what);
+    io::write_all(ERR, b": ");
+    io::write_all(ERR, &text[..end]);
+    io::write_all(ERR, b"\n");
+}
+
+// A file's name as text: std opens no other.
+pub fn file_name(name: &[u8]) -> Result<&str>
+    ensures { MatchResult result (λ text. text.now ≡ name.now) (λ _. IsUtf8 name.now → ⊥) }
+{
+    match str::from_utf8(name) {
+        Ok(text) => Ok(text),
+        Err(_) => Err(Error::from(ErrorKind::InvalidFilename)),
+    }
+}

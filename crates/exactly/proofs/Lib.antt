@@ -1,0 +1,4 @@
+-- Why they hold.
+pub mod Tables
+pub mod Compared
+pub mod Written

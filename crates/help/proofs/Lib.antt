@@ -1,0 +1,2 @@
+-- Laws of the help.
+pub mod Laws

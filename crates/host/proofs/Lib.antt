@@ -1,0 +1,2 @@
+-- Contracts of the public operations are the face's, in numbers.
+pub mod Answered

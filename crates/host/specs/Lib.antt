@@ -1,0 +1,2 @@
+-- Answers of the public operations, in the face's words.
+pub mod Answered

@@ -1,0 +1,2 @@
+-- The inquest over words, by the inquest over ledgers.
+pub mod Named

@@ -1,0 +1,12 @@
+-- The loop over the bytes.
+use lib.ListN.{length}
+use Prim.Native.Nat.{◌-◌}
+use Rattle.page.proofs.tell_bytes.Given as goal
+
+abbrev pub invariant-loop-i : goal.invariant-loop-i
+invariant-loop-i l =
+    Unit {0}
+
+abbrev pub decreases-loop-i : goal.decreases-loop-i
+decreases-loop-i l =
+    length l.bytes - l.i

@@ -1,0 +1,2 @@
+-- The line that answers a piece.
+pub mod Answer

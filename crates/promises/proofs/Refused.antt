@@ -1,0 +1,275 @@
+-- A refusal leaves all lent memory as found. Assumes nothing.
+use mathlib.Core.Path.{◌≡◌, refl, sym, ap, ◌∙◌}
+use mathlib.Core.Bool.{true, false, ◌&&◌}
+use mathlib.Core.List.{List, [], ◌∷◌, ◌++◌}
+use Prim.Native.Nat.{ℕ, ◌*◌, ◌%◌}
+use native.Mathlib.Omega.{arith}
+use lib.ListN.{length, drop}
+use lib.Dec.{eqb, leb}
+use Rattle.rulebook.specs.declared.CheckAnswer.{CheckAnswer}
+use Rattle.rulebook.specs.declared.Input.{Input}
+use Rattle.rulebook.specs.declared.ReadAnswer.{ReadAnswer}
+use Rattle.rulebook.specs.declared.Refusal.{Refusal}
+use Rattle.rulebook.specs.declared.Refusal.TheVariants as refusal
+use Rattle.rulebook.specs.declared.StartAnswer.TheVariants as start
+use Rattle.rulebook.specs.declared.StepAnswer.{StepAnswer}
+use Rattle.rulebook.specs.declared.StepAnswer.TheVariants as step-answer
+use Rattle.rulebook.specs.declared.Verdict.{Verdict}
+use Rattle.rulebook.specs.declared.Verdict.TheVariants.{Fine, Refused}
+use Rattle.rulebook.specs.declared.WriteAnswer.{WriteAnswer}
+use Rattle.rulebook.specs.declared.WriteAnswer.TheVariants as write
+use Rattle.rulebook.specs.Ledger.{Ledger}
+use Rattle.rulebook.specs.PaperNumbers.{step_panel, write_panel, read_panel, check_values}
+use Rattle.rulebook.specs.Inputs.{Fed, verdict, fed_with, refused_with, fed_on, feed}
+use Rattle.rulebook.specs.WellFormed.{well_formed, outbox_words, step, take_certificate}
+use Rattle.rulebook.specs.Writers.{Wrote, wrote_on, write_certificate, write_proof, certificate_verdict, proof_verdict, proof_bytes, certificate_for, over, Writes}
+use Rattle.rulebook.specs.Packets.{certificate_bytes}
+use Rattle.rulebook.specs.Messages.{message_bytes, message_verdict, write_vote}
+use Rattle.rule_laws.proofs.ToolLaws.{given_on, given_off, given_keeps, by_test}
+use Rattle.rule_laws.proofs.RuleLaws as rules
+use Rattle.record.specs.Layout.{ledger_of}
+use Rattle.record.specs.Spelling.{words_of, is_spelled}
+use Rattle.record.proofs.Spelled.{spelled_words}
+use Rattle.soundness.specs.Sound.{sound_words}
+use Rattle.starts.specs.Starting.{start_judged, start_answer, start_left, watch_judged}
+use Rattle.node.specs.Stepping.{Leaves, spelled, as_found, as_fed, step_leaves}
+use Rattle.taking.specs.Taking.{take_leaves}
+use Rattle.tray_rules.specs.Trays.{votes_in, whole_votes, Served, serve, Tray, tray_refused, tray_served, tray}
+use Rattle.trays.specs.Lent as trays
+use Rattle.trays.specs.Lent.{as_served, tray_leaves}
+use Rattle.writers.specs.Writing.{unsound, kind_on, certificate_on, proof_on}
+use Rattle.answers.specs.Face.{Beside}
+use Rattle.promises.specs.Refusals.{StartRefused, WatchRefused, StepRefused, TakeRefused, TrayRefused, CertificateRefused, ProofRefused, MessageRefused, FaceStartRefused, FaceWatchRefused, FaceStepRefused, FaceTakeRefused, FaceTrayRefused, FaceCertificateRefused, FaceProofRefused, FaceMessageRefused, FaceReadRefused, FaceCheckRefused}
+use Rattle.promises.proofs.Numbered.{start_refusal, step_refusal, write_refusal, read_refusal, check_refusal}
+
+-- ---- start
+
+left_found : (v : Verdict) (ws stakes : List ℕ) (own genesis : ℕ) (r : Refusal) → start_answer v ≡ start.Refused r → start_left v ws stakes own genesis ≡ ws
+unfolding start_answer start_left
+left_found Fine ws stakes own genesis r e = let z : ◌≡◌ {A = ℕ} 0 1 = cc in absurd (omega arith)
+left_found (Refused x) ws stakes own genesis r e = refl
+
+pub start_refused : StartRefused
+start_refused ws stakes own genesis r left h =
+    h.words ∙ left_found (start_judged ws stakes own genesis) ws stakes own genesis r (sym h.answered)
+
+pub watch_refused : WatchRefused
+watch_refused ws stakes genesis r left h =
+    h.words ∙ left_found (watch_judged ws stakes genesis) ws stakes (length stakes) genesis r (sym h.answered)
+
+-- ---- step
+
+-- A refusal keeps the ledger and makes no record.
+abbrev pub Kept : Ledger → Fed → Type 0
+Kept l f = (r : Refusal) → f.answer ≡ step-answer.Refused r → (f.ledger ≡ l) × (f.records ≡ [])
+
+refused_kept : (l : Ledger) (x : Refusal) → Kept l (refused_with l x)
+unfolding refused_with
+refused_kept l x r e = (refl, refl)
+
+pub fed_kept : (l : Ledger) (i : Input) (v : Verdict) → Kept l (fed_on v l i)
+unfolding fed_on fed_with
+fed_kept l i Fine r e = let z : ◌≡◌ {A = ℕ} 0 1 = cc in absurd (omega arith)
+fed_kept l i (Refused x) r e = refused_kept l x r e
+
+step_kept : (l : Ledger) (room : ℕ) (i : Input) → Kept l (step l room i)
+unfolding step feed
+step_kept l room i =
+    given_keeps (Kept l) (well_formed l) _ _ (refused_kept l refusal.BadRecord)
+    (λ _. given_keeps (Kept l) (leb outbox_words room) _ _ (refused_kept l refusal.NoRoom) (λ _. fed_kept l i (verdict l i)))
+
+-- No records leave the outbox as it was.
+nothing_told : (rs : List _) (out : List ℕ) → rs ≡ [] → spelled rs ++ drop (3 * length rs) out ≡ out
+unfolding spelled
+nothing_told rs out e = rw e
+
+-- A refusal on words: those that spell no ledger stay, and so do those of a ledger that is kept.
+leaves_found : (ws out : List ℕ) (f : Fed) (a : Leaves) (r : Refusal) → (is_spelled ws ≡ true → a ≡ as_fed f out)
+    → (is_spelled ws ≡ false → a ≡ as_found refusal.BadRecord ws out) → Kept (ledger_of ws) f → step-answer.Refused r ≡ a.answer → (a.words ≡ ws) × (a.outbox ≡ out)
+leaves_found ws out f a r fed found kept e =
+    by_test (is_spelled ws)
+    (λ t.
+    let k = kept r (ap (λ (x : Leaves). x.answer) (sym (fed t)) ∙ sym e) in (
+      ap (λ (x : Leaves). x.words) (fed t) ∙ ap words_of k.0 ∙ spelled_words ws t,
+      ap (λ (x : Leaves). x.outbox) (fed t) ∙ nothing_told f.records out k.1,
+    ))
+    (λ t. (ap (λ (x : Leaves). x.words) (found t), ap (λ (x : Leaves). x.outbox) (found t)))
+
+pub step_refused : StepRefused
+unfolding step_leaves
+step_refused ws out i r ws' left h =
+    let k = leaves_found ws out (step (ledger_of ws) (length out) i) (step_leaves ws out i) r (λ t. given_on _ _ _ t) (λ t. given_off _ _ _ t)
+    (step_kept (ledger_of ws) (length out) i) h.answered in
+    (h.words ∙ k.0, h.outbox ∙ k.1)
+
+take_kept : (l : Ledger) (room : ℕ) (packet : List ℕ) → Kept l (take_certificate l room packet)
+take_kept l room packet r e = let k = rules.take_refused l room packet r e in (k.ledger, k.records)
+
+pub take_refused : TakeRefused
+unfolding take_leaves
+take_refused ws out packet r ws' left h =
+    let k = leaves_found ws out (take_certificate (ledger_of ws) (length out) packet) (take_leaves ws out packet) r (λ t. given_on _ _ _ t) (λ t. given_off _ _ _ t)
+    (take_kept (ledger_of ws) (length out) packet) h.answered in
+    (h.words ∙ k.0, h.outbox ∙ k.1)
+
+-- ---- the tray
+
+-- A refused tray keeps the ledger, makes no record and answers no vote.
+abbrev TrayKept : Ledger → Tray → Type 0
+TrayKept l t = (r : Refusal) → t.answer ≡ step-answer.Refused r → t ≡ tray_refused l r
+
+tray_refusal : (l : Ledger) (x : Refusal) → TrayKept l (tray_refused l x)
+unfolding tray_refused
+tray_refusal l x r e = let q : x ≡ r = cc in ap (tray_refused l) q
+
+tray_served_lem : (l : Ledger) (s : Served) → TrayKept l (tray_served s)
+unfolding tray_served
+tray_served_lem l s r e = let z : ◌≡◌ {A = ℕ} 0 1 = cc in absurd (omega arith)
+
+tray_kept : (l : Ledger) (room places : ℕ) (votes : List ℕ) → TrayKept l (tray l room places votes)
+unfolding tray
+tray_kept l room places votes =
+    given_keeps (TrayKept l) (well_formed l) _ _ (tray_refusal l refusal.BadRecord)
+    (λ _. given_keeps (TrayKept l) (leb outbox_words room && leb (whole_votes votes) places) _ _ (tray_refusal l refusal.NoRoom)
+    (λ _. given_keeps (TrayKept l) (eqb (length votes % 4) 0) _ _ (tray_refusal l refusal.BadLength) (λ _. tray_served_lem l (serve l (votes_in votes)))))
+
+pub tray_refused_lem : TrayRefused
+unfolding tray_leaves tray_refused serve spelled over
+tray_refused_lem ws out votes places r ws' left answers h =
+    by_test (is_spelled ws)
+    (λ t.
+    let q : tray_leaves ws out votes places ≡ as_served (tray (ledger_of ws) (length out) (length places) votes) out places = given_on _ _ _ t in
+    let k = tray_kept (ledger_of ws) (length out) (length places) votes r (ap (λ (x : trays.Leaves). x.answer) (sym q) ∙ sym h.answered) in
+    let f : tray_leaves ws out votes places ≡ as_served (tray_refused (ledger_of ws) r) out places = q ∙ ap (λ (x : Tray). as_served x out places) k in (
+      h.words ∙ ap (λ (x : trays.Leaves). x.words) f ∙ spelled_words ws t,
+      h.outbox ∙ ap (λ (x : trays.Leaves). x.outbox) f,
+      h.answers ∙ ap (λ (x : trays.Leaves). x.answers) f,
+    ))
+    (λ t.
+    let f : tray_leaves ws out votes places ≡ trays.as_found refusal.BadRecord ws out places = given_off _ _ _ t in (
+      h.words ∙ ap (λ (x : trays.Leaves). x.words) f,
+      h.outbox ∙ ap (λ (x : trays.Leaves). x.outbox) f,
+      h.answers ∙ ap (λ (x : trays.Leaves). x.answers) f,
+    ))
+
+-- ---- the writers
+
+-- A refusal writes nothing.
+abbrev Unwritten : Wrote → Type 0
+Unwritten w = (r : Refusal) → w.answer ≡ write.Refused r → w.bytes ≡ []
+
+wrote_unwritten : (v : Verdict) (bytes : List ℕ) → Unwritten (wrote_on v bytes)
+unfolding wrote_on
+wrote_unwritten Fine bytes r e = let z : ◌≡◌ {A = ℕ} 0 1 = cc in absurd (omega arith)
+wrote_unwritten (Refused x) bytes r e = refl
+
+unsound_unwritten : Unwritten unsound
+unfolding unsound
+unsound_unwritten r e = refl
+
+certificate_unwritten : (ws : List ℕ) (room kind s b : ℕ) → Unwritten (certificate_on ws room kind s b)
+unfolding certificate_on write_certificate
+certificate_unwritten ws room kind s b =
+    let k = kind_on ws kind in
+    given_keeps Unwritten (sound_words ws) _ _ unsound_unwritten
+    (λ _. wrote_unwritten (certificate_verdict (ledger_of ws) room k s b) (certificate_bytes (certificate_for (ledger_of ws) k s b)))
+
+proof_unwritten : (ws : List ℕ) (room s b : ℕ) → Unwritten (proof_on ws room s b)
+unfolding proof_on write_proof
+proof_unwritten ws room s b =
+    given_keeps Unwritten (sound_words ws) _ _ unsound_unwritten
+    (λ _. wrote_unwritten (proof_verdict (ledger_of ws) room s b) (proof_bytes (ledger_of ws) s b))
+
+over_nothing : (bytes buffer : List ℕ) → bytes ≡ [] → over bytes buffer ≡ buffer
+unfolding over
+over_nothing bytes buffer e = rw e
+
+unwritten : (w : Wrote) (buffer : List ℕ) (r : Refusal) (after : List ℕ) → Unwritten w → Writes w buffer (write.Refused r) after → after ≡ buffer
+unwritten w buffer r after u h = h.bytes ∙ over_nothing w.bytes buffer (u r (sym h.answered))
+
+pub certificate_refused : CertificateRefused
+certificate_refused ws buffer k s b r after h = unwritten _ buffer r after (certificate_unwritten ws (length buffer) k s b) h
+
+pub proof_refused : ProofRefused
+proof_refused ws buffer s b r after h = unwritten _ buffer r after (proof_unwritten ws (length buffer) s b) h
+
+pub message_refused : MessageRefused
+unfolding write_vote
+message_refused count v buffer r after h =
+    unwritten _ buffer r after (wrote_unwritten (message_verdict count (length buffer) v) (message_bytes v)) h
+
+-- ---- the face
+
+pub face_start_refused : FaceStartRefused
+face_start_refused ws stakes own genesis number left h ne =
+    let x = start_refusal (start_answer (start_judged ws stakes own genesis)) (λ e. ne (h.numbered ∙ e)) in
+    start_refused ws stakes own genesis x.0 left (record { answered = sym x.1; words = h.words })
+
+pub face_watch_refused : FaceWatchRefused
+face_watch_refused ws stakes genesis number left h ne =
+    let x = start_refusal (start_answer (watch_judged ws stakes genesis)) (λ e. ne (h.numbered ∙ e)) in
+    watch_refused ws stakes genesis x.0 left (record { answered = sym x.1; words = h.words })
+
+-- The one value beside a refusal is 0.
+step_none : (a : StepAnswer) (made : ℕ) (r : Refusal) → a ≡ step-answer.Refused r → Beside made (step_panel a).values → made ≡ 0
+unfolding step_panel
+step_none a made r e b = let q : made ∷ [] ≡ 0 ∷ [] = b ∙ ap (λ (x : StepAnswer). (step_panel x).values) e in cc
+
+write_none : (a : WriteAnswer) (written : ℕ) (r : Refusal) → a ≡ write.Refused r → Beside written (write_panel a).values → written ≡ 0
+unfolding write_panel
+write_none a written r e b = let q : written ∷ [] ≡ 0 ∷ [] = b ∙ ap (λ (x : WriteAnswer). (write_panel x).values) e in cc
+
+pub face_step_refused : FaceStepRefused
+face_step_refused ws out i number made ws' left h ne =
+    let x = step_refusal (step_leaves ws out i).answer (λ e. ne (h.numbered ∙ e)) in
+    let k = step_refused ws out i x.0 ws' left (record { answered = sym x.1; words = h.words; outbox = h.outbox }) in
+    (step_none (step_leaves ws out i).answer made x.0 x.1 h.counted, k.0, k.1)
+
+pub face_take_refused : FaceTakeRefused
+face_take_refused ws out packet number made ws' left h ne =
+    let x = step_refusal (take_leaves ws out packet).answer (λ e. ne (h.numbered ∙ e)) in
+    let k = take_refused ws out packet x.0 ws' left (record { answered = sym x.1; words = h.words; outbox = h.outbox }) in
+    (k.0, k.1, step_none (take_leaves ws out packet).answer made x.0 x.1 h.counted)
+
+pub face_tray_refused : FaceTrayRefused
+face_tray_refused ws out votes places number made ws' left answers h ne =
+    let a = (tray_leaves ws out votes places).answer in
+    let x = step_refusal a (λ e. ne (h.numbered ∙ e)) in
+    let k = tray_refused_lem ws out votes places x.0 ws' left answers (record { answered = sym x.1; words = h.words; outbox = h.outbox; answers = h.answered }) in
+    (step_none a made x.0 x.1 h.counted, k.2, k.0, k.1)
+
+pub face_certificate_refused : FaceCertificateRefused
+face_certificate_refused ws buffer k s b number written after h ne =
+    let a = (certificate_on ws (length buffer) k s b).answer in
+    let x = write_refusal a (λ e. ne (h.numbered ∙ e)) in (
+      write_none a written x.0 x.1 h.counted,
+      certificate_refused ws buffer k s b x.0 after (record { answered = sym x.1; bytes = h.bytes }),
+    )
+
+pub face_proof_refused : FaceProofRefused
+face_proof_refused ws buffer s b number written after h ne =
+    let a = (proof_on ws (length buffer) s b).answer in
+    let x = write_refusal a (λ e. ne (h.numbered ∙ e)) in (
+      write_none a written x.0 x.1 h.counted,
+      proof_refused ws buffer s b x.0 after (record { answered = sym x.1; bytes = h.bytes }),
+    )
+
+pub face_message_refused : FaceMessageRefused
+face_message_refused count v buffer number written after h ne =
+    let a = (write_vote count (length buffer) v).answer in
+    let x = write_refusal a (λ e. ne (h.numbered ∙ e)) in (
+      write_none a written x.0 x.1 h.counted,
+      message_refused count v buffer x.0 after (record { answered = sym x.1; bytes = h.bytes }),
+    )
+
+pub face_read_refused : FaceReadRefused
+unfolding read_panel
+face_read_refused answer number values h ne =
+    let x = read_refusal answer (λ e. ne (h.numbered ∙ e)) in
+    h.valued ∙ ap (λ (a : ReadAnswer). (read_panel a).values) x.1
+
+pub face_check_refused : FaceCheckRefused
+unfolding check_values
+face_check_refused count answer number values missing h ne =
+    let x = check_refusal answer (λ e. ne (h.numbered ∙ e)) in
+    h.valued ∙ ap (check_values count) x.1

@@ -1,0 +1,2 @@
+-- Blocks by weight.
+pub mod Heavy

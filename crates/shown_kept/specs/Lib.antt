@@ -1,0 +1,2 @@
+-- What is shown of kept certificates, defined for any words, slot and place.
+pub mod Kept

@@ -1,0 +1,2 @@
+-- Stored votes.
+pub mod Votes

@@ -1,0 +1,2 @@
+-- What the votes of a slot weigh, defined for any words and any slot.
+pub mod Weights

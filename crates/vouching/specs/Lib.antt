@@ -1,0 +1,3 @@
+-- Which votes a firm's record lacks: what is answered, and left in a lent list.
+pub mod Asked
+pub mod CornersOfVouched
