@@ -1,7 +1,7 @@
 // The commands that only ask: which of a line's words go to which function, and how it is answered.
 #![tactic(auto)]
 
-use commands::Command;
+use commands::{Command, Reading};
 use help::{help, topic, why};
 use hex_bytes::read_hex;
 use quointrowel::{
@@ -218,14 +218,11 @@ fn explain(page: &mut [u8], line: &[u8], at: usize) -> bool {
     why(page, args[0])
 }
 
-// help, help COMMAND
+// help COMMAND
 fn explain_command(page: &mut [u8], line: &[u8], at: usize) -> bool {
     let w = word_at(line, at);
     let from = w.from;
     let to = w.to;
-    if to <= from {
-        return help(page);
-    }
     topic(page, &line[from..to])
 }
 
@@ -237,17 +234,25 @@ pub fn ask(page: &mut [u8], c: Command, line: &[u8], at: usize, node: &[u64]) ->
         Command::Check => answered(check(page, line, at, false)),
         Command::CheckProof => answered(check(page, line, at, true)),
         Command::Card => answered(card(page, line, at, node)),
-        Command::Blocks => answered(blocks(page, line, at, node)),
-        Command::Marks => answered(marks(page, line, at, node)),
-        Command::Head => answered(head(page, node)),
-        Command::Weights => answered(weights(page, line, at, node)),
         Command::Pack => answered(pack(page, line, at)),
         Command::Unpack => answered(unpack(page, line, at)),
         Command::Board => answered(view(page, line, at, node)),
         Command::Votes => answered(votes(page, line, at, node)),
         Command::Why => answered(explain(page, line, at)),
-        Command::Help => answered(explain_command(page, line, at)),
+        Command::Help => answered(help(page)),
         Command::Quit => Turn::Quit,
+        _ => answered(malformed(page)),
+    }
+}
+
+// Answers a line that is no command: what it reads of the node, whose words are lent to be read, or of a command.
+pub fn read(page: &mut [u8], r: Reading, line: &[u8], at: usize, node: &[u64]) -> Turn {
+    match r {
+        Reading::Blocks => answered(blocks(page, line, at, node)),
+        Reading::Marks => answered(marks(page, line, at, node)),
+        Reading::Head => answered(head(page, node)),
+        Reading::Weights => answered(weights(page, line, at, node)),
+        Reading::Topic => answered(explain_command(page, line, at)),
         _ => answered(malformed(page)),
     }
 }

@@ -17,7 +17,9 @@ use Rattle.script.specs.Numbers.{word_from, word_to}
 use Rattle.script.proofs.Reading.{word_from_lem, word_to_lem}
 use Rattle.commands.specs.declared.Command.{Command}
 use Rattle.commands.specs.declared.Command.TheVariants as command
-use Rattle.commands.specs.Commands.{same_text, input_of, exactly, at_least, word_of, one_word, packet_and_stakes, packet_alone, count_and_message, arguments_fit, command_of, tells, Heard}
+use Rattle.commands.specs.declared.Reading.{Reading}
+use Rattle.commands.specs.declared.Reading.TheVariants as reading
+use Rattle.commands.specs.Commands.{same_text, input_of, exactly, at_least, word_of, one_word, packet_and_stakes, packet_alone, count_and_message, arguments_fit, command_of, reading_of, reading_fits, reading_on, tells, Heard}
 
 -- ---- two texts
 
@@ -117,6 +119,27 @@ module _ (line : List ℕ) (w : Word) (h : WordIn line 0 w) (c : Command) (e : c
   command_none r d t =
       let k = input_of (word_of line 0) in
       sym (choose_off (arguments_fit k line (word_to line 0)) k command.Other (sym (fits_is r d) ∙ t))
+
+-- ---- what a line reads
+
+module _ (line : List ℕ) (w : Word) (h : WordIn line 0 w) (r : Reading) (e : r ≡ reading_of (take (w.to - w.from) (drop w.from line))) where
+  reading_is : r ≡ reading_of (word_of line 0)
+  reading_is = e ∙ ap reading_of (word_is line 0 w h)
+
+  meets_is : (t : Bool) → t ≡ reading_fits r line w.to → t ≡ reading_fits (reading_of (word_of line 0)) line (word_to line 0)
+  meets_is t d = d ∙ (λ i. reading_fits (reading_is i) line (word_to_lem line 0 w h i))
+
+  pub reading_meets : (t : Bool) → t ≡ reading_fits r line w.to → t ≡ true → r ≡ reading_on line
+  unfolding reading_on
+  reading_meets t d k =
+      let q = reading_of (word_of line 0) in
+      reading_is ∙ sym (choose_on (reading_fits q line (word_to line 0)) q reading.Nothing (sym (meets_is t d) ∙ k))
+
+  pub reading_none : (t : Bool) → t ≡ reading_fits r line w.to → t ≡ false → reading.Nothing ≡ reading_on line
+  unfolding reading_on
+  reading_none t d k =
+      let q = reading_of (word_of line 0) in
+      sym (choose_off (reading_fits q line (word_to line 0)) q reading.Nothing (sym (meets_is t d) ∙ k))
 
 -- ---- what a line does to a node
 

@@ -5,6 +5,8 @@ use Rattle.hex_bytes.specs.Bytes.{hex_of}
 use Rattle.script.specs.Numbers.{word_from, word_to, numbers_of}
 use Rattle.commands.specs.declared.Command.{Command}
 use Rattle.commands.specs.declared.Command.TheVariants as command
+use Rattle.commands.specs.declared.Reading.{Reading}
+use Rattle.commands.specs.declared.Reading.TheVariants as reading
 
 -- Two texts are the same: as long as each other, and the same byte at each place.
 unfoldable pub same_text : List ℕ → List ℕ → Bool
@@ -110,20 +112,14 @@ help_text = 104 ∷ 101 ∷ 108 ∷ 112 ∷ []
 abbrev pub quit_text : List ℕ
 quit_text = 113 ∷ 117 ∷ 105 ∷ 116 ∷ []
 
--- The command that a word is, asked for in eight lists: "board", "votes", "why", "help" and "quit" are for people,
+-- The command that a word is, asked for in seven lists: "board", "votes", "why", "help" and "quit" are for people,
 unfoldable pub view_of : List ℕ → Command
 view_of w =
     choose (same_text w board_text) command.Board (choose (same_text w votes_text) command.Votes (choose (same_text w why_text) command.Why (choose (same_text w help_text) command.Help (choose (same_text w quit_text) command.Quit (command.Other)))))
 
--- "blocks", "marks", "head", "certificates" and "weights" read what a host reads,
-unfoldable pub reading_of : List ℕ → Command
-reading_of w =
-    choose (same_text w blocks_text) command.Blocks (choose (same_text w marks_text) command.Marks (choose (same_text w head_text) command.Head (choose (same_text w certificates_text) command.Certificates (choose (same_text w weights_text) command.Weights (view_of w)))))
-
--- "stands", "vouched" and "parents" are for the inquest,
+-- "stands" and "vouched" are for the inquest,
 unfoldable pub inquest_of : List ℕ → Command
-inquest_of w =
-    choose (same_text w stands_text) command.Stands (choose (same_text w vouched_text) command.Vouched (choose (same_text w parents_text) command.Parents (reading_of w)))
+inquest_of w = choose (same_text w stands_text) command.Stands (choose (same_text w vouched_text) command.Vouched (view_of w))
 
 -- "aside", "differ" and "save" are for comparing nodes,
 unfoldable pub compared_of : List ℕ → Command
@@ -201,16 +197,10 @@ arguments_fit command.Save line at = one_word line at
 arguments_fit command.Board line at = exactly line at 0 || (exactly line at 1 || exactly line at 2)
 arguments_fit command.Votes line at = exactly line at 0 || exactly line at 2
 arguments_fit command.Why line at = exactly line at 1
-arguments_fit command.Help line at = exactly line at 0 || one_word line at
+arguments_fit command.Help line at = exactly line at 0
 arguments_fit command.Quit line at = exactly line at 0
 arguments_fit command.Stands line at = exactly line at 0
 arguments_fit command.Vouched line at = exactly line at 0 || packet_alone line at
-arguments_fit command.Parents line at = exactly line at 0
-arguments_fit command.Blocks line at = exactly line at 1
-arguments_fit command.Marks line at = exactly line at 1
-arguments_fit command.Head line at = exactly line at 0
-arguments_fit command.Certificates line at = exactly line at 1
-arguments_fit command.Weights line at = exactly line at 2
 arguments_fit command.Other line at = false
 
 -- The command that a line is, `Other` where it is none.
@@ -246,13 +236,28 @@ tells command.Help = false
 tells command.Quit = false
 tells command.Stands = false
 tells command.Vouched = false
-tells command.Parents = false
-tells command.Blocks = false
-tells command.Marks = false
-tells command.Head = false
-tells command.Certificates = false
-tells command.Weights = false
 tells command.Other = false
+
+-- What a line reads that is none of the commands: "blocks", "marks", "head", "certificates" and "weights" what a host reads, "parents" two nodes'
+-- records, "help" with a word behind it what that command takes and answers.
+unfoldable pub reading_of : List ℕ → Reading
+reading_of w =
+    choose (same_text w blocks_text) reading.Blocks (choose (same_text w marks_text) reading.Marks (choose (same_text w head_text) reading.Head (choose (same_text w certificates_text) reading.Certificates (choose (same_text w weights_text) reading.Weights (choose (same_text w parents_text) reading.Parents (choose (same_text w help_text) reading.Topic (reading.Nothing)))))))
+
+-- What follows the word is what is asked for.
+unfoldable pub reading_fits : Reading → List ℕ → ℕ → Bool
+reading_fits reading.Blocks line at = exactly line at 1
+reading_fits reading.Marks line at = exactly line at 1
+reading_fits reading.Head line at = exactly line at 0
+reading_fits reading.Certificates line at = exactly line at 1
+reading_fits reading.Weights line at = exactly line at 2
+reading_fits reading.Parents line at = exactly line at 0
+reading_fits reading.Topic line at = one_word line at
+reading_fits reading.Nothing line at = false
+
+-- What a line reads, `Nothing` where it reads nothing.
+unfoldable pub reading_on : List ℕ → Reading
+reading_on line = let r = reading_of (word_of line 0) in choose (reading_fits r line (word_to line 0)) r reading.Nothing
 
 -- A line that tells the node nothing, a line that is no command among them, leaves record and outbox as they were.
 pub record Heard (line rec outbox recLeft outboxLeft : List ℕ) : Type 0 where

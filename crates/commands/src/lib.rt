@@ -2,7 +2,7 @@
 #![tactic(auto)]
 
 ghost use Rattle.std.specs.Prelude.{◌≡◌};
-ghost use Rattle.commands.specs.Commands.{same_text, input_of, question_of, message_of, pieces_of, compared_of, inquest_of, reading_of, view_of, exactly, at_least, one_word, packet_and_stakes, packet_alone, count_and_message, arguments_fit, command_of};
+ghost use Rattle.commands.specs.Commands.{same_text, input_of, question_of, message_of, pieces_of, compared_of, inquest_of, view_of, exactly, at_least, one_word, packet_and_stakes, packet_alone, count_and_message, arguments_fit, command_of, reading_of, reading_fits, reading_on};
 
 use hex_bytes::read_hex;
 use script::{read_numbers, word_at};
@@ -37,13 +37,20 @@ pub enum Command {
     Quit,
     Stands,
     Vouched,
-    Parents,
+    Other,
+}
+
+// What a line reads that is none of the commands.
+#[derive(Clone, Copy)]
+pub enum Reading {
     Blocks,
     Marks,
     Head,
     Certificates,
     Weights,
-    Other,
+    Parents,
+    Topic,
+    Nothing,
 }
 
 // Whether two texts are the same.
@@ -166,31 +173,6 @@ fn inquest_of(word: &[u8]) -> Command
     if same(word, b"vouched") {
         return Command::Vouched;
     }
-    if same(word, b"parents") {
-        return Command::Parents;
-    }
-    reading_of(word)
-}
-
-// The commands that read what a host reads.
-fn reading_of(word: &[u8]) -> Command
-    ensures { result ≡ reading_of word.now }
-{
-    if same(word, b"blocks") {
-        return Command::Blocks;
-    }
-    if same(word, b"marks") {
-        return Command::Marks;
-    }
-    if same(word, b"head") {
-        return Command::Head;
-    }
-    if same(word, b"certificates") {
-        return Command::Certificates;
-    }
-    if same(word, b"weights") {
-        return Command::Weights;
-    }
     view_of(word)
 }
 
@@ -312,16 +294,10 @@ fn arguments_fit(c: Command, line: &[u8], at: usize) -> bool
         Command::Board => exactly(line, at, 0) | (exactly(line, at, 1) | exactly(line, at, 2)),
         Command::Votes => exactly(line, at, 0) | exactly(line, at, 2),
         Command::Why => exactly(line, at, 1),
-        Command::Help => exactly(line, at, 0) | one_word(line, at),
+        Command::Help => exactly(line, at, 0),
         Command::Quit => exactly(line, at, 0),
         Command::Stands => exactly(line, at, 0),
         Command::Vouched => exactly(line, at, 0) | packet_alone(line, at),
-        Command::Parents => exactly(line, at, 0),
-        Command::Blocks => exactly(line, at, 1),
-        Command::Marks => exactly(line, at, 1),
-        Command::Head => exactly(line, at, 0),
-        Command::Certificates => exactly(line, at, 1),
-        Command::Weights => exactly(line, at, 2),
         Command::Other => false,
     }
 }
@@ -338,4 +314,62 @@ pub fn command_of(line: &[u8]) -> Command
         return c;
     }
     Command::Other
+}
+
+// What a word reads.
+fn reading_of(word: &[u8]) -> Reading
+    ensures { result ≡ reading_of word.now }
+{
+    if same(word, b"blocks") {
+        return Reading::Blocks;
+    }
+    if same(word, b"marks") {
+        return Reading::Marks;
+    }
+    if same(word, b"head") {
+        return Reading::Head;
+    }
+    if same(word, b"certificates") {
+        return Reading::Certificates;
+    }
+    if same(word, b"weights") {
+        return Reading::Weights;
+    }
+    if same(word, b"parents") {
+        return Reading::Parents;
+    }
+    if same(word, b"help") {
+        return Reading::Topic;
+    }
+    Reading::Nothing
+}
+
+// Whether what follows the word is what is asked for.
+fn reading_fits(r: Reading, line: &[u8], at: usize) -> bool
+    ensures { result ≡ reading_fits r line.now at }
+{
+    match r {
+        Reading::Blocks => exactly(line, at, 1),
+        Reading::Marks => exactly(line, at, 1),
+        Reading::Head => exactly(line, at, 0),
+        Reading::Certificates => exactly(line, at, 1),
+        Reading::Weights => exactly(line, at, 2),
+        Reading::Parents => exactly(line, at, 0),
+        Reading::Topic => one_word(line, at),
+        Reading::Nothing => false,
+    }
+}
+
+// What a line reads.
+pub fn reading_on(line: &[u8]) -> Reading
+    ensures { result ≡ reading_on line.now }
+{
+    let w = word_at(line, 0);
+    let from = w.from;
+    let to = w.to;
+    let r = reading_of(&line[from..to]);
+    if reading_fits(r, line, to) {
+        return r;
+    }
+    Reading::Nothing
 }

@@ -1,7 +1,7 @@
 // What a line of the script leads to.
 ghost use Rattle.commands.specs.Commands.{Heard};
 
-use commands::{Command, command_of};
+use commands::{Command, Reading, command_of, reading_on};
 use comparing::{certificates, differ, parents, save, stands, vouched};
 use piecing::{end, piece};
 use replies::{Turn, answered};
@@ -14,7 +14,20 @@ fn ask(page: &mut [u8], c: Command, line: &[u8], at: usize, rec: &[u64]) -> Turn
     asking::ask(page, c, line, at, &rec[0..words])
 }
 
-// Answers a command by which nodes are compared, or one that only asks; the node is lent to be read.
+// Answers a line that is no command, and reads something or nothing; both nodes are lent to be read.
+fn read(page: &mut [u8], line: &[u8], at: usize, rec: &[u64], aside: &[u64]) -> Turn {
+    let r = reading_on(line);
+    match r {
+        Reading::Parents => answered(parents(page, aside, rec)),
+        Reading::Certificates => answered(certificates(page, line, at, rec)),
+        _ => {
+            let words = node_words(rec);
+            asking::read(page, r, line, at, &rec[0..words])
+        }
+    }
+}
+
+// Answers a command by which nodes are compared, one that only asks, or a line that is none; the node is lent to be read.
 fn others(
     rt: &HostRuntime,
     page: &mut [u8],
@@ -30,8 +43,7 @@ fn others(
         Command::Save => answered(save(rt, page, line, at, rec)),
         Command::Stands => answered(stands(page, rec)),
         Command::Vouched => answered(vouched(page, line, at, aside, rec)),
-        Command::Parents => answered(parents(page, aside, rec)),
-        Command::Certificates => answered(certificates(page, line, at, rec)),
+        Command::Other => read(page, line, at, rec, aside),
         _ => ask(page, c, line, at, rec),
     }
 }

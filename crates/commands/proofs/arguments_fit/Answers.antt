@@ -97,7 +97,7 @@ returns-in-Why c = simp (c.in-Why.is, c.exactly-in-Why.ensures)
 
 pub returns-in-Help : goal.returns-in-Help
 unfolding arguments_fit
-returns-in-Help c = simp (c.in-Help.is, c.exactly-in-Help.ensures, c.one_word-in-Help.ensures)
+returns-in-Help c = simp (c.in-Help.is, c.exactly-in-Help.ensures)
 
 pub returns-in-Quit : goal.returns-in-Quit
 unfolding arguments_fit
@@ -110,30 +110,6 @@ returns-in-Stands c = simp (c.in-Stands.is, c.exactly-in-Stands.ensures)
 pub returns-in-Vouched : goal.returns-in-Vouched
 unfolding arguments_fit
 returns-in-Vouched c = simp (c.in-Vouched.is, c.exactly-in-Vouched.ensures, c.packet_alone-in-Vouched.ensures)
-
-pub returns-in-Parents : goal.returns-in-Parents
-unfolding arguments_fit
-returns-in-Parents c = simp (c.in-Parents.is, c.exactly-in-Parents.ensures)
-
-pub returns-in-Blocks : goal.returns-in-Blocks
-unfolding arguments_fit
-returns-in-Blocks c = simp (c.in-Blocks.is, c.exactly-in-Blocks.ensures)
-
-pub returns-in-Marks : goal.returns-in-Marks
-unfolding arguments_fit
-returns-in-Marks c = simp (c.in-Marks.is, c.exactly-in-Marks.ensures)
-
-pub returns-in-Head : goal.returns-in-Head
-unfolding arguments_fit
-returns-in-Head c = simp (c.in-Head.is, c.exactly-in-Head.ensures)
-
-pub returns-in-Certificates : goal.returns-in-Certificates
-unfolding arguments_fit
-returns-in-Certificates c = simp (c.in-Certificates.is, c.exactly-in-Certificates.ensures)
-
-pub returns-in-Weights : goal.returns-in-Weights
-unfolding arguments_fit
-returns-in-Weights c = simp (c.in-Weights.is, c.exactly-in-Weights.ensures)
 
 pub returns-in-Other : goal.returns-in-Other
 unfolding arguments_fit

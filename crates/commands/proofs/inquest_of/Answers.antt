@@ -13,19 +13,6 @@ unfolding inquest_of
 returns-then-same-2 c =
     sym (choose_off _ _ _ (sym c.same.ensures ∙ c.if-same.false) ∙ choose_on _ _ _ (sym c.same-2.ensures ∙ c.if-same-2.true))
 
-pub returns-then-same-3 : goal.returns-then-same-3
-unfolding inquest_of
-returns-then-same-3 c =
-    sym
-    (choose_off _ _ _ (sym c.same.ensures ∙ c.if-same.false)
-    ∙ choose_off _ _ _ (sym c.same-2.ensures ∙ c.if-same-2.false)
-    ∙ choose_on _ _ _ (sym c.same-3.ensures ∙ c.if-same-3.true))
-
 pub returns : goal.returns
 unfolding inquest_of
-returns c =
-    c.reading_of.ensures
-    ∙ sym
-    (choose_off _ _ _ (sym c.same.ensures ∙ c.if-same.false)
-    ∙ choose_off _ _ _ (sym c.same-2.ensures ∙ c.if-same-2.false)
-    ∙ choose_off _ _ _ (sym c.same-3.ensures ∙ c.if-same-3.false))
+returns c = c.view_of.ensures ∙ sym (choose_off _ _ _ (sym c.same.ensures ∙ c.if-same.false) ∙ choose_off _ _ _ (sym c.same-2.ensures ∙ c.if-same-2.false))
