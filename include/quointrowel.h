@@ -7,7 +7,8 @@
  * must not overlap anything else that is lent to the same call. Calls on different records may run at the same time.
  *
  * Stack. Bytes that a call needs, arguments and return address among them, measured on x86-64 with the worst records that are known
- * (docs/PERFORMANCE.md, Stack); a host gives some more, 32 KB say. 16 KB of it are one list, by which the card of a slot is recounted.
+ * (docs/PERFORMANCE.md, Stack): the most that an older kit and today's took. A host gives some more, 32 KB say. 16 KB of it are one
+ * list, by which the card of a slot is recounted.
  *     qr_take, qr_vouched_packet                            19,680
  *     qr_block, qr_vote, qr_timeout, qr_look, qr_tray       19,264
  *     qr_write_certificate, qr_write_proof, qr_differ       19,024
@@ -17,7 +18,7 @@
  *     qr_refusal_text                                        2,048
  *     qr_check_certificate, qr_check_proof, qr_end           1,968
  *     qr_read_vote                                             304
- *     qr_start, qr_watch, qr_write_vote, qr_piece, sizes        80
+ *     qr_start, qr_watch, qr_write_vote, qr_piece, sizes        96
  * At 64 nodes those on a record need 800 less. Votes are sorted by turns of some 100 bytes each, at most 18, of which the measured
  * ones took some 12: so up to 700 bytes more are possible.
  * Not measured are qr_may_announce, qr_block_weights and qr_kept_certificates, which ask 17 as qr_card does, and qr_split_proof, which
