@@ -1,4 +1,5 @@
 -- What a block that would be taken is not, the ways through the question, and where its slot's weights are asked for. Assumes nothing.
+use Rattle.std.specs.Prelude.{⊤, Result, Ok, Err}
 use mathlib.Core.Path.{◌≡◌, refl, sym, ap, ◌∙◌}
 use mathlib.Core.Bool.{Bool, true, false, not, ◌||◌}
 use mathlib.Core.List.{List}
@@ -9,8 +10,6 @@ use borrow.Author.Tests.{leb-true, not-false}
 use Rattle.rulebook.specs.declared.Block.{Block}
 use Rattle.rulebook.specs.declared.Refusal.{Refusal}
 use Rattle.rulebook.specs.declared.Refusal.TheVariants as refusal
-use Rattle.rulebook.specs.declared.Verdict.{Verdict}
-use Rattle.rulebook.specs.declared.Verdict.TheVariants.{Fine, Refused}
 use Rattle.rulebook.specs.Weights.{last_slot, slot_ok}
 use Rattle.rulebook.specs.Ledger.{Ledger, none, blocks_at, some_block, all_blocks, is_free, has_number}
 use Rattle.rulebook.specs.Rules.{fallback_weights}
@@ -21,11 +20,10 @@ use Rattle.soundness.specs.Sound.{sound_words}
 use Rattle.soundness.proofs.Laws.{sound_long, sound_tabled, sound_cards}
 use Rattle.pool.specs.Weighing.{Carded}
 use Rattle.mail.specs.Policy.{may_announce}
-use Rattle.announcing.specs.declared.AnnounceAnswer.TheVariants as announce
 use Rattle.announcing.specs.Asked.{judged, announced_on}
 
 -- A test that refuses nothing was not met.
-passed : (b : Bool) (r : Refusal) (v : Verdict) → refuse_if b r v ≡ Fine → (b ≡ false) × (v ≡ Fine)
+passed : (b : Bool) (r : Refusal) (v : Result ⊤ Refusal) → refuse_if b r v ≡ Ok tt → (b ≡ false) × (v ≡ Ok tt)
 unfolding refuse_if
 passed true r v e = let z : ◌≡◌ {A = ℕ} 0 1 = cc in absurd (omega arith)
 passed false r v e = (refl, e)
@@ -35,7 +33,7 @@ neither false b e = (refl, e)
 neither true b e = let z : ◌≡◌ {A = ℕ} 0 1 = cc in absurd (omega arith)
 
 -- A block that would be taken is of one of the slots 1 to 16, and no block of its number is kept there.
-module _ (l : Ledger) (s : ℕ) (b : Block) (fine : block_verdict l s b ≡ Fine) where
+module _ (l : Ledger) (s : ℕ) (b : Block) (fine : block_verdict l s b ≡ Ok tt) where
   tests : (not (slot_ok s) ≡ false) × (stands_against b (blocks_at l s) ≡ false)
   unfolding block_verdict
   tests =
@@ -43,7 +41,7 @@ module _ (l : Ledger) (s : ℕ) (b : Block) (fine : block_verdict l s b ≡ Fine
       let number = passed (none b.number || none b.parent) refusal.BadBlock _ slot.1 in
       let parent = passed (bad_parent l s b) refusal.BadParent _ number.1 in
       let same = passed (some_block (λ k. same_block k b) (blocks_at l s)) refusal.AlreadyKept _ parent.1 in
-      let other = passed (stands_against b (blocks_at l s)) refusal.OtherStands Fine same.1 in
+      let other = passed (stands_against b (blocks_at l s)) refusal.OtherStands (Ok tt) same.1 in
       (slot.0, other.0)
 
   pub fine_slot : (1 ≤ s) × (s ≤ last_slot)
@@ -72,22 +70,22 @@ module _ (l : Ledger) (s b : ℕ) where
 -- ---- the ways through the question
 
 module _ (ws : List ℕ) (s : ℕ) (b : Block) where
-  pub asked_unsound : sound_words ws ≡ false → announce.Refused refusal.BadRecord ≡ announced_on ws s b
+  pub asked_unsound : sound_words ws ≡ false → Err refusal.BadRecord ≡ announced_on ws s b
   unfolding announced_on
-  asked_unsound e = sym (given_off (sound_words ws) (announce.Refused refusal.BadRecord) _ e)
+  asked_unsound e = sym (given_off (sound_words ws) (Err refusal.BadRecord) _ e)
 
   pub asked_sound : sound_words ws ≡ true → judged (ledger_of ws) s b (block_verdict (ledger_of ws) s b) ≡ announced_on ws s b
   unfolding announced_on
-  asked_sound e = sym (given_on (sound_words ws) (announce.Refused refusal.BadRecord) _ e)
+  asked_sound e = sym (given_on (sound_words ws) (Err refusal.BadRecord) _ e)
 
-  pub asked_refused : sound_words ws ≡ true → (r : Refusal) → Refused r ≡ block_verdict (ledger_of ws) s b → announce.Refused r ≡ announced_on ws s b
+  pub asked_refused : sound_words ws ≡ true → (r : Refusal) → Err r ≡ block_verdict (ledger_of ws) s b → Err r ≡ announced_on ws s b
   unfolding judged
   asked_refused e r v = ap (judged (ledger_of ws) s b) v ∙ asked_sound e
 
-  pub asked_fine : sound_words ws ≡ true → Fine ≡ block_verdict (ledger_of ws) s b → (due : Bool)
-      → due ≡ (all_blocks is_free (blocks_at (ledger_of ws) s) || fallback_weights (ledger_of ws) s b.number) → announce.Now due ≡ announced_on ws s b
+  pub asked_fine : sound_words ws ≡ true → Ok tt ≡ block_verdict (ledger_of ws) s b → (due : Bool)
+      → due ≡ (all_blocks is_free (blocks_at (ledger_of ws) s) || fallback_weights (ledger_of ws) s b.number) → Ok due ≡ announced_on ws s b
   unfolding judged
-  asked_fine e v due d = ap announce.Now (d ∙ fine_due (ledger_of ws) s b (sym v)) ∙ (ap (judged (ledger_of ws) s b) v ∙ asked_sound e)
+  asked_fine e v due d = ap Ok (d ∙ fine_due (ledger_of ws) s b (sym v)) ∙ (ap (judged (ledger_of ws) s b) v ∙ asked_sound e)
 
 -- A slot whose weights can be asked for has a row.
 pub row_of : (ws : List ℕ) (s : ℕ) → Carded ws s → InSlot ws s

@@ -1,6 +1,6 @@
 -- Computed cases of the question whether a block may be announced now: 17 first, then the block's own refusals in their order; a slot's first block,
 -- a further one at 40, at 20 with 60, and just below.
-use Rattle.std.specs.Prelude.{◌≡◌, true, false, List, [], ◌∷◌, ◌++◌, ℕ, T}
+use Rattle.std.specs.Prelude.{◌≡◌, true, false, List, [], ◌∷◌, ◌++◌, ℕ, T, Ok, Err}
 use Rattle.rulebook.specs.declared.Block.{Block}
 use Rattle.rulebook.specs.declared.Refusal.TheVariants as refusal
 use Rattle.rulebook.specs.PaperNumbers.{Panel}
@@ -10,7 +10,6 @@ use Rattle.rulebook.specs.Computes.{rules}
 use Rattle.record.specs.Layout.{ledger_of}
 use Rattle.soundness.specs.Sound.{sound_words}
 use Rattle.mail.specs.Policy.{may_announce}
-use Rattle.announcing.specs.declared.AnnounceAnswer.TheVariants as announce
 use Rattle.announcing.specs.Asked.{judged, announced_on, announce_panel, block_of as block}
 
 -- An answer's number and the value beside it.
@@ -56,7 +55,7 @@ unfolding rules announced_on announce_panel
 may_of_none ws unsound = rw unsound tt
 
 -- The panel of each answer by itself.
-may_panels : T (equals (shown (announce_panel (announce.Now true)) ∷ shown (announce_panel (announce.Now false)) ∷ shown (announce_panel (announce.Refused refusal.OtherStands)) ∷ [])
+may_panels : T (equals (shown (announce_panel (Ok true)) ∷ shown (announce_panel (Ok false)) ∷ shown (announce_panel (Err refusal.OtherStands)) ∷ [])
     ((0 ∷ 1 ∷ []) ∷ (0 ∷ 0 ∷ []) ∷ (8 ∷ 0 ∷ []) ∷ []))
 unfolding rules announce_panel
 may_panels = tt

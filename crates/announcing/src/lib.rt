@@ -11,16 +11,9 @@ ghost use Rattle.announcing.specs.Asked.{announced_on};
 
 use candidates::fallback_weights;
 use record::{MOST_BLOCKS, load_block};
-use rulebook::{Block, Refusal, Slot, Verdict};
+use rulebook::{Block, Refusal, Slot};
 use soundness::sound;
 use verdicts::block_verdict;
-
-// Whether the block may be announced now, or what it would be refused with.
-#[derive(Clone, Copy)]
-pub enum AnnounceAnswer {
-    Now(bool),
-    Refused(Refusal),
-}
 
 // No block of the slot is kept.
 fn keeps_none(rec: &[u64], s: Slot) -> bool
@@ -47,15 +40,15 @@ fn is_due(rec: &[u64], s: Slot, b: u64) -> bool
 }
 
 // Whether announcing block b in slot s is right now: 17, then 3, 5, 11, 7 and 8 as for the block itself.
-pub fn may_announce(rec: &[u64], s: Slot, b: Block) -> AnnounceAnswer
+pub fn may_announce(rec: &[u64], s: Slot, b: Block) -> Result<bool, Refusal>
     ensures { result ≡ announced_on rec.now s.0 b }
 {
     if !sound(rec) {
-        return AnnounceAnswer::Refused(Refusal::BadRecord);
+        return Err(Refusal::BadRecord);
     }
     let verdict = block_verdict(rec, s, b);
     match verdict {
-        Verdict::Refused(r) => AnnounceAnswer::Refused(r),
-        Verdict::Fine => AnnounceAnswer::Now(is_due(rec, s, b.number)),
+        Err(r) => Err(r),
+        Ok(()) => Ok(is_due(rec, s, b.number)),
     }
 }

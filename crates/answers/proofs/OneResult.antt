@@ -1,25 +1,23 @@
 -- Any two results that an operation of the face allows for one input are equal: the number, the values in the lent places, and all lent
 -- memory afterwards, beside a refusal too. Assumes nothing.
+use Rattle.std.specs.Prelude.{Bool, Result}
 use mathlib.Core.Path.{◌≡◌, sym, ◌∙◌}
 use mathlib.Core.List.{List}
 use Prim.Native.Nat.{ℕ}
 use Rattle.rulebook.specs.declared.Input.{Input}
-use Rattle.rulebook.specs.declared.ReadAnswer.{ReadAnswer}
-use Rattle.rulebook.specs.declared.CheckAnswer.{CheckAnswer}
 use Rattle.rulebook.specs.Writers as writer
-use Rattle.cards.specs.declared.CardAnswer.{CardAnswer}
-use Rattle.vouched_packets.specs.declared.SplitAnswer.{SplitAnswer}
-use Rattle.announcing.specs.declared.AnnounceAnswer.{AnnounceAnswer}
-use Rattle.readers.specs.declared.FinalAnswer.{FinalAnswer}
-use Rattle.readers.specs.declared.ArmedAnswer.{ArmedAnswer}
-use Rattle.readers.specs.declared.VotesAnswer.{VotesAnswer}
-use Rattle.readers.specs.declared.BlocksAnswer.{BlocksAnswer}
-use Rattle.readers.specs.declared.MarksAnswer.{MarksAnswer}
-use Rattle.readers.specs.declared.HeadAnswer.{HeadAnswer}
-use Rattle.readers.specs.declared.WeightsAnswer.{WeightsAnswer}
 use Rattle.inquest_lines.specs.Lent.{Told}
 use Rattle.kept_lines.specs.Lent.{Listing}
 use Rattle.answers.specs.Face.{Beside, Started, Watched, Stepped, Taken, Trayed, Wrote, MessageRead, CardRead, FinalRead, ArmedRead, SplitRead, AnnounceRead, VotesRead, BlocksRead, MarksRead, HeadRead, WeightsRead, Checked, Compared, LinesRead, CertificatesRead, Pieced, Ended}
+use Rattle.rulebook.specs.declared.Accepted.{Accepted}
+use Rattle.readers.specs.declared.BlockWeights.{BlockWeights}
+use Rattle.rulebook.specs.declared.Cell.{Cell}
+use Rattle.readers.specs.declared.KeptBlocks.{KeptBlocks}
+use Rattle.readers.specs.declared.RecordHead.{RecordHead}
+use Rattle.rulebook.specs.declared.Refusal.{Refusal}
+use Rattle.readers.specs.declared.SlotMarks.{SlotMarks}
+use Rattle.rulebook.specs.declared.Tally.{Tally}
+use Rattle.rulebook.specs.declared.Vote.{Vote}
 
 -- One value beside one number.
 beside_one : {v v' : ℕ} {values : List ℕ} → Beside v values → Beside v' values → v ≡ v'
@@ -59,62 +57,62 @@ pub wrote_one : {w : writer.Wrote} {buffer after after' : List ℕ} {n n' count 
 wrote_one a b = (a.numbered ∙ sym b.numbered, beside_one a.counted b.counted, a.bytes ∙ sym b.bytes)
 
 -- qr_read_vote.
-pub message_read_one : {answer : ReadAnswer} {n n' : ℕ} {values values' : List ℕ} → MessageRead answer n values → MessageRead answer n' values'
+pub message_read_one : {answer : Result Vote Refusal} {n n' : ℕ} {values values' : List ℕ} → MessageRead answer n values → MessageRead answer n' values'
     → (n ≡ n') × (values ≡ values')
 message_read_one a b = (a.numbered ∙ sym b.numbered, a.valued ∙ sym b.valued)
 
 -- qr_card.
-pub card_read_one : {answer : CardAnswer} {n n' : ℕ} {values values' : List ℕ} → CardRead answer n values → CardRead answer n' values'
+pub card_read_one : {answer : Result Tally Refusal} {n n' : ℕ} {values values' : List ℕ} → CardRead answer n values → CardRead answer n' values'
     → (n ≡ n') × (values ≡ values')
 card_read_one a b = (a.numbered ∙ sym b.numbered, a.valued ∙ sym b.valued)
 
 -- qr_final_block.
-pub final_read_one : {answer : FinalAnswer} {n n' block block' : ℕ} → FinalRead answer n block → FinalRead answer n' block'
+pub final_read_one : {answer : Result ℕ Refusal} {n n' block block' : ℕ} → FinalRead answer n block → FinalRead answer n' block'
     → (n ≡ n') × (block ≡ block')
 final_read_one a b = (a.numbered ∙ sym b.numbered, beside_one a.valued b.valued)
 
 -- qr_is_armed.
-pub armed_read_one : {answer : ArmedAnswer} {n n' armed armed' : ℕ} → ArmedRead answer n armed → ArmedRead answer n' armed'
+pub armed_read_one : {answer : Result Bool Refusal} {n n' armed armed' : ℕ} → ArmedRead answer n armed → ArmedRead answer n' armed'
     → (n ≡ n') × (armed ≡ armed')
 armed_read_one a b = (a.numbered ∙ sym b.numbered, beside_one a.valued b.valued)
 
 -- qr_split_proof.
-pub split_read_one : {answer : SplitAnswer} {n n' first first' : ℕ} → SplitRead answer n first → SplitRead answer n' first'
+pub split_read_one : {answer : Result ℕ Refusal} {n n' first first' : ℕ} → SplitRead answer n first → SplitRead answer n' first'
     → (n ≡ n') × (first ≡ first')
 split_read_one a b = (a.numbered ∙ sym b.numbered, beside_one a.valued b.valued)
 
 -- qr_may_announce.
-pub announce_read_one : {answer : AnnounceAnswer} {n n' now now' : ℕ} → AnnounceRead answer n now → AnnounceRead answer n' now'
+pub announce_read_one : {answer : Result Bool Refusal} {n n' now now' : ℕ} → AnnounceRead answer n now → AnnounceRead answer n' now'
     → (n ≡ n') × (now ≡ now')
 announce_read_one a b = (a.numbered ∙ sym b.numbered, beside_one a.valued b.valued)
 
 -- qr_kept_votes.
-pub votes_read_one : {answer : VotesAnswer} {n n' : ℕ} {values values' : List ℕ} → VotesRead answer n values → VotesRead answer n' values'
+pub votes_read_one : {answer : Result Cell Refusal} {n n' : ℕ} {values values' : List ℕ} → VotesRead answer n values → VotesRead answer n' values'
     → (n ≡ n') × (values ≡ values')
 votes_read_one a b = (a.numbered ∙ sym b.numbered, a.valued ∙ sym b.valued)
 
 -- qr_kept_blocks.
-pub blocks_read_one : {answer : BlocksAnswer} {n n' : ℕ} {values values' : List ℕ} → BlocksRead answer n values → BlocksRead answer n' values'
+pub blocks_read_one : {answer : Result KeptBlocks Refusal} {n n' : ℕ} {values values' : List ℕ} → BlocksRead answer n values → BlocksRead answer n' values'
     → (n ≡ n') × (values ≡ values')
 blocks_read_one a b = (a.numbered ∙ sym b.numbered, a.valued ∙ sym b.valued)
 
 -- qr_slot_marks.
-pub marks_read_one : {answer : MarksAnswer} {n n' : ℕ} {values values' : List ℕ} → MarksRead answer n values → MarksRead answer n' values'
+pub marks_read_one : {answer : Result SlotMarks Refusal} {n n' : ℕ} {values values' : List ℕ} → MarksRead answer n values → MarksRead answer n' values'
     → (n ≡ n') × (values ≡ values')
 marks_read_one a b = (a.numbered ∙ sym b.numbered, a.valued ∙ sym b.valued)
 
 -- qr_head.
-pub head_read_one : {answer : HeadAnswer} {n n' : ℕ} {values values' : List ℕ} → HeadRead answer n values → HeadRead answer n' values'
+pub head_read_one : {answer : Result RecordHead Refusal} {n n' : ℕ} {values values' : List ℕ} → HeadRead answer n values → HeadRead answer n' values'
     → (n ≡ n') × (values ≡ values')
 head_read_one a b = (a.numbered ∙ sym b.numbered, a.valued ∙ sym b.valued)
 
 -- qr_block_weights.
-pub weights_read_one : {answer : WeightsAnswer} {n n' : ℕ} {values values' : List ℕ} → WeightsRead answer n values → WeightsRead answer n' values'
+pub weights_read_one : {answer : Result BlockWeights Refusal} {n n' : ℕ} {values values' : List ℕ} → WeightsRead answer n values → WeightsRead answer n' values'
     → (n ≡ n') × (values ≡ values')
 weights_read_one a b = (a.numbered ∙ sym b.numbered, a.valued ∙ sym b.valued)
 
 -- qr_check_certificate, qr_check_proof.
-pub checked_one : {count : ℕ} {answer : CheckAnswer} {n n' missing missing' : ℕ} {values values' : List ℕ} → Checked count answer n values missing → Checked count answer n' values' missing'
+pub checked_one : {count : ℕ} {answer : Result Accepted Refusal} {n n' missing missing' : ℕ} {values values' : List ℕ} → Checked count answer n values missing → Checked count answer n' values' missing'
     → (n ≡ n') × (values ≡ values') × (missing ≡ missing')
 checked_one a b = (a.numbered ∙ sym b.numbered, a.valued ∙ sym b.valued, a.lacked ∙ sym b.lacked)
 

@@ -1,9 +1,7 @@
 -- The face's answers: the panel's number, the values beside it in lent places, and all lent memory afterwards.
-use Rattle.std.specs.Prelude.{◌≡◌, List, [], ◌∷◌, ℕ, length}
+use Rattle.std.specs.Prelude.{◌≡◌, List, [], ◌∷◌, ℕ, length, Bool, Result}
 use Rattle.rulebook.specs.declared.Accepted.{Accepted}
-use Rattle.rulebook.specs.declared.CheckAnswer.{CheckAnswer}
 use Rattle.rulebook.specs.declared.Input.{Input}
-use Rattle.rulebook.specs.declared.ReadAnswer.{ReadAnswer}
 use Rattle.rulebook.specs.declared.Vote.{Vote}
 use Rattle.rulebook.specs.PaperNumbers.{vote_number, number_in, start_panel, step_panel, write_panel, read_panel, check_number, check_values, check_missing}
 use Rattle.rulebook.specs.Writers.{over}
@@ -12,11 +10,8 @@ pub use Rattle.inputs.specs.Inputs.{vote_input, block_input, timeout_input}
 use Rattle.node.specs.Stepping.{step_leaves}
 use Rattle.taking.specs.Taking.{take_leaves}
 use Rattle.trays.specs.Lent.{tray_leaves}
-use Rattle.vouched_packets.specs.declared.SplitAnswer.{SplitAnswer}
 use Rattle.vouched_packets.specs.Split.{split_panel}
-use Rattle.announcing.specs.declared.AnnounceAnswer.{AnnounceAnswer}
 use Rattle.announcing.specs.Asked.{announce_panel}
-use Rattle.cards.specs.declared.CardAnswer.{CardAnswer}
 use Rattle.cards.specs.Asked.{card_panel}
 use Rattle.difference_lines.specs.Lines.{spell_lines}
 use Rattle.differences.specs.Lent.{differ, differ_panel}
@@ -26,15 +21,15 @@ use Rattle.kept_lines.specs.Lent.{Listing}
 use Rattle.starts.specs.Starting.{start_judged, start_answer, start_left, watch_judged}
 use Rattle.pieces.specs.Pieces.{piece_panel}
 use Rattle.pieces.specs.State.{nodes, piece_leaves, end_leaves}
-use Rattle.readers.specs.declared.FinalAnswer.{FinalAnswer}
-use Rattle.readers.specs.declared.ArmedAnswer.{ArmedAnswer}
-use Rattle.readers.specs.declared.VotesAnswer.{VotesAnswer}
-use Rattle.readers.specs.declared.BlocksAnswer.{BlocksAnswer}
-use Rattle.readers.specs.declared.MarksAnswer.{MarksAnswer}
-use Rattle.readers.specs.declared.HeadAnswer.{HeadAnswer}
-use Rattle.readers.specs.declared.WeightsAnswer.{WeightsAnswer}
 use Rattle.readers.specs.Asked.{final_panel, armed_panel, votes_panel, blocks_panel, marks_panel, head_panel}
 use Rattle.readers.specs.Weighed.{weights_panel}
+use Rattle.readers.specs.declared.BlockWeights.{BlockWeights}
+use Rattle.rulebook.specs.declared.Cell.{Cell}
+use Rattle.readers.specs.declared.KeptBlocks.{KeptBlocks}
+use Rattle.readers.specs.declared.RecordHead.{RecordHead}
+use Rattle.rulebook.specs.declared.Refusal.{Refusal}
+use Rattle.readers.specs.declared.SlotMarks.{SlotMarks}
+use Rattle.rulebook.specs.declared.Tally.{Tally}
 
 -- The version of the face: raised with every change of a function, of a number, or of what a record's words mean.
 abbrev pub version : ℕ
@@ -91,62 +86,62 @@ pub record Wrote (wrote : written.Wrote) (buffer : List ℕ) (number count : ℕ
   pub bytes : after ≡ over wrote.bytes buffer
 
 -- A vote message: its number, and the vote's four numbers.
-pub record MessageRead (answer : ReadAnswer) (number : ℕ) (values : List ℕ) : Type 0 where
+pub record MessageRead (answer : Result Vote Refusal) (number : ℕ) (values : List ℕ) : Type 0 where
   pub numbered : number ≡ (read_panel answer).number
   pub valued : values ≡ (read_panel answer).values
 
 -- A slot's card: its number, and the card's five words.
-pub record CardRead (answer : CardAnswer) (number : ℕ) (values : List ℕ) : Type 0 where
+pub record CardRead (answer : Result Tally Refusal) (number : ℕ) (values : List ℕ) : Type 0 where
   pub numbered : number ≡ (card_panel answer).number
   pub valued : values ≡ (card_panel answer).values
 
 -- A slot's final block: its number, and the block.
-pub record FinalRead (answer : FinalAnswer) (number block : ℕ) : Type 0 where
+pub record FinalRead (answer : Result ℕ Refusal) (number block : ℕ) : Type 0 where
   pub numbered : number ≡ (final_panel answer).number
   pub valued : Beside block (final_panel answer).values
 
 -- Whether a slot's window is armed: its number, and 1 or 0.
-pub record ArmedRead (answer : ArmedAnswer) (number armed : ℕ) : Type 0 where
+pub record ArmedRead (answer : Result Bool Refusal) (number armed : ℕ) : Type 0 where
   pub numbered : number ≡ (armed_panel answer).number
   pub valued : Beside armed (armed_panel answer).values
 
 -- Where a proof's first certificate ends: its number, and the bytes of that certificate.
-pub record SplitRead (answer : SplitAnswer) (number first : ℕ) : Type 0 where
+pub record SplitRead (answer : Result ℕ Refusal) (number first : ℕ) : Type 0 where
   pub numbered : number ≡ (split_panel answer).number
   pub valued : Beside first (split_panel answer).values
 
 -- Whether a block may be announced now: its number, and 1 or 0.
-pub record AnnounceRead (answer : AnnounceAnswer) (number now : ℕ) : Type 0 where
+pub record AnnounceRead (answer : Result Bool Refusal) (number now : ℕ) : Type 0 where
   pub numbered : number ≡ (announce_panel answer).number
   pub valued : Beside now (announce_panel answer).values
 
 -- A node's stored votes in a slot: its number, and the seven words of the cell.
-pub record VotesRead (answer : VotesAnswer) (number : ℕ) (values : List ℕ) : Type 0 where
+pub record VotesRead (answer : Result Cell Refusal) (number : ℕ) (values : List ℕ) : Type 0 where
   pub numbered : number ≡ (votes_panel answer).number
   pub valued : values ≡ (votes_panel answer).values
 
 -- A slot's kept blocks: its number, and the twelve words of the four places.
-pub record BlocksRead (answer : BlocksAnswer) (number : ℕ) (values : List ℕ) : Type 0 where
+pub record BlocksRead (answer : Result KeptBlocks Refusal) (number : ℕ) (values : List ℕ) : Type 0 where
   pub numbered : number ≡ (blocks_panel answer).number
   pub valued : values ≡ (blocks_panel answer).values
 
 -- A slot's marks: its number, and the two marks.
-pub record MarksRead (answer : MarksAnswer) (number : ℕ) (values : List ℕ) : Type 0 where
+pub record MarksRead (answer : Result SlotMarks Refusal) (number : ℕ) (values : List ℕ) : Type 0 where
   pub numbered : number ≡ (marks_panel answer).number
   pub valued : values ≡ (marks_panel answer).values
 
 -- A record's head: its number, and the four words.
-pub record HeadRead (answer : HeadAnswer) (number : ℕ) (values : List ℕ) : Type 0 where
+pub record HeadRead (answer : Result RecordHead Refusal) (number : ℕ) (values : List ℕ) : Type 0 where
   pub numbered : number ≡ (head_panel answer).number
   pub valued : values ≡ (head_panel answer).values
 
 -- A block's weights in a slot: its number, and the four weights.
-pub record WeightsRead (answer : WeightsAnswer) (number : ℕ) (values : List ℕ) : Type 0 where
+pub record WeightsRead (answer : Result BlockWeights Refusal) (number : ℕ) (values : List ℕ) : Type 0 where
   pub numbered : number ≡ (weights_panel answer).number
   pub valued : values ≡ (weights_panel answer).values
 
 -- A check under a table of so many nodes: its number, its five values, and what is missing beside 15.
-pub record Checked (count : ℕ) (answer : CheckAnswer) (number : ℕ) (values : List ℕ) (missing : ℕ) : Type 0 where
+pub record Checked (count : ℕ) (answer : Result Accepted Refusal) (number : ℕ) (values : List ℕ) (missing : ℕ) : Type 0 where
   pub numbered : number ≡ check_number answer
   pub valued : values ≡ check_values count answer
   pub lacked : missing ≡ check_missing answer

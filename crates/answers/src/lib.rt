@@ -14,89 +14,82 @@ ghost use Rattle.readers.specs.Weighed.{weight_values, weights_panel};
 ghost use Rattle.vouched_packets.specs.Split.{split_panel};
 ghost use Rattle.answers.specs.Face.{Beside, vote_values, accepted_values};
 
-use announcing::AnnounceAnswer;
-use cards::CardAnswer;
 use differences::{DifferAnswer, side_number};
 use inquest_lines::ListAnswer;
 use kinds::{number_in, refusal_missing, refusal_number, vote_number};
-use pieces::PieceAnswer;
 use readers::{
-    ArmedAnswer, BlockWeights, BlocksAnswer, FinalAnswer, HeadAnswer, KeptBlocks, MarksAnswer,
-    RecordHead, SlotMarks, VotesAnswer, WeightsAnswer,
-};
+    BlockWeights, KeptBlocks, RecordHead, SlotMarks, };
 use rulebook::{
-    Accepted, Cell, CheckAnswer, ReadAnswer, Refusal, StartAnswer, StepAnswer, Tally, Vote, Weight,
-    WriteAnswer,
-};
-use vouched_packets::SplitAnswer;
+    Accepted, Cell, Refusal, Tally, Vote, Weight,
+    };
 
 // What start answers, as a number.
-pub fn start_number(a: StartAnswer) -> u64
+pub fn start_number(a: Result<(), Refusal>) -> u64
     ensures { result ≡ (start_panel a).number }
 {
     match a {
-        StartAnswer::Started => 0,
-        StartAnswer::Refused(r) => refusal_number(r),
+        Ok(()) => 0,
+        Err(r) => refusal_number(r),
     }
 }
 
 // What a step answers, as a number.
-pub fn step_number(a: StepAnswer) -> u64
+pub fn step_number(a: Result<usize, Refusal>) -> u64
     ensures { result ≡ (step_panel a).number }
 {
     match a {
-        StepAnswer::Done(_) => 0,
-        StepAnswer::Refused(r) => refusal_number(r),
+        Ok(_) => 0,
+        Err(r) => refusal_number(r),
     }
 }
 
 // How many records a step made, 0 beside a refusal.
-pub fn records_made(a: StepAnswer) -> usize
+pub fn records_made(a: Result<usize, Refusal>) -> usize
     ensures { Beside result (step_panel a).values }
 {
     match a {
-        StepAnswer::Done(n) => n,
-        StepAnswer::Refused(_) => 0,
+        Ok(n) => n,
+        Err(_) => 0,
     }
 }
 
 // What a writer answers, as a number.
-pub fn write_number(a: WriteAnswer) -> u64
+pub fn write_number(a: Result<usize, Refusal>) -> u64
     ensures { result ≡ (write_panel a).number }
 {
     match a {
-        WriteAnswer::Written(_) => 0,
-        WriteAnswer::Refused(r) => refusal_number(r),
+        Ok(_) => 0,
+        Err(r) => refusal_number(r),
     }
 }
 
 // How many bytes a writer wrote, 0 beside a refusal.
-pub fn bytes_written(a: WriteAnswer) -> usize
+pub fn bytes_written(a: Result<usize, Refusal>) -> usize
     ensures { Beside result (write_panel a).values }
 {
     match a {
-        WriteAnswer::Written(n) => n,
-        WriteAnswer::Refused(_) => 0,
+        Ok(n) => n,
+        Err(_) => 0,
     }
 }
 
 // What the reader of vote messages answers, as a number.
-pub fn read_number(a: ReadAnswer) -> u64
+pub fn read_number(a: Result<Vote, Refusal>) -> u64
     ensures { result ≡ (read_panel a).number }
 {
     match a {
-        ReadAnswer::Read(_) => 0,
-        ReadAnswer::Refused(r) => refusal_number(r),
+        Ok(_) => 0,
+        Err(r) => refusal_number(r),
     }
 }
 
 // Kind, node, slot and block of the vote that was read, zeros beside a refusal.
-pub fn read_values(a: ReadAnswer) -> [u64; 4]
+pub fn read_values(a: Result<Vote, Refusal>) -> [u64; 4]
     ensures { result ≡ (read_panel a).values }
 {
     match a {
-        ReadAnswer::Read(v) => vote_values(v),
-        ReadAnswer::Refused(_) => [0, 0, 0, 0],
+        Ok(v) => vote_values(v),
+        Err(_) => [0, 0, 0, 0],
     }
 }
 
@@ -111,42 +104,42 @@ fn vote_values(v: Vote) -> [u64; 4]
 }
 
 // What the checker answers, as a number.
-pub fn check_number(a: CheckAnswer) -> u64
+pub fn check_number(a: Result<Accepted, Refusal>) -> u64
     ensures { result ≡ check_number a }
 {
     match a {
-        CheckAnswer::Accepted(_) => 0,
-        CheckAnswer::Refused(r) => refusal_number(r),
+        Ok(_) => 0,
+        Err(r) => refusal_number(r),
     }
 }
 
 // Kind, slot, block, signer count and weight of what was checked under a table of so many nodes, zeros beside a refusal.
-pub fn check_values(count: usize, a: CheckAnswer) -> [u64; 5]
+pub fn check_values(count: usize, a: Result<Accepted, Refusal>) -> [u64; 5]
     ensures { result ≡ check_values count a }
 {
     match a {
-        CheckAnswer::Accepted(x) => accepted_values(count, x),
-        CheckAnswer::Refused(_) => [0, 0, 0, 0, 0],
+        Ok(x) => accepted_values(count, x),
+        Err(_) => [0, 0, 0, 0, 0],
     }
 }
 
 // What a piece of a proof is answered, as a number: 0 is "more".
-pub fn piece_number(a: PieceAnswer) -> u64
+pub fn piece_number(a: Result<(), Refusal>) -> u64
     ensures { result ≡ (piece_panel a).number }
 {
     match a {
-        PieceAnswer::More => 0,
-        PieceAnswer::Refused(r) => refusal_number(r),
+        Ok(()) => 0,
+        Err(r) => refusal_number(r),
     }
 }
 
 // What is missing to the threshold, 0 unless the number is 15.
-pub fn check_missing(a: CheckAnswer) -> Weight
+pub fn check_missing(a: Result<Accepted, Refusal>) -> Weight
     ensures { result.0 ≡ check_missing a }
 {
     match a {
-        CheckAnswer::Accepted(_) => Weight(0),
-        CheckAnswer::Refused(r) => refusal_missing(r),
+        Ok(_) => Weight(0),
+        Err(r) => refusal_missing(r),
     }
 }
 
@@ -207,22 +200,22 @@ pub fn list_value(a: ListAnswer) -> usize
 }
 
 // What the question for a card is answered, as a number.
-pub fn card_number(a: CardAnswer) -> u64
+pub fn card_number(a: Result<Tally, Refusal>) -> u64
     ensures { result ≡ (card_panel a).number }
 {
     match a {
-        CardAnswer::Card(_) => 0,
-        CardAnswer::Refused(r) => refusal_number(r),
+        Ok(_) => 0,
+        Err(r) => refusal_number(r),
     }
 }
 
 // Skip, final and skip-certificate weight, the leading block and its weight, zeros beside a refusal.
-pub fn card_values(a: CardAnswer) -> [u64; 5]
+pub fn card_values(a: Result<Tally, Refusal>) -> [u64; 5]
     ensures { result ≡ (card_panel a).values }
 {
     match a {
-        CardAnswer::Card(t) => tally_values(t),
-        CardAnswer::Refused(_) => [0, 0, 0, 0, 0],
+        Ok(t) => tally_values(t),
+        Err(_) => [0, 0, 0, 0, 0],
     }
 }
 
@@ -238,182 +231,182 @@ fn tally_values(t: Tally) -> [u64; 5]
 }
 
 // What the question for a final block is answered, as a number.
-pub fn final_number(a: FinalAnswer) -> u64
+pub fn final_number(a: Result<u64, Refusal>) -> u64
     ensures { result ≡ (final_panel a).number }
 {
     match a {
-        FinalAnswer::Block(_) => 0,
-        FinalAnswer::Refused(r) => refusal_number(r),
+        Ok(_) => 0,
+        Err(r) => refusal_number(r),
     }
 }
 
 // The final block, 0 where there is none and beside a refusal.
-pub fn final_value(a: FinalAnswer) -> u64
+pub fn final_value(a: Result<u64, Refusal>) -> u64
     ensures { Beside result (final_panel a).values }
 {
     match a {
-        FinalAnswer::Block(b) => b,
-        FinalAnswer::Refused(_) => 0,
+        Ok(b) => b,
+        Err(_) => 0,
     }
 }
 
 // What the question whether a window is armed is answered, as a number.
-pub fn armed_number(a: ArmedAnswer) -> u64
+pub fn armed_number(a: Result<bool, Refusal>) -> u64
     ensures { result ≡ (armed_panel a).number }
 {
     match a {
-        ArmedAnswer::Armed(_) => 0,
-        ArmedAnswer::Refused(r) => refusal_number(r),
+        Ok(_) => 0,
+        Err(r) => refusal_number(r),
     }
 }
 
 // 1 where the window is armed, else 0, and beside a refusal.
-pub fn armed_value(a: ArmedAnswer) -> u64
+pub fn armed_value(a: Result<bool, Refusal>) -> u64
     ensures { Beside result (armed_panel a).values }
 {
     match a {
-        ArmedAnswer::Armed(there) => mark(there),
-        ArmedAnswer::Refused(_) => 0,
+        Ok(there) => mark(there),
+        Err(_) => 0,
     }
 }
 
 // What the question where a proof's first certificate ends is answered, as a number.
-pub fn split_number(a: SplitAnswer) -> u64
+pub fn split_number(a: Result<usize, Refusal>) -> u64
     ensures { result ≡ (split_panel a).number }
 {
     match a {
-        SplitAnswer::First(_) => 0,
-        SplitAnswer::Refused(r) => refusal_number(r),
+        Ok(_) => 0,
+        Err(r) => refusal_number(r),
     }
 }
 
 // The bytes of the first certificate; 0 beside a refusal.
-pub fn split_value(a: SplitAnswer) -> usize
+pub fn split_value(a: Result<usize, Refusal>) -> usize
     ensures { Beside result (split_panel a).values }
 {
     match a {
-        SplitAnswer::First(n) => n,
-        SplitAnswer::Refused(_) => 0,
+        Ok(n) => n,
+        Err(_) => 0,
     }
 }
 
 // What the question whether a block may be announced is answered, as a number.
-pub fn announce_number(a: AnnounceAnswer) -> u64
+pub fn announce_number(a: Result<bool, Refusal>) -> u64
     ensures { result ≡ (announce_panel a).number }
 {
     match a {
-        AnnounceAnswer::Now(_) => 0,
-        AnnounceAnswer::Refused(r) => refusal_number(r),
+        Ok(_) => 0,
+        Err(r) => refusal_number(r),
     }
 }
 
 // 1 where it may be announced now; 0 where not yet, and beside a refusal.
-pub fn announce_value(a: AnnounceAnswer) -> u64
+pub fn announce_value(a: Result<bool, Refusal>) -> u64
     ensures { Beside result (announce_panel a).values }
 {
     match a {
-        AnnounceAnswer::Now(now) => mark(now),
-        AnnounceAnswer::Refused(_) => 0,
+        Ok(now) => mark(now),
+        Err(_) => 0,
     }
 }
 
 // What the question for a node's votes is answered, as a number.
-pub fn votes_number(a: VotesAnswer) -> u64
+pub fn votes_number(a: Result<Cell, Refusal>) -> u64
     ensures { result ≡ (votes_panel a).number }
 {
     match a {
-        VotesAnswer::Votes(_) => 0,
-        VotesAnswer::Refused(r) => refusal_number(r),
+        Ok(_) => 0,
+        Err(r) => refusal_number(r),
     }
 }
 
 // The seven words of the node's cell, zeros beside a refusal.
-pub fn votes_values(a: VotesAnswer) -> [u64; 7]
+pub fn votes_values(a: Result<Cell, Refusal>) -> [u64; 7]
     ensures { result ≡ (votes_panel a).values }
 {
     match a {
-        VotesAnswer::Votes(c) => cell_values(c),
-        VotesAnswer::Refused(_) => [0, 0, 0, 0, 0, 0, 0],
+        Ok(c) => cell_values(c),
+        Err(_) => [0, 0, 0, 0, 0, 0, 0],
     }
 }
 
 // What the question for a slot's blocks is answered, as a number.
-pub fn blocks_number(a: BlocksAnswer) -> u64
+pub fn blocks_number(a: Result<KeptBlocks, Refusal>) -> u64
     ensures { result ≡ (blocks_panel a).number }
 {
     match a {
-        BlocksAnswer::Blocks(_) => 0,
-        BlocksAnswer::Refused(r) => refusal_number(r),
+        Ok(_) => 0,
+        Err(r) => refusal_number(r),
     }
 }
 
 // The twelve words of the slot's kept blocks, zeros beside a refusal.
-pub fn blocks_values(a: BlocksAnswer) -> [u64; 12]
+pub fn blocks_values(a: Result<KeptBlocks, Refusal>) -> [u64; 12]
     ensures { result ≡ (blocks_panel a).values }
 {
     match a {
-        BlocksAnswer::Blocks(k) => kept_values(k),
-        BlocksAnswer::Refused(_) => [0, 0, 0, 0, 0, 0, 0, 0, 0, 0, 0, 0],
+        Ok(k) => kept_values(k),
+        Err(_) => [0, 0, 0, 0, 0, 0, 0, 0, 0, 0, 0, 0],
     }
 }
 
 // What the question for a slot's marks is answered, as a number.
-pub fn marks_number(a: MarksAnswer) -> u64
+pub fn marks_number(a: Result<SlotMarks, Refusal>) -> u64
     ensures { result ≡ (marks_panel a).number }
 {
     match a {
-        MarksAnswer::Marks(_) => 0,
-        MarksAnswer::Refused(r) => refusal_number(r),
+        Ok(_) => 0,
+        Err(r) => refusal_number(r),
     }
 }
 
 // The slot's two marks, zeros beside a refusal.
-pub fn marks_values(a: MarksAnswer) -> [u64; 2]
+pub fn marks_values(a: Result<SlotMarks, Refusal>) -> [u64; 2]
     ensures { result ≡ (marks_panel a).values }
 {
     match a {
-        MarksAnswer::Marks(m) => mark_values(m),
-        MarksAnswer::Refused(_) => [0, 0],
+        Ok(m) => mark_values(m),
+        Err(_) => [0, 0],
     }
 }
 
 // What the question for a record's head is answered, as a number.
-pub fn head_number(a: HeadAnswer) -> u64
+pub fn head_number(a: Result<RecordHead, Refusal>) -> u64
     ensures { result ≡ (head_panel a).number }
 {
     match a {
-        HeadAnswer::Head(_) => 0,
-        HeadAnswer::Refused(r) => refusal_number(r),
+        Ok(_) => 0,
+        Err(r) => refusal_number(r),
     }
 }
 
 // The four words of the record's head, zeros beside a refusal.
-pub fn head_values(a: HeadAnswer) -> [u64; 4]
+pub fn head_values(a: Result<RecordHead, Refusal>) -> [u64; 4]
     ensures { result ≡ (head_panel a).values }
 {
     match a {
-        HeadAnswer::Head(h) => facts_values(h),
-        HeadAnswer::Refused(_) => [0, 0, 0, 0],
+        Ok(h) => facts_values(h),
+        Err(_) => [0, 0, 0, 0],
     }
 }
 
 // What the question for a block's weights is answered, as a number.
-pub fn weights_number(a: WeightsAnswer) -> u64
+pub fn weights_number(a: Result<BlockWeights, Refusal>) -> u64
     ensures { result ≡ (weights_panel a).number }
 {
     match a {
-        WeightsAnswer::Weights(_) => 0,
-        WeightsAnswer::Refused(r) => refusal_number(r),
+        Ok(_) => 0,
+        Err(r) => refusal_number(r),
     }
 }
 
 // The block's four weights, zeros beside a refusal.
-pub fn weights_values(a: WeightsAnswer) -> [u64; 4]
+pub fn weights_values(a: Result<BlockWeights, Refusal>) -> [u64; 4]
     ensures { result ≡ (weights_panel a).values }
 {
     match a {
-        WeightsAnswer::Weights(w) => four_weights(w),
-        WeightsAnswer::Refused(_) => [0, 0, 0, 0],
+        Ok(w) => four_weights(w),
+        Err(_) => [0, 0, 0, 0],
     }
 }
 

@@ -1,4 +1,5 @@
 -- Calls that meet their contracts are the rule book's life: one induction, over one call at a time.
+use Rattle.std.specs.Prelude.{⊤, Result, Ok, Err}
 use mathlib.Core.Path.{◌≡◌, refl, sym, ap, ◌∙◌, subst}
 use mathlib.Core.Bool.{true, not}
 use mathlib.Core.List.{List, [], ◌∷◌, ◌++◌, append_assoc, append-nil}
@@ -7,10 +8,6 @@ use lib.Dec.{T, eqb}
 use lib.ListN.{length}
 use Rattle.rulebook.specs.declared.Input.{Input}
 use Rattle.rulebook.specs.declared.Refusal.TheVariants as refusal
-use Rattle.rulebook.specs.declared.StepAnswer.{StepAnswer}
-use Rattle.rulebook.specs.declared.StartAnswer.{StartAnswer}
-use Rattle.rulebook.specs.declared.Verdict.{Verdict}
-use Rattle.rulebook.specs.declared.Verdict.TheVariants.{Fine, Refused}
 use Rattle.rulebook.specs.PaperNumbers.{start_panel, step_panel}
 use Rattle.rulebook.specs.Weights.{places_for}
 use Rattle.rulebook.specs.Ledger.{Ledger, fresh}
@@ -37,65 +34,66 @@ use Rattle.seen.proofs.Numbers.{refusal_above}
 use Rattle.calls.specs.Operation.{Operation, one_input, a_tray, a_packet, fed_by}
 use Rattle.calls.specs.Life.{Met, MetWith, begun, next, Calls, none, then, not_started, not_watched, Life, Watch, LifeIsSeen, WatchIsSeen, LivesAreNodes, CallsEarlier, LifeBegins, WatchBegins, MetGoesOn, RefusedStays}
 use Rattle.calls.proofs.OneCall.{call_did}
+use Rattle.rulebook.specs.declared.Refusal.{Refusal}
 
 -- ---- the public operations, in numbers
 
-pub step_met : (ws lent : List ℕ) (i : Input) (answer : StepAnswer) (words left : List ℕ) → StepOf ws lent i answer words left
+pub step_met : (ws lent : List ℕ) (i : Input) (answer : Result ℕ Refusal) (words left : List ℕ) → StepOf ws lent i answer words left
     → MetWith (one_input i) ws lent answer words left
 step_met ws lent i answer words left s made b =
     record {
-      numbered = ap (λ (a : StepAnswer). (step_panel a).number) s.answered;
-      counted = b ∙ ap (λ (a : StepAnswer). (step_panel a).values) s.answered;
+      numbered = ap (λ (a : Result ℕ Refusal). (step_panel a).number) s.answered;
+      counted = b ∙ ap (λ (a : Result ℕ Refusal). (step_panel a).values) s.answered;
       words = s.words;
       outbox = s.outbox;
     }
 
-pub take_met : (ws lent packet : List ℕ) (answer : StepAnswer) (words left : List ℕ) → TakeOf ws lent packet answer words left
+pub take_met : (ws lent packet : List ℕ) (answer : Result ℕ Refusal) (words left : List ℕ) → TakeOf ws lent packet answer words left
     → MetWith (a_packet packet) ws lent answer words left
 take_met ws lent packet answer words left s made b =
     record {
-      numbered = ap (λ (a : StepAnswer). (step_panel a).number) s.answered;
-      counted = b ∙ ap (λ (a : StepAnswer). (step_panel a).values) s.answered;
+      numbered = ap (λ (a : Result ℕ Refusal). (step_panel a).number) s.answered;
+      counted = b ∙ ap (λ (a : Result ℕ Refusal). (step_panel a).values) s.answered;
       words = s.words;
       outbox = s.outbox;
     }
 
-pub tray_met : (ws lent votes places : List ℕ) (answer : StepAnswer) (words left answers : List ℕ) → TrayOf ws lent votes places answer words left answers
+pub tray_met : (ws lent votes places : List ℕ) (answer : Result ℕ Refusal) (words left answers : List ℕ) → TrayOf ws lent votes places answer words left answers
     → MetWith (a_tray votes places answers) ws lent answer words left
 tray_met ws lent votes places answer words left answers s made b =
     record {
-      numbered = ap (λ (a : StepAnswer). (step_panel a).number) s.answered;
-      counted = b ∙ ap (λ (a : StepAnswer). (step_panel a).values) s.answered;
+      numbered = ap (λ (a : Result ℕ Refusal). (step_panel a).number) s.answered;
+      counted = b ∙ ap (λ (a : Result ℕ Refusal). (step_panel a).values) s.answered;
       words = s.words;
       outbox = s.outbox;
       answered = s.answers;
     }
 
-pub start_met : (ws stakes : List ℕ) (own genesis : ℕ) (answer : StartAnswer) (words : List ℕ) → StartOf ws stakes own genesis answer words
+pub start_met : (ws stakes : List ℕ) (own genesis : ℕ) (answer : Result ⊤ Refusal) (words : List ℕ) → StartOf ws stakes own genesis answer words
     → Started ws stakes own genesis (start_panel answer).number words
-start_met ws stakes own genesis answer words s = record { numbered = ap (λ (a : StartAnswer). (start_panel a).number) s.answered; words = s.words }
+start_met ws stakes own genesis answer words s = record { numbered = ap (λ (a : Result ⊤ Refusal). (start_panel a).number) s.answered; words = s.words }
 
-pub watch_met : (ws stakes : List ℕ) (genesis : ℕ) (answer : StartAnswer) (words : List ℕ) → WatchOf ws stakes genesis answer words
+pub watch_met : (ws stakes : List ℕ) (genesis : ℕ) (answer : Result ⊤ Refusal) (words : List ℕ) → WatchOf ws stakes genesis answer words
     → Watched ws stakes genesis (start_panel answer).number words
-watch_met ws stakes genesis answer words s = record { numbered = ap (λ (a : StartAnswer). (start_panel a).number) s.answered; words = s.words }
+watch_met ws stakes genesis answer words s = record { numbered = ap (λ (a : Result ⊤ Refusal). (start_panel a).number) s.answered; words = s.words }
 
 -- ---- starts
 
 -- A start that was answered 0 passed its tests, and left the fresh ledger's words.
-start_zero : (found stakes words : List ℕ) (own genesis : ℕ) (v judged : Verdict)
+start_zero : (found stakes words : List ℕ) (own genesis : ℕ) (v judged : Result ⊤ Refusal)
     → refuse_if (not (eqb (length found) (record_words (places_for (length stakes))))) refusal.BadRecord v ≡ judged
-    → 0 ≡ (start_panel (start_answer judged)).number → words ≡ start_left judged found stakes own genesis → (v ≡ Fine) × (words ≡ words_of (fresh stakes own genesis))
+    → 0 ≡ (start_panel (start_answer judged)).number → words ≡ start_left judged found stakes own genesis → (v ≡ Ok tt) × (words ≡ words_of (fresh stakes own genesis))
 unfolding start_answer start_left start_panel
-start_zero found stakes words own genesis v Fine e a w =
+start_zero found stakes words own genesis v (Ok tt) e a w =
     ((refuse_fine (not (eqb (length found) (record_words (places_for (length stakes))))) refusal.BadRecord v e).1, w)
-start_zero found stakes words own genesis v (Refused r) e a w = refusal_above r (sym a)
+start_zero found stakes words own genesis v (Err r) e a w = refusal_above r (sym a)
 
 -- One that was not left the words as found.
-start_refused : (found stakes words : List ℕ) (own genesis number : ℕ) (judged : Verdict) → number ≡ (start_panel (start_answer judged)).number
+start_refused : (found stakes words : List ℕ) (own genesis number : ℕ) (judged : Result ⊤ Refusal) → number ≡ (start_panel (start_answer judged)).number
     → words ≡ start_left judged found stakes own genesis → ¬ (number ≡ 0) → words ≡ found
 unfolding start_answer start_left start_panel
-start_refused found stakes words own genesis number Fine a w ne = absurd (ne a)
-start_refused found stakes words own genesis number (Refused r) a w ne = w
+start_refused found stakes words own genesis number (Ok tt) a w ne = absurd (ne a)
+start_refused found stakes words own genesis number (Err r) a w ne = w
 
 -- The words of a fresh ledger are a life without calls.
 fresh_seen : (stakes : List ℕ) (own genesis : ℕ) (words : List ℕ) → Sound (fresh stakes own genesis) → words ≡ words_of (fresh stakes own genesis)
@@ -105,7 +103,7 @@ fresh_seen stakes own genesis words fine e =
     record { sound = ap sound_words e ∙ spelled_sound (fresh stakes own genesis) fine; ledger = ap ledger_of e ∙ spelled_back (fresh stakes own genesis) fine; records = refl }
 
 module _ (stakes : List ℕ) (own genesis : ℕ) (found words : List ℕ) (s : Started found stakes own genesis 0 words) where
-  node_started : (start_verdict stakes own genesis ≡ Fine) × (words ≡ words_of (fresh stakes own genesis))
+  node_started : (start_verdict stakes own genesis ≡ Ok tt) × (words ≡ words_of (fresh stakes own genesis))
   unfolding start_judged
   node_started = start_zero found stakes words own genesis (start_verdict stakes own genesis) (start_judged found stakes own genesis) refl s.numbered s.words
 
@@ -113,7 +111,7 @@ module _ (stakes : List ℕ) (own genesis : ℕ) (found words : List ℕ) (s : S
   born_seen = fresh_seen stakes own genesis words (fresh_sound stakes own genesis node_started.0) node_started.1
 
 module _ (stakes : List ℕ) (genesis : ℕ) (found words : List ℕ) (s : Watched found stakes genesis 0 words) where
-  watcher_started : (watch_verdict stakes genesis ≡ Fine) × (words ≡ words_of (fresh stakes (length stakes) genesis))
+  watcher_started : (watch_verdict stakes genesis ≡ Ok tt) × (words ≡ words_of (fresh stakes (length stakes) genesis))
   unfolding watch_judged
   watcher_started = start_zero found stakes words (length stakes) genesis (watch_verdict stakes genesis) (watch_judged found stakes genesis) refl s.numbered s.words
 

@@ -1,4 +1,5 @@
 -- What a host sees of its calls is what the rule book says of what arrived.
+use Rattle.std.specs.Prelude.{Result, Ok, Err}
 use mathlib.Core.Path.{◌≡◌, refl, sym, ap, ◌∙◌, subst}
 use mathlib.Core.Bool.{Bool, true, false, ◌&&◌}
 use mathlib.Core.List.{List, [], ◌∷◌, ◌++◌, append_assoc, append-nil}
@@ -8,8 +9,6 @@ use lib.Dec.{T, eqb, leb, eqb→eq}
 use lib.ListN.{length}
 use borrow.Author.Tests.{leb-true, leb-false, eqb-true}
 use Rattle.rulebook.specs.declared.Input.{Input}
-use Rattle.rulebook.specs.declared.StepAnswer.{StepAnswer}
-use Rattle.rulebook.specs.declared.StepAnswer.TheVariants.{Done, Refused}
 use Rattle.rulebook.specs.PaperNumbers.{step_panel}
 use Rattle.rulebook.specs.Tools.{whenever}
 use Rattle.rulebook.specs.Ledger.{Ledger, fresh}
@@ -40,12 +39,13 @@ use Rattle.calls.specs.Life.{Met, Calls, none, then, not_started, not_watched}
 use Rattle.calls.specs.Observed.{is_step, woken_by, WokenSeen, is_timeout, timed_out_by, TimedOutSeen, calls_by_policy, PolicySeen, shown_one, shown_with, shown_by, ShownSeen}
 use Rattle.calls.proofs.OneCall.{OneServed, step_leaves_lem, take_leaves_lem, call_served, short_nine, step_served}
 use Rattle.calls.proofs.Life.{many, born_seen, life_is_seen}
+use Rattle.rulebook.specs.declared.Refusal.{Refusal}
 
 -- 0 is the number of "done".
-pub done_zero : (a : StepAnswer) (number : ℕ) → number ≡ (step_panel a).number → eqb number 0 ≡ is_done a
+pub done_zero : (a : Result ℕ Refusal) (number : ℕ) → number ≡ (step_panel a).number → eqb number 0 ≡ is_done a
 unfolding step_panel is_done
-done_zero (Done n) number e = rw e
-done_zero (Refused r) number e = by_test (eqb number 0) (λ t. refusal_above r (sym e ∙ eqb-true number 0 t)) (λ t. t)
+done_zero (Ok n) number e = rw e
+done_zero (Err r) number e = by_test (eqb number 0) (λ t. refusal_above r (sym e ∙ eqb-true number 0 t)) (λ t. t)
 
 -- ---- one call that is answered 0
 

@@ -1,4 +1,5 @@
 -- What one call does to sound words: they are sound again, and they and the told records are those of what arrived with it.
+use Rattle.std.specs.Prelude.{⊤, Result, Ok, Err}
 use mathlib.Core.Path.{◌≡◌, refl, sym, ap, ◌∙◌, subst}
 use mathlib.Core.Bool.{Bool, true, false, not, ◌&&◌}
 use mathlib.Core.List.{List, [], ◌∷◌, ◌++◌, map, append-nil}
@@ -11,10 +12,7 @@ use Rattle.rulebook.specs.declared.Input.{Input}
 use Rattle.rulebook.specs.declared.Input.TheVariants as input
 use Rattle.rulebook.specs.declared.Refusal.{Refusal}
 use Rattle.rulebook.specs.declared.Refusal.TheVariants as refusal
-use Rattle.rulebook.specs.declared.StepAnswer.{StepAnswer}
 use Rattle.rulebook.specs.declared.Vote.{Vote}
-use Rattle.rulebook.specs.declared.Verdict.{Verdict}
-use Rattle.rulebook.specs.declared.Verdict.TheVariants.{Fine, Refused}
 use Rattle.rulebook.specs.Certificates.{Certificate}
 use Rattle.rulebook.specs.PaperNumbers.{refusal_number, kind_in, step_panel}
 use Rattle.rulebook.specs.Ledger.{Ledger, certificates_at}
@@ -68,15 +66,15 @@ tells_none : (l : Ledger) (r : Refusal) → TellsAll (refused_with l r)
 unfolding refused_with step_panel
 tells_none l r = refl
 
-fed_tells : (l : Ledger) (i : Input) (v : Verdict) → TellsAll (fed_on v l i)
+fed_tells : (l : Ledger) (i : Input) (v : Result ⊤ Refusal) → TellsAll (fed_on v l i)
 unfolding fed_on
-fed_tells l i Fine = tells_done _
-fed_tells l i (Refused r) = tells_none l r
+fed_tells l i (Ok tt) = tells_done _
+fed_tells l i (Err r) = tells_none l r
 
-taken_tells : (l : Ledger) (c : Certificate) (v : Verdict) → TellsAll (taken_on v l c)
+taken_tells : (l : Ledger) (c : Certificate) (v : Result ⊤ Refusal) → TellsAll (taken_on v l c)
 unfolding taken_on
-taken_tells l c Fine = tells_done _
-taken_tells l c (Refused r) = tells_none l r
+taken_tells l c (Ok tt) = tells_done _
+taken_tells l c (Err r) = tells_none l r
 
 served_tells : (l : Ledger) (i : Arrival) → TellsAll (served l i)
 unfolding served feed taken

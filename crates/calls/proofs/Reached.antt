@@ -1,4 +1,5 @@
 -- The contracts are functions of what is lent, so that calls can always be made.
+use Rattle.std.specs.Prelude.{⊤, Result, Ok, Err}
 use mathlib.Core.Path.{◌≡◌, refl, sym, ap, ◌∙◌, subst}
 use mathlib.Core.Bool.{Bool, true, not}
 use mathlib.Core.List.{List, [], ◌∷◌, ◌++◌, append_assoc, append-nil}
@@ -9,10 +10,6 @@ use lib.ListN.{length, replicate, length-replicate}
 use borrow.Author.Tests.{eq-eqb, le-leb}
 use Rattle.rulebook.specs.declared.Refusal.{Refusal}
 use Rattle.rulebook.specs.declared.Refusal.TheVariants as refusal
-use Rattle.rulebook.specs.declared.StepAnswer.{StepAnswer}
-use Rattle.rulebook.specs.declared.StepAnswer.TheVariants.{Done, Refused}
-use Rattle.rulebook.specs.declared.Verdict.{Verdict}
-use Rattle.rulebook.specs.declared.Verdict.TheVariants.{Fine}
 use Rattle.rulebook.specs.PaperNumbers.{start_panel, step_panel}
 use Rattle.rulebook.specs.Weights.{places_for}
 use Rattle.rulebook.specs.Ledger.{fresh}
@@ -55,14 +52,14 @@ leaves_with : List ℕ → Arrival → Leaves
 leaves_with ws (of_input i) = step_leaves ws (zeros outbox_words) i
 leaves_with ws (of_packet packet) = take_leaves ws (zeros outbox_words) packet
 
-count_of : StepAnswer → ℕ
-count_of (Done n) = n
-count_of (Refused r) = 0
+count_of : Result ℕ Refusal → ℕ
+count_of (Ok n) = n
+count_of (Err r) = 0
 
-count_beside : (a : StepAnswer) → Beside (count_of a) (step_panel a).values
+count_beside : (a : Result ℕ Refusal) → Beside (count_of a) (step_panel a).values
 unfolding count_of step_panel
-count_beside (Done n) = refl
-count_beside (Refused r) = refl
+count_beside (Ok n) = refl
+count_beside (Err r) = refl
 
 -- One call with which it arrives, with an outbox of zeros that has room.
 abbrev one_more : Seen → Arrival → Seen
@@ -113,7 +110,7 @@ can_watch_on stakes genesis v h is =
 
 -- ---- a ring of them
 
-passes : (b : Bool) (r : Refusal) (v : Verdict) → b ≡ true → refuse_if (not b) r v ≡ v
+passes : (b : Bool) (r : Refusal) (v : Result ⊤ Refusal) → b ≡ true → refuse_if (not b) r v ≡ v
 unfolding refuse_if
 passes b r v e = rw e refl
 
@@ -122,7 +119,7 @@ module _ (stakes : List ℕ) (own genesis : ℕ) (is : List Arrival) where
   abbrev blank : List ℕ
   blank = zeros (record_words (places_for (length stakes)))
 
-  judged : start_verdict stakes own genesis ≡ Fine → start_judged blank stakes own genesis ≡ Fine
+  judged : start_verdict stakes own genesis ≡ Ok tt → start_judged blank stakes own genesis ≡ Ok tt
   unfolding start_judged
   judged e =
       passes (eqb (length blank) (record_words (places_for (length stakes)))) refusal.BadRecord (start_verdict stakes own genesis)
@@ -132,7 +129,7 @@ module _ (stakes : List ℕ) (own genesis : ℕ) (is : List Arrival) where
   abbrev life_for : Seen
   life_for = run_for (begun (words_of (fresh stakes own genesis))) is
 
-  life_for_lem : start_verdict stakes own genesis ≡ Fine → Life stakes own genesis life_for
+  life_for_lem : start_verdict stakes own genesis ≡ Ok tt → Life stakes own genesis life_for
   unfolding start_answer start_left start_panel
   life_for_lem e =
       let j = judged e in
@@ -140,8 +137,8 @@ module _ (stakes : List ℕ) (own genesis : ℕ) (is : List Arrival) where
         found = blank;
         words = words_of (fresh stakes own genesis);
         start = record {
-          numbered = sym (ap (λ (v : Verdict). (start_panel (start_answer v)).number) j);
-          words = sym (ap (λ (v : Verdict). start_left v blank stakes own genesis) j);
+          numbered = sym (ap (λ (v : Result ⊤ Refusal). (start_panel (start_answer v)).number) j);
+          words = sym (ap (λ (v : Result ⊤ Refusal). start_left v blank stakes own genesis) j);
         };
         calls = run_calls _ _ is none;
       }

@@ -1,7 +1,6 @@
 -- A LIFE: a start and the calls since, each known by its contract alone, as a statement about what is seen of it. No list of calls is kept: the words,
 -- the told records and what arrived are all that a promise speaks of. Functions of the header and public operations may be mixed.
-use Rattle.std.specs.Prelude.{◌≡◌, List, [], ◌++◌, ℕ, T}
-use Rattle.rulebook.specs.declared.StepAnswer.{StepAnswer}
+use Rattle.std.specs.Prelude.{◌≡◌, List, [], ◌++◌, ℕ, T, Result}
 use Rattle.rulebook.specs.PaperNumbers.{step_panel}
 use Rattle.answers.specs.Face.{Beside, Started, Watched, Stepped, Trayed, Taken}
 use Rattle.safety.specs.Slot.{Test}
@@ -9,6 +8,7 @@ use Rattle.safety.specs.Ring.{FewOthers}
 use Rattle.seen.specs.Seen.{Seen, NodeSeen, WatcherSeen, Earlier}
 use Rattle.seen.specs.Ring.{Lives, Nodes}
 use Rattle.calls.specs.Operation.{Operation, one_input, a_tray, a_packet, fed_by, first_records}
+use Rattle.rulebook.specs.declared.Refusal.{Refusal}
 
 -- ---- calls
 
@@ -20,7 +20,7 @@ Met (a_tray votes places answers) ws lent number made words left = Trayed ws len
 Met (a_packet packet) ws lent number made words left = Taken ws lent packet number made words left
 
 -- The same of an answer of the public operations, by its number and by as many records as it made.
-abbrev pub MetWith : Operation → (ws lent : List ℕ) → StepAnswer → (words left : List ℕ) → Type 0
+abbrev pub MetWith : Operation → (ws lent : List ℕ) → Result ℕ Refusal → (words left : List ℕ) → Type 0
 MetWith o ws lent answer words left = (made : ℕ) → Beside made (step_panel answer).values → Met o ws lent (step_panel answer).number made words left
 
 -- What is seen after a start.

@@ -1,4 +1,5 @@
 -- The ways through the question for a card: 17, 3, and the card, which is the recount of the slot's stored votes. Assumes nothing.
+use Rattle.std.specs.Prelude.{Ok, Err}
 use mathlib.Core.Path.{◌≡◌, ap, ◌∙◌}
 use mathlib.Core.Bool.{true, false}
 use mathlib.Core.List.{List}
@@ -14,7 +15,6 @@ use Rattle.rule_laws.proofs.ToolLaws.{given_on, given_off, and_both}
 use Rattle.record.specs.Layout.{ledger_of, InSlot}
 use Rattle.soundness.specs.Sound.{sound_words}
 use Rattle.soundness.proofs.Laws.{sound_long, sound_cards}
-use Rattle.cards.specs.declared.CardAnswer.TheVariants as answer
 use Rattle.cards.specs.Asked.{card_on}
 
 -- One of the slots 1 to 16.
@@ -25,26 +25,26 @@ slot_range s e =
     (leb-true 1 s h.0, leb-true s last_slot h.1)
 
 module _ (ws : List ℕ) (s : ℕ) where
-  pub unsound_card : sound_words ws ≡ false → card_on ws s ≡ answer.Refused refusal.BadRecord
+  pub unsound_card : sound_words ws ≡ false → card_on ws s ≡ Err refusal.BadRecord
   unfolding card_on
-  unsound_card e = given_off (sound_words ws) (answer.Refused refusal.BadRecord) _ e
+  unsound_card e = given_off (sound_words ws) (Err refusal.BadRecord) _ e
 
   module _ (e : sound_words ws ≡ true) where
-    pub slotless_card : slot_ok s ≡ false → card_on ws s ≡ answer.Refused refusal.BadSlot
+    pub slotless_card : slot_ok s ≡ false → card_on ws s ≡ Err refusal.BadSlot
     unfolding card_on
     slotless_card q =
-        given_on (sound_words ws) (answer.Refused refusal.BadRecord) _ e ∙ given_off (slot_ok s) (answer.Refused refusal.BadSlot) _ q
+        given_on (sound_words ws) (Err refusal.BadRecord) _ e ∙ given_off (slot_ok s) (Err refusal.BadSlot) _ q
 
     module _ (q : slot_ok s ≡ true) where
-      pub card_there : card_on ws s ≡ answer.Card (row_at (ledger_of ws) s).card
+      pub card_there : card_on ws s ≡ Ok (row_at (ledger_of ws) s).card
       unfolding card_on
       card_there =
-          given_on (sound_words ws) (answer.Refused refusal.BadRecord) _ e ∙ given_on (slot_ok s) (answer.Refused refusal.BadSlot) _ q
+          given_on (sound_words ws) (Err refusal.BadRecord) _ e ∙ given_on (slot_ok s) (Err refusal.BadSlot) _ q
 
       -- The record is long enough for the slot's row.
       pub card_placed : InSlot ws s
       card_placed = record { long = sound_long ws e; slot = omega (arith, (slot_range s q).1) }
 
       -- "At every moment it equals what a recount of the stored votes gives": so does the answer.
-      pub card_recounted : card_on ws s ≡ answer.Card (recount (ledger_of ws) s)
-      card_recounted = card_there ∙ ap answer.Card (sound_cards ws e s (slot_range s q).0 (slot_range s q).1)
+      pub card_recounted : card_on ws s ≡ Ok (recount (ledger_of ws) s)
+      card_recounted = card_there ∙ ap Ok (sound_cards ws e s (slot_range s q).0 (slot_range s q).1)

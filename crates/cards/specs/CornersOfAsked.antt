@@ -1,17 +1,17 @@
 -- Computed cases of the question for a card: which of its five words is which, which slot's it is, 17 before 3, zeros beside a refusal.
-use Rattle.std.specs.Prelude.{◌≡◌, true, false, List, [], ◌∷◌, ℕ, T}
+use Rattle.std.specs.Prelude.{◌≡◌, true, false, List, [], ◌∷◌, ℕ, T, Result, Ok, Err}
 use Rattle.rulebook.specs.declared.Refusal.TheVariants as refusal
 use Rattle.rulebook.specs.Ledger.{Ledger, card_of, fresh}
 use Rattle.rulebook.specs.Scripts.{vote, stored, equals}
 use Rattle.rulebook.specs.Computes.{rules}
 use Rattle.record.specs.Layout.{ledger_of}
 use Rattle.soundness.specs.Sound.{sound_words}
-use Rattle.cards.specs.declared.CardAnswer.{CardAnswer}
-use Rattle.cards.specs.declared.CardAnswer.TheVariants as answer
 use Rattle.cards.specs.Asked.{card_on, card_panel}
+use Rattle.rulebook.specs.declared.Refusal.{Refusal}
+use Rattle.rulebook.specs.declared.Tally.{Tally}
 
 -- An answer's number and the values beside it, and what each slot of a list is answered with.
-abbrev shown : CardAnswer → List ℕ
+abbrev shown : Result Tally Refusal → List ℕ
 shown a = let p = card_panel a in p.number ∷ p.values
 
 abbrev asked : List ℕ → List ℕ → List (List ℕ)
@@ -34,6 +34,6 @@ unfolding rules card_on card_panel
 card_of_none ws unsound = rw unsound tt
 
 -- The panel of a card by itself, and of both refusals.
-card_panels : T (equals (shown (answer.Card (card_of 11 12 13 14 15)) ∷ shown (answer.Refused refusal.BadRecord) ∷ shown (answer.Refused refusal.BadSlot) ∷ []) ((0 ∷ 11 ∷ 12 ∷ 13 ∷ 14 ∷ 15 ∷ []) ∷ (17 ∷ 0 ∷ 0 ∷ 0 ∷ 0 ∷ 0 ∷ []) ∷ (3 ∷ 0 ∷ 0 ∷ 0 ∷ 0 ∷ 0 ∷ []) ∷ []))
+card_panels : T (equals (shown (Ok (card_of 11 12 13 14 15)) ∷ shown (Err refusal.BadRecord) ∷ shown (Err refusal.BadSlot) ∷ []) ((0 ∷ 11 ∷ 12 ∷ 13 ∷ 14 ∷ 15 ∷ []) ∷ (17 ∷ 0 ∷ 0 ∷ 0 ∷ 0 ∷ 0 ∷ []) ∷ (3 ∷ 0 ∷ 0 ∷ 0 ∷ 0 ∷ 0 ∷ []) ∷ []))
 unfolding rules card_panel
 card_panels = tt

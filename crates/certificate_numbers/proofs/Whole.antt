@@ -1,4 +1,5 @@
 -- A certificate is its heading and then its two masks. Assumes nothing.
+use Rattle.std.specs.Prelude.{Result, Ok, Err}
 use mathlib.Core.Path.{◌≡◌, refl, sym, ap, ap₂, ◌∙◌}
 use mathlib.Core.List.{List, [], ◌∷◌, ◌++◌}
 use mathlib.Core.Logic.{inl, inr}
@@ -9,14 +10,8 @@ use denote.Enum.Declared.{tag_of}
 use lib.ListN.{length, take, drop, length-append, length-drop}
 use lib.Seq.{take_at, length-take-le}
 use Rattle.rulebook.specs.declared.Heading.{Heading}
-use Rattle.rulebook.specs.declared.Reading.{Reading}
-use Rattle.rulebook.specs.declared.Reading.TheVariants as reading
-use Rattle.rulebook.specs.declared.Laid.{Laid}
 use Rattle.rulebook.specs.contracts.Laid as laid-type
-use Rattle.rulebook.specs.declared.Laid.TheVariants as laid
-use Rattle.rulebook.specs.declared.Found.{Found}
 use Rattle.rulebook.specs.contracts.Found as found_type
-use Rattle.rulebook.specs.declared.Found.TheVariants as answer
 use Rattle.rulebook.specs.Certificates as found
 use Rattle.rulebook.specs.Packets.{number_at, mask_at, and_then, joined, words_in, certificate_at}
 use Rattle.rule_laws.proofs.KindLaws.{words_most}
@@ -24,6 +19,8 @@ use Rattle.mask_words.specs.Told.{laid_as}
 use Rattle.certificate_numbers.specs.Failed.{failed_mask}
 use Rattle.certificate_numbers.specs.Told.{most_words, found_as, head_then, heading_at}
 use Rattle.certificate_numbers.proofs.Fell.{fell_mask}
+use Rattle.rulebook.specs.declared.Unread.{Unread}
+use Rattle.rulebook.specs.declared.Unread.TheVariants.{Early, Malformed}
 
 -- The two masks after a heading.
 abbrev whole_of : Heading → ℕ → ℕ → ℕ → found.Found
@@ -35,18 +32,18 @@ second_after bytes h maska q = and_then (mask_at (words_in h.kind) bytes q) (who
 abbrev masks_after : List ℕ → Heading → ℕ → found.Found
 masks_after bytes h p = and_then (mask_at (words_in h.kind) bytes p) (second_after bytes h)
 
-with_masks : List ℕ → Found → found.Found
-with_masks bytes (answer.Whole h p) = masks_after bytes h p
-with_masks bytes answer.Early = found.Early
-with_masks bytes answer.Malformed = found.Malformed
+with_masks : List ℕ → Result (Heading × ℕ) Unread → found.Found
+with_masks bytes (Ok (h, p)) = masks_after bytes h p
+with_masks bytes (Err Early) = found.Early
+with_masks bytes (Err Malformed) = found.Malformed
 
 -- One number more of the heading.
-head_then_lem : (bytes : List ℕ) (r : Reading) (f : ℕ → ℕ → found.Found) (g : ℕ → ℕ → Found) → ((v p : ℕ) → f v p ≡ with_masks bytes (g v p))
+head_then_lem : (bytes : List ℕ) (r : Result (ℕ × ℕ) Unread) (f : ℕ → ℕ → found.Found) (g : ℕ → ℕ → Result (Heading × ℕ) Unread) → ((v p : ℕ) → f v p ≡ with_masks bytes (g v p))
     → and_then r f ≡ with_masks bytes (head_then r g)
 unfolding and_then head_then with_masks
-head_then_lem bytes (reading.Number v p) f g h = h v p
-head_then_lem bytes reading.Early f g h = refl
-head_then_lem bytes reading.Malformed f g h = refl
+head_then_lem bytes (Ok (v, p)) f g h = h v p
+head_then_lem bytes (Err Early) f g h = refl
+head_then_lem bytes (Err Malformed) f g h = refl
 
 heading_then : (bytes : List ℕ) (at : ℕ) → certificate_at bytes at ≡ with_masks bytes (heading_at bytes at)
 unfolding certificate_at heading_at with_masks
@@ -57,44 +54,44 @@ heading_then bytes at =
 
 module _ (bytes : List ℕ) (at : ℕ) where
   -- The heading could not be read.
-  pub heading_fell : (h : Found) (a b : List ℕ) → OneOf (1 ∷ 2 ∷ []) (tag_of found_type.the_type h) → h ≡ heading_at bytes at → found_as h a b ≡ certificate_at bytes at
+  pub heading_fell : (h : Result (Heading × ℕ) Unread) (a b : List ℕ) → OneOf (1 ∷ 2 ∷ []) (tag_of found_type.the_type h) → h ≡ heading_at bytes at → found_as h a b ≡ certificate_at bytes at
   unfolding found_as with_masks
   heading_fell h a b k e = go h k ∙ ap (with_masks bytes) e ∙ sym (heading_then bytes at)
     where
-      go : (h : Found) → OneOf (1 ∷ 2 ∷ []) (tag_of found_type.the_type h) → found_as h a b ≡ with_masks bytes h
-      go (answer.Whole c p) (inl z) = absurd (omega arith)
-      go (answer.Whole c p) (inr z) = absurd (omega arith)
-      go answer.Early k = refl
-      go answer.Malformed k = refl
+      go : (h : Result (Heading × ℕ) Unread) → OneOf (1 ∷ 2 ∷ []) (tag_of found_type.the_type h) → found_as h a b ≡ with_masks bytes h
+      go (Ok (c, p)) (inl z) = absurd (omega arith)
+      go (Ok (c, p)) (inr z) = absurd (omega arith)
+      go (Err Early) k = refl
+      go (Err Malformed) k = refl
 
-  module _ (h : Heading) (p w : ℕ) (e : heading_at bytes at ≡ answer.Whole h p) (ew : w ≡ words_in h.kind) where
+  module _ (h : Heading) (p w : ℕ) (e : heading_at bytes at ≡ Ok (h, p)) (ew : w ≡ words_in h.kind) where
     after_heading : masks_after bytes h p ≡ certificate_at bytes at
     unfolding with_masks
     after_heading = sym (heading_then bytes at ∙ ap (with_masks bytes) e)
 
     -- Mask A could not be read.
-    pub first_fell : (l : Laid) (x : ℕ) (a b : List ℕ) → OneOf (1 ∷ 2 ∷ []) (tag_of laid-type.the_type l) → laid_as l x ≡ mask_at w bytes p
+    pub first_fell : (l : Result ℕ Unread) (x : ℕ) (a b : List ℕ) → OneOf (1 ∷ 2 ∷ []) (tag_of laid-type.the_type l) → laid_as l x ≡ mask_at w bytes p
         → found_as (failed_mask l) a b ≡ certificate_at bytes at
     first_fell l x a b k m = fell_mask l (mask_at (words_in h.kind) bytes p) _ x a b k (m ∙ ap (λ (n : ℕ). mask_at n bytes p) ew) ∙ after_heading
 
-    module _ (q x : ℕ) (m : laid_as (laid.Upto q) x ≡ mask_at w bytes p) where
+    module _ (q x : ℕ) (m : laid_as (Ok q) x ≡ mask_at w bytes p) where
       after_first : second_after bytes h x q ≡ certificate_at bytes at
       unfolding laid_as and_then
-      after_first = ap (λ (r : Reading). and_then r (second_after bytes h)) (m ∙ ap (λ (n : ℕ). mask_at n bytes p) ew) ∙ after_heading
+      after_first = ap (λ (r : Result (ℕ × ℕ) Unread). and_then r (second_after bytes h)) (m ∙ ap (λ (n : ℕ). mask_at n bytes p) ew) ∙ after_heading
 
       -- Mask B could not be read.
-      pub second_fell : (l : Laid) (y : ℕ) (a b : List ℕ) → OneOf (1 ∷ 2 ∷ []) (tag_of laid-type.the_type l) → laid_as l y ≡ mask_at w bytes q
+      pub second_fell : (l : Result ℕ Unread) (y : ℕ) (a b : List ℕ) → OneOf (1 ∷ 2 ∷ []) (tag_of laid-type.the_type l) → laid_as l y ≡ mask_at w bytes q
           → found_as (failed_mask l) a b ≡ certificate_at bytes at
       second_fell l y a b k n = fell_mask l (mask_at (words_in h.kind) bytes q) _ y a b k (n ∙ ap (λ (i : ℕ). mask_at i bytes q) ew) ∙ after_first
 
       -- All is read: the masks stand at the front of the lent words.
-      pub all_read : (next y : ℕ) (xs ys a b : List ℕ) → laid_as (laid.Upto next) y ≡ mask_at w bytes q → x ≡ joined xs → y ≡ joined ys → length xs ≡ w → length ys ≡ w
-          → found_as (answer.Whole h next) (xs ++ a) (ys ++ b) ≡ certificate_at bytes at
+      pub all_read : (next y : ℕ) (xs ys a b : List ℕ) → laid_as (Ok next) y ≡ mask_at w bytes q → x ≡ joined xs → y ≡ joined ys → length xs ≡ w → length ys ≡ w
+          → found_as (Ok (h, next)) (xs ++ a) (ys ++ b) ≡ certificate_at bytes at
       unfolding found_as laid_as and_then
       all_read next y xs ys a b n ex ey lx ly =
           ap₂ (λ (u v : ℕ). found.Whole (record { kind = h.kind; slot = h.slot.0; block = h.block; maska = u; maskb = v }) next)
           (ap joined (take_at xs a (words_in h.kind) (lx ∙ ew)) ∙ sym ex) (ap joined (take_at ys b (words_in h.kind) (ly ∙ ew)) ∙ sym ey)
-          ∙ ap (λ (r : Reading). and_then r (whole_of h x)) (n ∙ ap (λ (i : ℕ). mask_at i bytes q) ew)
+          ∙ ap (λ (r : Result (ℕ × ℕ) Unread). and_then r (whole_of h x)) (n ∙ ap (λ (i : ℕ). mask_at i bytes q) ew)
           ∙ after_first
 
 -- Every kind has its words among those that are lent.
@@ -105,7 +102,7 @@ pub lent_enough : (lent : List ℕ) (w k : ℕ) → length lent ≡ most_words �
 lent_enough lent w k l e = omega (arith, words_few w k e)
 
 -- What was read into a part of w words.
-pub part_read : (bytes : List ℕ) (p w : ℕ) (a : List ℕ) (r : Reading) → w ≤ length a → r ≡ mask_at (length (take w a)) bytes p → r ≡ mask_at w bytes p
+pub part_read : (bytes : List ℕ) (p w : ℕ) (a : List ℕ) (r : Result (ℕ × ℕ) Unread) → w ≤ length a → r ≡ mask_at (length (take w a)) bytes p → r ≡ mask_at w bytes p
 part_read bytes p w a r h e = e ∙ ap (λ (n : ℕ). mask_at n bytes p) (length-take-le w a h)
 
 -- A part of w words that was changed and given back.

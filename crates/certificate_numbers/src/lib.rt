@@ -9,7 +9,7 @@ ghost use Rattle.numbers.specs.Written.{Room, Written};
 
 use mask_words::{read_mask, write_mask};
 use numbers::{take_number, write_number};
-use rulebook::{Found, Heading, Laid, Reading, Slot};
+use rulebook::{Unread, Heading, Slot};
 
 // The words to lend for a mask of any kind: room for 2,048 nodes.
 pub const MOST_WORDS: usize = 32;
@@ -25,66 +25,66 @@ pub fn words_in(kind: u64) -> usize
 }
 
 // What a number that could not be read makes of the certificate.
-fn failed(n: Reading) -> Found
+fn failed(n: Result<(u64, usize), Unread>) -> Result<(Heading, usize), Unread>
     ensures { result ≡ failed_of n }
 {
     match n {
-        Reading::Early => Found::Early,
-        Reading::Malformed => Found::Malformed,
-        Reading::Number(_, _) => Found::Malformed,
+        Err(Unread::Early) => Err(Unread::Early),
+        Err(Unread::Malformed) => Err(Unread::Malformed),
+        Ok(_) => Err(Unread::Malformed),
     }
 }
 
 // The same for a mask.
-fn failed_mask(m: Laid) -> Found
+fn failed_mask(m: Result<usize, Unread>) -> Result<(Heading, usize), Unread>
     ensures { result ≡ failed_mask m }
 {
     match m {
-        Laid::Early => Found::Early,
-        Laid::Malformed => Found::Malformed,
-        Laid::Upto(_) => Found::Malformed,
+        Err(Unread::Early) => Err(Unread::Early),
+        Err(Unread::Malformed) => Err(Unread::Malformed),
+        Ok(_) => Err(Unread::Malformed),
     }
 }
 
 // The kind, slot and block at a place: the first that cannot be read decides.
-fn read_heading(bytes: &[u8], at: usize) -> Found
+fn read_heading(bytes: &[u8], at: usize) -> Result<(Heading, usize), Unread>
     ensures { result ≡ heading_at bytes.now at }
 {
     let n1 = take_number(bytes, at);
-    let Reading::Number(kind, p) = n1 else {
+    let Ok((kind, p)) = n1 else {
         return failed(n1);
     };
     let n2 = take_number(bytes, p);
-    let Reading::Number(number, q) = n2 else {
+    let Ok((number, q)) = n2 else {
         return failed(n2);
     };
     let slot = Slot(number as usize);
     let n3 = take_number(bytes, q);
-    let Reading::Number(block, next) = n3 else {
+    let Ok((block, next)) = n3 else {
         return failed(n3);
     };
-    Found::Whole(Heading { kind, slot, block }, next)
+    Ok((Heading { kind, slot, block }, next))
 }
 
 // The certificate at a place: its heading, and then its masks at the front of lent words, as many as its kind says.
-pub fn read_certificate(bytes: &[u8], at: usize, a: &mut [u64], b: &mut [u64]) -> Found
+pub fn read_certificate(bytes: &[u8], at: usize, a: &mut [u64], b: &mut [u64]) -> Result<(Heading, usize), Unread>
     requires { Scratch a.old b.old }
     ensures { found_as result a.new b.new ≡ certificate_at bytes.now at }
 {
     let h = read_heading(bytes, at);
-    let Found::Whole(c, p) = h else {
+    let Ok((c, p)) = h else {
         return h;
     };
     let words = words_in(c.kind);
     let m1 = read_mask(bytes, p, &mut a[..words]);
-    let Laid::Upto(q) = m1 else {
+    let Ok(q) = m1 else {
         return failed_mask(m1);
     };
     let m2 = read_mask(bytes, q, &mut b[..words]);
-    let Laid::Upto(next) = m2 else {
+    let Ok(next) = m2 else {
         return failed_mask(m2);
     };
-    Found::Whole(c, next)
+    Ok((c, next))
 }
 
 // Writes a certificate's heading and the words of its masks from a place on and answers the place after them.

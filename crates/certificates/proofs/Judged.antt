@@ -1,4 +1,5 @@
 -- Laws of one certificate: what was weighed of it, and what is told of it against the rule book. Assumes nothing.
+use Rattle.std.specs.Prelude.{⊤, Result, Ok, Err}
 use mathlib.Core.Path.{◌≡◌, refl, sym, ap, ap₂, ◌∙◌}
 use mathlib.Core.Bool.{Bool, true, false, not, ◌&&◌, ◌||◌}
 use mathlib.Core.List.{List}
@@ -7,8 +8,6 @@ use native.Mathlib.Omega.{arith}
 use lib.ListN.{length, take}
 use lib.Dec.{eqb, leb}
 use borrow.Author.Tests.{le-leb, ne_eqb, eqb-true, eqb-false}
-use Rattle.rulebook.specs.declared.Found.{Found}
-use Rattle.rulebook.specs.declared.Found.TheVariants as answer
 use Rattle.rulebook.specs.declared.Heading.{Heading}
 use Rattle.rulebook.specs.Certificates.{Certificate}
 use Rattle.rulebook.specs.Certificates as found
@@ -16,8 +15,6 @@ use Rattle.rulebook.specs.declared.CertificateKind.{CertificateKind}
 use Rattle.rulebook.specs.declared.CertificateKind.TheVariants as certificate
 use Rattle.rulebook.specs.declared.Refusal.{Refusal}
 use Rattle.rulebook.specs.declared.Refusal.TheVariants as refusal
-use Rattle.rulebook.specs.declared.Verdict.{Verdict}
-use Rattle.rulebook.specs.declared.Verdict.TheVariants as verdict
 use Rattle.rulebook.specs.declared.Weight.{Weight}
 use Rattle.rulebook.specs.Weights.{slot_ok, total_to, reaches, missing}
 use Rattle.rulebook.specs.PaperNumbers.{kind_in}
@@ -34,9 +31,10 @@ use Rattle.certificate_numbers.specs.Told.{Masks, found_as}
 use Rattle.stakes.specs.declared.LentTable.{LentTable}
 use Rattle.stakes.specs.declared.Weighed.{Weighed}
 use Rattle.stakes.specs.Table.{Fit, weighed}
-use Rattle.certificates.specs.declared.Checked.{Checked}
-use Rattle.certificates.specs.declared.Checked.TheVariants as checked
 use Rattle.certificates.specs.Told.{Wide, told, told_of, fault_of, unless, weighed_in}
+use Rattle.rulebook.specs.declared.Accepted.{Accepted}
+use Rattle.rulebook.specs.declared.Unread.{Unread}
+use Rattle.rulebook.specs.declared.Unread.TheVariants.{Early, Malformed}
 
 -- No kind needs more than five fifths.
 pub fifths_le : (k : CertificateKind) → fifths_of k ≤ 5
@@ -53,12 +51,12 @@ fifths_le certificate.Other = omega arith
 -- 15, and what is told else.
 pub too_light_lem : (ws : List ℕ) (k : CertificateKind) (c : Certificate) (next : ℕ)
     → reaches (fifths_of k) (total_to ws (length ws)) (signed_weight ws c) ≡ false → (m : Weight) → m.0 ≡ lacking ws k c
-    → checked.Bad (refusal.TooLight m) ≡ weighed_in ws k c next
+    → Err (refusal.TooLight m) ≡ weighed_in ws k c next
 unfolding weighed_in judge_weight refuse_if judged told
-too_light_lem ws k c next e m f = rw e (ap (λ (x : ℕ). checked.Bad (refusal.TooLight (record { 0 = x }))) f)
+too_light_lem ws k c next e m f = rw e (ap (λ (x : ℕ). Err (refusal.TooLight (record { 0 = x }))) f)
 
 pub heavy_enough : (ws : List ℕ) (k : CertificateKind) (c : Certificate) (next : ℕ)
-    → reaches (fifths_of k) (total_to ws (length ws)) (signed_weight ws c) ≡ true → weighed_in ws k c next ≡ checked.Good (accepted_of ws c) next
+    → reaches (fifths_of k) (total_to ws (length ws)) (signed_weight ws c) ≡ true → weighed_in ws k c next ≡ Ok (accepted_of ws c, next)
 unfolding weighed_in judge_weight refuse_if judged told
 heavy_enough ws k c next e = rw e
 
@@ -93,11 +91,11 @@ lacks_none ws k c m e z = none_missing (fifths_of k) (total_to ws (length ws)) (
 pub weighed_told : (ws : List ℕ) (k : CertificateKind) (c : Certificate) → k ≡ kind_in (length ws) c.kind → (w : Weighed)
     → w ≡ weighed ws (length ws) (λ n. bit c.maska n || bit c.maskb n) → (next : ℕ)
     → reaches (fifths_of k) (total_to ws (length ws)) (signed_weight ws c) ≡ true
-    → checked.Good (record { kind = k; slot = record { 0 = c.slot }; block = c.block; signers = w.signers; weight = w.weight }) next ≡ weighed_in ws k c next
+    → Ok (record { kind = k; slot = record { 0 = c.slot }; block = c.block; signers = w.signers; weight = w.weight }, next) ≡ weighed_in ws k c next
 unfolding accepted_of
 weighed_told ws k c e w q next r =
     ap₂ (λ (x : CertificateKind) (y : Weighed).
-    checked.Good (record { kind = x; slot = record { 0 = c.slot }; block = c.block; signers = y.signers; weight = y.weight }) next)
+    Ok (record { kind = x; slot = record { 0 = c.slot }; block = c.block; signers = y.signers; weight = y.weight }, next))
     e (weighed_signed ws c w q)
     ∙ sym (heavy_enough ws k c next r)
 
@@ -109,12 +107,12 @@ kind_heard ws t f k n e = e ∙ ap (λ (x : ℕ). kind_in x n) f.count
 
 -- A kind that is none of the table's five.
 pub other_kind : (ws : List ℕ) (k : CertificateKind) (c : Certificate) (next : ℕ) → k ≡ kind_in (length ws) c.kind → is_other_kind k ≡ true
-    → checked.Bad refusal.BadKind ≡ told_of ws c next
+    → Err refusal.BadKind ≡ told_of ws c next
 unfolding told_of judge judge_kind refuse_if judged told
 other_kind ws k c next e o = rw (ap is_other_kind (sym e) ∙ o)
 
 -- The later tests, and the weighing last.
-fault_then : (ws : List ℕ) (c : Certificate) (next : ℕ) (b d f : Bool) (last : Verdict)
+fault_then : (ws : List ℕ) (c : Certificate) (next : ℕ) (b d f : Bool) (last : Result ⊤ Refusal)
     → told ws (judged (refuse_if b refusal.BadSlot (refuse_if d refusal.BadBlock (refuse_if f refusal.BadSigners last))) c next)
     ≡ unless (fault_of b d f) (told ws (judged last c next))
 unfolding fault_of unless refuse_if judged told
@@ -123,19 +121,19 @@ fault_then ws c next false true f last = refl
 fault_then ws c next false false true last = refl
 fault_then ws c next false false false last = refl
 
-pub unless_fine : (v : Verdict) (x : Checked) → v ≡ verdict.Fine → unless v x ≡ x
+pub unless_fine : (v : Result ⊤ Refusal) (x : Result (Accepted × ℕ) Refusal) → v ≡ Ok tt → unless v x ≡ x
 unfolding unless
 unless_fine v x e = rw e
 
-pub unless_refused : (v : Verdict) (x : Checked) (r : Refusal) → v ≡ verdict.Refused r → unless v x ≡ checked.Bad r
+pub unless_refused : (v : Result ⊤ Refusal) (x : Result (Accepted × ℕ) Refusal) (r : Refusal) → v ≡ Err r → unless v x ≡ Err r
 unfolding unless
 unless_refused v x r e = rw e
 
-pub fault_same : (b d f y z w : Bool) → b ≡ y → d ≡ z → f ≡ w → (v : Verdict) → v ≡ fault_of (not b) d f → v ≡ fault_of (not y) z w
+pub fault_same : (b d f y z w : Bool) → b ≡ y → d ≡ z → f ≡ w → (v : Result ⊤ Refusal) → v ≡ fault_of (not b) d f → v ≡ fault_of (not y) z w
 fault_same b d f y z w q r s v e = e ∙ rw (q, r, s)
 
 pub judge_is : (ws : List ℕ) (t : LentTable) → Fit ws t → (k : CertificateKind) (c : Certificate) (next : ℕ) → k ≡ kind_in (length ws) c.kind → is_other_kind k ≡ false
-    → (v : Verdict) → v ≡ fault_of (not (slot_ok c.slot)) (block_misfits k c.block) (bad_signers t.count k c)
+    → (v : Result ⊤ Refusal) → v ≡ fault_of (not (slot_ok c.slot)) (block_misfits k c.block) (bad_signers t.count k c)
     → told_of ws c next ≡ unless v (weighed_in ws k c next)
 unfolding told_of judge judge_kind refuse_if weighed_in
 judge_is ws t f k c next e o v h =
@@ -143,10 +141,10 @@ judge_is ws t f k c next e o v h =
     ap (λ (x : CertificateKind). told ws (judged (judge_kind ws x c) c next)) (sym e)
     ∙ ap (λ (x : Bool). told ws (judged (refuse_if x refusal.BadKind (later_tests last)) c next)) o
     ∙ fault_then ws c next (not (slot_ok c.slot)) (block_misfits k c.block) (bad_signers (length ws) k c) last
-    ∙ ap (λ (x : Verdict). unless x (told ws (judged last c next)))
+    ∙ ap (λ (x : Result ⊤ Refusal). unless x (told ws (judged last c next)))
     (ap (λ (n : ℕ). fault_of (not (slot_ok c.slot)) (block_misfits k c.block) (bad_signers n k c)) (sym f.count) ∙ sym h)
   where
-    later_tests : Verdict → Verdict
+    later_tests : Result ⊤ Refusal → Result ⊤ Refusal
     later_tests last = refuse_if (not (slot_ok c.slot)) refusal.BadSlot (refuse_if (block_misfits k c.block) refusal.BadBlock (refuse_if (bad_signers (length ws) k c) refusal.BadSigners last))
 
 -- ---- a certificate that a record keeps
@@ -163,7 +161,7 @@ module _ (ws : List ℕ) (t : LentTable) (f : Fit ws t) (k : CertificateKind) (c
   masks_is : b ≡ bad_signers (length ws) k c
   masks_is = masks ∙ ap (λ (n : ℕ). bad_signers n k c) f.count
 
-  in_order : (x y z : Bool) (v : Verdict) → is_fine (refuse_if x refusal.BadKind (refuse_if false refusal.BadSlot (refuse_if y refusal.BadBlock (refuse_if z refusal.BadSigners v)))) ≡ (not (x || (y || z)) && is_fine v)
+  in_order : (x y z : Bool) (v : Result ⊤ Refusal) → is_fine (refuse_if x refusal.BadKind (refuse_if false refusal.BadSlot (refuse_if y refusal.BadBlock (refuse_if z refusal.BadSigners v)))) ≡ (not (x || (y || z)) && is_fine v)
   unfolding refuse_if is_fine
   in_order true y z v = refl
   in_order false true z v = refl
@@ -200,18 +198,18 @@ some_named_lem (suc m) = le-leb 1 (suc m) (omega arith) ∙ sym (ap not (ne_eqb 
 
 -- ---- what was found
 
-module _ (ws x y : List ℕ) (f : Found) (c : found.Found) (e : found_as f x y ≡ c) where
-  pub found_early : f ≡ answer.Early → checked.Bad refusal.BadLength ≡ told ws (one_of ws c)
+module _ (ws x y : List ℕ) (f : Result (Heading × ℕ) Unread) (c : found.Found) (e : found_as f x y ≡ c) where
+  pub found_early : f ≡ Err Early → Err refusal.BadLength ≡ told ws (one_of ws c)
   unfolding found_as one_of told
-  found_early q = ap (λ (z : Found). told ws (one_of ws (found_as z x y))) (sym q) ∙ ap (λ (z : found.Found). told ws (one_of ws z)) e
+  found_early q = ap (λ (z : Result (Heading × ℕ) Unread). told ws (one_of ws (found_as z x y))) (sym q) ∙ ap (λ (z : found.Found). told ws (one_of ws z)) e
 
-  pub found_malformed : f ≡ answer.Malformed → checked.Bad refusal.BadNumber ≡ told ws (one_of ws c)
+  pub found_malformed : f ≡ Err Malformed → Err refusal.BadNumber ≡ told ws (one_of ws c)
   unfolding found_as one_of told
-  found_malformed q = ap (λ (z : Found). told ws (one_of ws (found_as z x y))) (sym q) ∙ ap (λ (z : found.Found). told ws (one_of ws z)) e
+  found_malformed q = ap (λ (z : Result (Heading × ℕ) Unread). told ws (one_of ws (found_as z x y))) (sym q) ∙ ap (λ (z : found.Found). told ws (one_of ws z)) e
 
-  pub found_whole : (h : Heading) (next w : ℕ) → f ≡ answer.Whole h next → w ≡ words_in h.kind
+  pub found_whole : (h : Heading) (next w : ℕ) → f ≡ Ok (h, next) → w ≡ words_in h.kind
       → told_of ws (certificate_of h (take w x) (take w y)) next ≡ told ws (one_of ws c)
   unfolding found_as one_of told_of
   found_whole h next w q ew =
       ap (λ (n : ℕ). told_of ws (certificate_of h (take n x) (take n y)) next) ew
-      ∙ ap (λ (z : Found). told ws (one_of ws (found_as z x y))) (sym q) ∙ ap (λ (z : found.Found). told ws (one_of ws z)) e
+      ∙ ap (λ (z : Result (Heading × ℕ) Unread). told ws (one_of ws (found_as z x y))) (sym q) ∙ ap (λ (z : found.Found). told ws (one_of ws z)) e

@@ -1,19 +1,17 @@
 -- What is told of one certificate on lent stakes.
-use Rattle.std.specs.Prelude.{◌≡◌, Bool, true, List, ℕ, ◌*◌, ◌≤◌, length}
+use Rattle.std.specs.Prelude.{◌≡◌, Bool, true, List, ℕ, ◌*◌, ◌≤◌, length, ⊤, Result, Ok, Err}
 use Rattle.rulebook.specs.declared.Heading.{Heading}
 use Rattle.rulebook.specs.Certificates.{Certificate}
 use Rattle.rulebook.specs.declared.CertificateKind.{CertificateKind}
 use Rattle.rulebook.specs.declared.Refusal.TheVariants as refusal
-use Rattle.rulebook.specs.declared.Verdict.{Verdict}
-use Rattle.rulebook.specs.declared.Verdict.TheVariants as verdict
 use Rattle.rulebook.specs.Weights.{slot_ok}
 use Rattle.rulebook.specs.PaperNumbers.{kind_in}
 use Rattle.rulebook.specs.Inputs.{refuse_if}
 use Rattle.rulebook.specs.Checker.{One, good, bad, judge_weight, judge, accepted_of, judged}
 use Rattle.stakes.specs.declared.LentTable.{LentTable}
 use Rattle.stakes.specs.Table.{Fit}
-use Rattle.certificates.specs.declared.Checked.{Checked}
-use Rattle.certificates.specs.declared.Checked.TheVariants as checked
+use Rattle.rulebook.specs.declared.Accepted.{Accepted}
+use Rattle.rulebook.specs.declared.Refusal.{Refusal}
 
 -- Masks of as many words, with a bit for each of so many nodes.
 pub record Wide (count : ℕ) (a b : List ℕ) : Type 0 where
@@ -41,23 +39,23 @@ abbrev pub headed : ℕ → ℕ → Heading
 headed s block = record { kind = 0; slot = record { 0 = s }; block = block }
 
 -- What is told of one certificate.
-unfoldable pub told : List ℕ → One → Checked
-told stakes (good c next) = checked.Good (accepted_of stakes c) next
-told stakes (bad r) = checked.Bad r
+unfoldable pub told : List ℕ → One → Result (Accepted × ℕ) Refusal
+told stakes (good c next) = Ok (accepted_of stakes c, next)
+told stakes (bad r) = Err r
 
-unfoldable pub told_of : List ℕ → Certificate → ℕ → Checked
+unfoldable pub told_of : List ℕ → Certificate → ℕ → Result (Accepted × ℕ) Refusal
 told_of stakes c next = told stakes (judged (judge stakes c) c next)
 
 -- The first of 3, 5, 14 that stands.
-unfoldable pub fault_of : Bool → Bool → Bool → Verdict
+unfoldable pub fault_of : Bool → Bool → Bool → Result ⊤ Refusal
 fault_of badSlot badBlock badMasks =
-    refuse_if badSlot refusal.BadSlot (refuse_if badBlock refusal.BadBlock (refuse_if badMasks refusal.BadSigners verdict.Fine))
+    refuse_if badSlot refusal.BadSlot (refuse_if badBlock refusal.BadBlock (refuse_if badMasks refusal.BadSigners (Ok tt)))
 
 -- A fault decides; else what is found later.
-unfoldable pub unless : Verdict → Checked → Checked
-unless verdict.Fine x = x
-unless (verdict.Refused r) x = checked.Bad r
+unfoldable pub unless : Result ⊤ Refusal → Result (Accepted × ℕ) Refusal → Result (Accepted × ℕ) Refusal
+unless (Ok tt) x = x
+unless (Err r) x = Err r
 
 -- 15, the last test of a certificate.
-unfoldable pub weighed_in : List ℕ → CertificateKind → Certificate → ℕ → Checked
+unfoldable pub weighed_in : List ℕ → CertificateKind → Certificate → ℕ → Result (Accepted × ℕ) Refusal
 weighed_in stakes k c next = told stakes (judged (judge_weight stakes k c) c next)

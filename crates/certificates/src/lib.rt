@@ -12,15 +12,8 @@ ghost use Rattle.certificates.specs.Told.{Wide, Heard, Weighty, Keepable, headed
 
 use certificate_numbers::{MOST_WORDS, read_certificate, words_in};
 use kinds::{block_misfits, is_other, kind_in, slot_ok, threshold_of};
-use rulebook::{Accepted, CertificateKind, Found, Heading, Refusal, Slot, Verdict};
+use rulebook::{Unread, Accepted, CertificateKind, Heading, Refusal, Slot};
 use stakes::LentTable;
-
-// One certificate of a packet: what is told of it with the place after it, or its refusal.
-#[derive(Clone, Copy)]
-pub enum Checked {
-    Good(Accepted, usize),
-    Bad(Refusal),
-}
 
 // Mask B must be 0.
 fn without_b(k: CertificateKind) -> bool
@@ -56,7 +49,7 @@ fn weigh_in(
     a: &[u64],
     b: &[u64],
     next: usize,
-) -> Checked
+) -> Result<(Accepted, usize), Refusal>
     requires { Heard stakes.now t k c a.now b.now }
     ensures { result ≡ weighed_in stakes.now k (certificate_of c a.now b.now) next }
 {
@@ -66,10 +59,10 @@ fn weigh_in(
     let needed = threshold_of(k);
     let missing = needed.missing(weight, total);
     if missing.0 != 0 {
-        return Checked::Bad(Refusal::TooLight(missing));
+        return Err(Refusal::TooLight(missing));
     }
     let slot = c.slot;
-    Checked::Good(
+    Ok((
         Accepted {
             kind: k,
             slot,
@@ -78,46 +71,46 @@ fn weigh_in(
             weight,
         },
         next,
-    )
+    ))
 }
 
 // The first of 3, 5, 14 that stands, where it is found wrong in slot, block or masks.
-fn first_fault(slot: bool, block: bool, masks: bool) -> Verdict
+fn first_fault(slot: bool, block: bool, masks: bool) -> Result<(), Refusal>
     ensures { result ≡ fault_of slot block masks }
 {
     if slot {
-        return Verdict::Refused(Refusal::BadSlot);
+        return Err(Refusal::BadSlot);
     }
     if block {
-        return Verdict::Refused(Refusal::BadBlock);
+        return Err(Refusal::BadBlock);
     }
     if masks {
-        return Verdict::Refused(Refusal::BadSigners);
+        return Err(Refusal::BadSigners);
     }
-    Verdict::Fine
+    Ok(())
 }
 
 // 4, 3, 5, 14, 15, in this order, once the numbers are read; past 4 the masks have words for every node of the table.
-fn judge(stakes: &[u64], t: LentTable, c: Heading, a: &[u64], b: &[u64], next: usize) -> Checked
+fn judge(stakes: &[u64], t: LentTable, c: Heading, a: &[u64], b: &[u64], next: usize) -> Result<(Accepted, usize), Refusal>
     requires { (Fit stakes.now t) × Masks c a.now b.now }
     ensures { result ≡ told_of stakes.now (certificate_of c a.now b.now) next }
 {
     let k = kind_in(t.count, c.kind);
     if is_other(k) {
-        return Checked::Bad(Refusal::BadKind);
+        return Err(Refusal::BadKind);
     }
     let slot = !slot_ok(c.slot);
     let block = block_misfits(k, c.block);
     let masks = bad_signers(t.count, k, a, b);
     let fault = first_fault(slot, block, masks);
     match fault {
-        Verdict::Refused(r) => Checked::Bad(r),
-        Verdict::Fine => weigh_in(stakes, t, k, c, a, b, next),
+        Err(r) => Err(r),
+        Ok(()) => weigh_in(stakes, t, k, c, a, b, next),
     }
 }
 
 // The certificate at a place of the packet, read and judged; its masks stand in words of which as many are lent on as its kind says.
-pub fn one_at(stakes: &[u64], t: LentTable, packet: &[u8], at: usize) -> Checked
+pub fn one_at(stakes: &[u64], t: LentTable, packet: &[u8], at: usize) -> Result<(Accepted, usize), Refusal>
     requires { Fit stakes.now t }
     ensures { result ≡ told stakes.now (one_at stakes.now packet.now at) }
 {
@@ -125,9 +118,9 @@ pub fn one_at(stakes: &[u64], t: LentTable, packet: &[u8], at: usize) -> Checked
     let mut b = [0u64; MOST_WORDS];
     let found = read_certificate(packet, at, &mut a, &mut b);
     match found {
-        Found::Early => Checked::Bad(Refusal::BadLength),
-        Found::Malformed => Checked::Bad(Refusal::BadNumber),
-        Found::Whole(c, next) => {
+        Err(Unread::Early) => Err(Refusal::BadLength),
+        Err(Unread::Malformed) => Err(Refusal::BadNumber),
+        Ok((c, next)) => {
             let words = words_in(c.kind);
             judge(stakes, t, c, &a[..words], &b[..words], next)
         }

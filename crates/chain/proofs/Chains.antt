@@ -1,4 +1,5 @@
 -- The written rules meet the interface of many slots, and so the promises of one chain hold.
+use Rattle.std.specs.Prelude.{Ok}
 use mathlib.Core.Path.{◌≡◌, refl, sym, ◌∙◌, subst}
 use mathlib.Core.Bool.{Bool}
 use mathlib.Core.List.{List}
@@ -8,7 +9,6 @@ use lib.Dec.{T}
 use lib.ListN.{length}
 use Rattle.rulebook.specs.declared.CertificateKind.{CertificateKind}
 use Rattle.rulebook.specs.declared.CertificateKind.TheVariants as certificate
-use Rattle.rulebook.specs.declared.Verdict.TheVariants.{Fine}
 use Rattle.rulebook.specs.Ledger.{Ledger, fresh, row_at, cell_at, keeps_block, kept_at}
 use Rattle.rulebook.specs.PaperNumbers.{certificate_number}
 use Rattle.rulebook.specs.Pool.{fifths_of, place_kind, same_kind, serves_as}
@@ -106,7 +106,7 @@ module _ (stakes : List ℕ) (genesis : ℕ → ℕ) (honest : Test) (fed : ℕ 
         record {
           table = same_start n (genesis n) l (end_table stakes genesis honest fed ring n h);
           pool = λ m s v k t. counted stakes genesis honest fed ring n m s v h k t;
-          accepted = λ s j t. subst (λ (ws : List ℕ). judge_kind ws (place_kind j) (kept_in s (kept_at l s j)) ≡ Fine) (end_stakes stakes genesis honest fed ring n h) (inv.certificates s j t);
+          accepted = λ s j t. subst (λ (ws : List ℕ). judge_kind ws (place_kind j) (kept_in s (kept_at l s j)) ≡ Ok tt) (end_stakes stakes genesis honest fed ring n h) (inv.certificates s j t);
           kept = λ s j t. ring.kept n s j h t;
           lower = λ s b p x t. (inv.blocks s b p x t).0;
           parents = parents n h;

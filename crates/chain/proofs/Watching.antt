@@ -1,9 +1,9 @@
 -- A watcher looks on in good faith, and so never tells of two final blocks. Assumes nothing.
+use Rattle.std.specs.Prelude.{Ok}
 use mathlib.Core.Path.{◌≡◌, refl, ◌∙◌, subst}
 use mathlib.Core.List.{List}
 use Prim.Native.Nat.{ℕ}
 use lib.ListN.{length}
-use Rattle.rulebook.specs.declared.Verdict.TheVariants.{Fine}
 use Rattle.rulebook.specs.Ledger.{Ledger, table_of, fresh, kept_at, keeps_block}
 use Rattle.rulebook.specs.Pool.{place_kind}
 use Rattle.rulebook.specs.Checker.{judge_kind}
@@ -39,7 +39,7 @@ holder_observes stakes genesis honest fed me g size lived holds parents =
     record {
       table = same_start stakes me g l table;
       pool = λ m s v k t. holds.pool m s v k t;
-      accepted = λ s j t. subst (λ (ws : List ℕ). judge_kind ws (place_kind j) (kept_in s (kept_at l s j)) ≡ Fine) is (ready.inv.certificates s j t);
+      accepted = λ s j t. subst (λ (ws : List ℕ). judge_kind ws (place_kind j) (kept_in s (kept_at l s j)) ≡ Ok tt) is (ready.inv.certificates s j t);
       kept = λ s j t. holds.kept s j t;
       lower = λ s b p x t. (ready.inv.blocks s b p x t).0;
       parents = parents;

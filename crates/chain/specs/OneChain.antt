@@ -1,13 +1,10 @@
 -- #114, one chain: "of any two blocks for which the checker accepts proofs, in slots 1 to 16 and at any honest nodes, one is the other or its
 -- ancestor. And no honest node ever makes record (8, s, b)." First the premises and what the words mean, then the promises, each as a
 -- statement that proofs/ proves under the same name in small letters. A block is a slot and a number throughout, as in the rules.
-use Rattle.std.specs.Prelude.{◌≡◌, Bool, not, List, ◌++◌, ℕ, ◌≤◌, ◌<◌, ◌^◌, T, length}
+use Rattle.std.specs.Prelude.{◌≡◌, Bool, not, List, ◌++◌, ℕ, ◌≤◌, ◌<◌, ◌^◌, T, length, Ok}
 use Rattle.rulebook.specs.declared.Accepted.{Accepted}
 use Rattle.rulebook.specs.declared.CertificateKind.{CertificateKind}
 use Rattle.rulebook.specs.declared.CertificateKind.TheVariants as certificate
-use Rattle.rulebook.specs.declared.CheckAnswer.TheVariants as check
-use Rattle.rulebook.specs.declared.Verdict.TheVariants.{Fine}
-use Rattle.rulebook.specs.declared.WriteAnswer.TheVariants as write
 use Rattle.rulebook.specs.Ledger.{Ledger, none, fresh, row_at, cell_at, keeps_block, kept_at, is_kept}
 use Rattle.rulebook.specs.Pool.{place_kind, serves_as}
 use Rattle.rulebook.specs.Rules.{record_of}
@@ -72,7 +69,7 @@ module _ (stakes : List ℕ) (genesis : ℕ → ℕ) (honest : Test) (fed : ℕ 
   pub record Observer (l : Ledger) : Type 0 where
     pub table : SameTable (fresh stakes l.own l.genesis) l
     pub pool : (n s : ℕ) (v : Ballot) → T (honest n) → T (has (cell_at l s n) v) → T (cast_by stakes genesis honest fed n s v)
-    pub accepted : (s j : ℕ) → T (is_kept (kept_at l s j)) → judge_kind stakes (place_kind j) (kept_in s (kept_at l s j)) ≡ Fine
+    pub accepted : (s j : ℕ) → T (is_kept (kept_at l s j)) → judge_kind stakes (place_kind j) (kept_in s (kept_at l s j)) ≡ Ok tt
     pub kept : (s j : ℕ) → T (is_kept (kept_at l s j)) → Signers honest (cast_by stakes genesis honest fed) (place_kind j) (kept_in s (kept_at l s j))
     pub lower : (s b p x : ℕ) → T (keeps_block l s b p x) → p < s
     pub parents : SameParents l
@@ -86,7 +83,7 @@ module _ (stakes : List ℕ) (genesis : ℕ → ℕ) (honest : Test) (fed : ℕ 
   -- Block b of slot s is final by certificates: the checker accepts a genuine proof for it, or one who looks on holds kind 1 for it, or
   -- kinds 2 for it and 5.
   pub data ByCertificates (s b : ℕ) : Type 0 where
-    proved : (proof : List ℕ) (a : Accepted) → GenuineHere proof → check_proof stakes proof ≡ check.Accepted a → a.slot.0 ≡ s → a.block ≡ b → ByCertificates s b
+    proved : (proof : List ℕ) (a : Accepted) → GenuineHere proof → check_proof stakes proof ≡ Ok a → a.slot.0 ≡ s → a.block ≡ b → ByCertificates s b
     held_fast : (l : Ledger) → Observer l → Held l certificate.FastFinal s b → ByCertificates s b
     held_slow : (l : Ledger) → Observer l → Held l certificate.Notar s b → Held l certificate.Final s 0 → ByCertificates s b
 
@@ -99,7 +96,7 @@ module _ (stakes : List ℕ) (genesis : ℕ → ℕ) (honest : Test) (fed : ℕ 
 
   -- A certificate of kind 1, 2 or 3 stands for block b of slot s: the checker accepts a genuine one, or one who looks on holds one.
   pub data HasCertificate (s b : ℕ) : Type 0 where
-    checked : (packet : List ℕ) (a : Accepted) → GenuineHere packet → check_certificate stakes packet ≡ check.Accepted a
+    checked : (packet : List ℕ) (a : Accepted) → GenuineHere packet → check_certificate stakes packet ≡ Ok a
         → T (serves_as a.kind certificate.NotarFallback) → a.slot.0 ≡ s → a.block ≡ b → HasCertificate s b
     held : (l : Ledger) → Observer l → (k : CertificateKind) → T (serves_as k certificate.NotarFallback) → Held l k s b → HasCertificate s b
 
@@ -111,7 +108,7 @@ abbrev pub ProofsChained : Type 0
 ProofsChained =
     (stakes : List ℕ) (genesis : ℕ → ℕ) (honest : Test) (fed : ℕ → List Arrival) → Ring stakes genesis honest fed → OneParent stakes genesis honest fed
     → (proof other : List ℕ) (a d : Accepted) → GenuineHere stakes genesis honest fed proof → GenuineHere stakes genesis honest fed other
-    → check_proof stakes proof ≡ check.Accepted a → check_proof stakes other ≡ check.Accepted d
+    → check_proof stakes proof ≡ Ok a → check_proof stakes other ≡ Ok d
     → OnOneChain stakes genesis honest fed a.slot.0 a.block d.slot.0 d.block
 
 -- The same of what honest nodes' writers give, each at any moment of its life: nothing is asked of packets.
@@ -121,8 +118,8 @@ HonestProofsChained =
     → (n m : ℕ) → T (honest n) → T (honest m) → (before later : List Arrival) → fed n ≡ before ++ later
     → (before' later' : List Arrival) → fed m ≡ before' ++ later'
     → (room room' s b t c size size' : ℕ) → b < 2 ^ 64 → c < 2 ^ 64
-    → (write_proof (after_all (fresh stakes n (genesis n)) before) room s b).answer ≡ write.Written size
-    → (write_proof (after_all (fresh stakes m (genesis m)) before') room' t c).answer ≡ write.Written size'
+    → (write_proof (after_all (fresh stakes n (genesis n)) before) room s b).answer ≡ Ok size
+    → (write_proof (after_all (fresh stakes m (genesis m)) before') room' t c).answer ≡ Ok size'
     → OnOneChain stakes genesis honest fed s b t c
 
 -- So it is with all settled blocks, by proofs, by records (6, s, b) of honest nodes, by certificates held and by the walk.

@@ -1,11 +1,11 @@
 -- The histories, computed.
+use Rattle.std.specs.Prelude.{Ok}
 use mathlib.Core.Path.{◌≡◌, refl, subst}
 use mathlib.Core.Bool.{Bool, not, ◌&&◌, ◌||◌}
 use Prim.Native.Nat.{ℕ, suc, ◌-◌}
 use native.Mathlib.Omega.{arith}
 use lib.Dec.{T, eqb, eqb_refl, lit<, T_not}
 use lib.ListN.{length}
-use Rattle.rulebook.specs.declared.Verdict.TheVariants.{Fine}
 use Rattle.rulebook.specs.Certificates.{Certificate}
 use Rattle.rulebook.specs.Tools.{choose, all_to}
 use Rattle.rulebook.specs.Weights.{stakes_fit}
@@ -38,7 +38,7 @@ two_fits : T (stakes_fit two (length two))
 unfolding rules
 two_fits = tt
 
-two_started : (n : ℕ) → T (honest_two n) → start_verdict two n (genesis_two n) ≡ Fine
+two_started : (n : ℕ) → T (honest_two n) → start_verdict two n (genesis_two n) ≡ Ok tt
 two_started n h = start_good two n (genesis_two n) two_fits (two_within n h) tt
 
 -- ---- two parents

@@ -1,4 +1,5 @@
 -- The rings that meet every premise, computed.
+use Rattle.std.specs.Prelude.{Ok}
 use mathlib.Core.Path.{◌≡◌, refl}
 use mathlib.Core.Bool.{not, ◌||◌}
 use Prim.Native.Nat.{ℕ, zero, suc}
@@ -6,7 +7,6 @@ use native.Mathlib.Omega.{arith}
 use lib.Dec.{T, ltb→lt, lit<}
 use lib.ListN.{length}
 use Rattle.rulebook.specs.declared.CertificateKind.TheVariants as certificate
-use Rattle.rulebook.specs.declared.CheckAnswer.TheVariants as check
 use Rattle.rulebook.specs.Certificates.{Certificate}
 use Rattle.rulebook.specs.Tools.{all_to}
 use Rattle.rulebook.specs.Weights.{stakes_fit}
@@ -95,11 +95,11 @@ unfolding rules genuine_test
 chain_eleven =
     two_genuine (length six) honest_six (cast_by six genesis_six honest_six fed_chain) proof_of_eleven (crt 2 5 11) (crt 5 5 0) 5 10 refl refl (good (crt 2 5 11) tt) (good (crt 5 5 0) tt)
 
-chain_accepted_seven : check_proof six proof_of_seven ≡ check.Accepted (acceptance certificate.Notar 1 7 4 4)
+chain_accepted_seven : check_proof six proof_of_seven ≡ Ok (acceptance certificate.Notar 1 7 4 4)
 unfolding rules
 chain_accepted_seven = refl
 
-chain_accepted_eleven : check_proof six proof_of_eleven ≡ check.Accepted (acceptance certificate.Notar 5 11 4 4)
+chain_accepted_eleven : check_proof six proof_of_eleven ≡ Ok (acceptance certificate.Notar 5 11 4 4)
 unfolding rules
 chain_accepted_eleven = refl
 
@@ -194,11 +194,11 @@ wide_eleven =
     two_genuine (length wide) honest_two (cast_by wide genesis_two honest_two fed_wide) wide_of_eleven (by_zero 12 5 11) (by_zero 15 5 0) 67 134 refl refl
     (wide_good (by_zero 12 5 11) tt) (wide_good (by_zero 15 5 0) tt)
 
-wide_accepted_seven : check_proof wide wide_of_seven ≡ check.Accepted (acceptance certificate.Notar 1 7 1 300)
+wide_accepted_seven : check_proof wide wide_of_seven ≡ Ok (acceptance certificate.Notar 1 7 1 300)
 unfolding rules
 wide_accepted_seven = refl
 
-wide_accepted_eleven : check_proof wide wide_of_eleven ≡ check.Accepted (acceptance certificate.Notar 5 11 1 300)
+wide_accepted_eleven : check_proof wide wide_of_eleven ≡ Ok (acceptance certificate.Notar 5 11 1 300)
 unfolding rules
 wide_accepted_eleven = refl
 

@@ -1,10 +1,8 @@
 -- Histories to be computed, each of which shows why one chain needs a premise, or that it does not need one. Two nodes of stakes 3 and 1, both
 -- honest, genesis 1; no other stake at all. That the faulty stake must stay strictly under a fifth safety shows (`AtOneFifth`): at exactly a
 -- fifth two blocks of one slot have accepted proofs.
-use Rattle.std.specs.Prelude.{◌≡◌, Bool, not, ◌&&◌, List, [], ◌∷◌, ℕ, zero, suc, T, eqb, length}
+use Rattle.std.specs.Prelude.{◌≡◌, Bool, not, ◌&&◌, List, [], ◌∷◌, ℕ, zero, suc, T, eqb, length, Ok}
 use Rattle.rulebook.specs.declared.CertificateKind.TheVariants as certificate
-use Rattle.rulebook.specs.declared.CheckAnswer.TheVariants as check
-use Rattle.rulebook.specs.declared.Verdict.TheVariants.{Fine}
 use Rattle.rulebook.specs.declared.VoteKind.TheVariants as kind
 use Rattle.rulebook.specs.Certificates.{Certificate}
 use Rattle.rulebook.specs.PaperNumbers.{kind_in}
@@ -55,8 +53,8 @@ pub record TwoParents : Type 0 where
   pub one_each : (n s b p x q y : ℕ) → T (honest_two n) → T (kept_by two genesis_two honest_two fed_parents n s b p x) → T (kept_by two genesis_two honest_two fed_parents n s b q y) → (p ≡ q) × (x ≡ y)
   pub genuine_seven : GenuineHere two genesis_two honest_two fed_parents proof_of_seven_in_two
   pub genuine_eleven : GenuineHere two genesis_two honest_two fed_parents proof_of_eleven_in_five
-  pub accepted_seven : check_proof two proof_of_seven_in_two ≡ check.Accepted (acceptance certificate.Notar 2 7 1 3)
-  pub accepted_eleven : check_proof two proof_of_eleven_in_five ≡ check.Accepted (acceptance certificate.Notar 5 11 1 3)
+  pub accepted_seven : check_proof two proof_of_seven_in_two ≡ Ok (acceptance certificate.Notar 2 7 1 3)
+  pub accepted_eleven : check_proof two proof_of_eleven_in_five ≡ Ok (acceptance certificate.Notar 5 11 1 3)
   pub apart : ¬ OnOneChain two genesis_two honest_two fed_parents 2 7 5 11
   pub clash : T (made_in (fresh two 1 (genesis_two 1)) (fed_parents 1) (record_of 8 2 8))
 
@@ -78,7 +76,7 @@ told_own_name (suc n) = []
 -- node 0 makes record (8, 1, 8).
 pub record OwnName : Type 0 where
   pub few : FewOthers two honest_two
-  pub started : (n : ℕ) → T (honest_two n) → start_verdict two n (genesis_two n) ≡ Fine
+  pub started : (n : ℕ) → T (honest_two n) → start_verdict two n (genesis_two n) ≡ Ok tt
   pub mail : (n m s : ℕ) (v : Ballot) → T (honest_two n) → T (honest_two m) → ¬ (m ≡ n) → T (brought_by (fed_own_name n) s m v) → T (cast_by two genesis_two honest_two fed_own_name m s v)
   pub packets : (n : ℕ) (c : Certificate) → T (honest_two n) → HandedBy (fed_own_name n) c
       → Signers (λ m. honest_two m && not (eqb m n)) (cast_by two genesis_two honest_two fed_own_name) (kind_in (length two) c.kind) c

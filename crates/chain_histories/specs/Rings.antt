@@ -1,9 +1,8 @@
 -- Two rings to be computed, one for each family of kinds, that meet every premise of one chain, with a liar, kept certificates and the
 -- ancestor walk.
-use Rattle.std.specs.Prelude.{◌≡◌, List, [], ◌∷◌, ◌++◌, ℕ, zero, suc, T, eqb, ltb, replicate}
+use Rattle.std.specs.Prelude.{◌≡◌, List, [], ◌∷◌, ◌++◌, ℕ, zero, suc, T, eqb, ltb, replicate, Ok}
 use Rattle.rulebook.specs.declared.Input.{Input}
 use Rattle.rulebook.specs.declared.CertificateKind.TheVariants as certificate
-use Rattle.rulebook.specs.declared.CheckAnswer.TheVariants as check
 use Rattle.rulebook.specs.Tools.{choose}
 use Rattle.rulebook.specs.Ledger.{kept_at, is_kept}
 use Rattle.rulebook.specs.Rules.{Record, record_of}
@@ -82,8 +81,8 @@ pub record ChainRing : Type 0 where
   pub written_eleven : (write_proof (life six genesis_six honest_six fed_chain 0) 64 5 11).bytes ≡ proof_of_eleven
   pub genuine_seven : GenuineHere six genesis_six honest_six fed_chain proof_of_seven
   pub genuine_eleven : GenuineHere six genesis_six honest_six fed_chain proof_of_eleven
-  pub accepted_seven : check_proof six proof_of_seven ≡ check.Accepted (acceptance certificate.Notar 1 7 4 4)
-  pub accepted_eleven : check_proof six proof_of_eleven ≡ check.Accepted (acceptance certificate.Notar 5 11 4 4)
+  pub accepted_seven : check_proof six proof_of_seven ≡ Ok (acceptance certificate.Notar 1 7 4 4)
+  pub accepted_eleven : check_proof six proof_of_eleven ≡ Ok (acceptance certificate.Notar 5 11 4 4)
   pub chained : OnOneChain six genesis_six honest_six fed_chain 1 7 5 11
 
 -- ---- 65 nodes, kinds 11 to 15; nodes 0 and 1 are honest and have 400 of the stake of 463
@@ -128,6 +127,6 @@ pub record WideRing : Type 0 where
   pub keeps_nine : T (is_kept (kept_at (life wide genesis_two honest_two fed_wide 1) 2 1))
   pub genuine_seven : GenuineHere wide genesis_two honest_two fed_wide wide_of_seven
   pub genuine_eleven : GenuineHere wide genesis_two honest_two fed_wide wide_of_eleven
-  pub accepted_seven : check_proof wide wide_of_seven ≡ check.Accepted (acceptance certificate.Notar 1 7 1 300)
-  pub accepted_eleven : check_proof wide wide_of_eleven ≡ check.Accepted (acceptance certificate.Notar 5 11 1 300)
+  pub accepted_seven : check_proof wide wide_of_seven ≡ Ok (acceptance certificate.Notar 1 7 1 300)
+  pub accepted_eleven : check_proof wide wide_of_eleven ≡ Ok (acceptance certificate.Notar 5 11 1 300)
   pub chained : OnOneChain wide genesis_two honest_two fed_wide 1 7 5 11

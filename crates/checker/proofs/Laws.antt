@@ -1,4 +1,5 @@
 -- Laws of a packet: whether a table is made from the lent stakes, and the answer from what is told of its certificates. Assumes nothing.
+use Rattle.std.specs.Prelude.{Result, Err}
 use mathlib.Core.Path.{◌≡◌, refl, sym, ap, ◌∙◌, subst}
 use mathlib.Core.Bool.{Bool, true, false}
 use mathlib.Core.List.{List}
@@ -11,7 +12,6 @@ use borrow.Author.Tests.{eq-eqb, ne_eqb, eqb-true, eqb-false}
 use Rattle.rulebook.specs.Certificates.{Certificate}
 use Rattle.rulebook.specs.declared.CertificateKind.{CertificateKind}
 use Rattle.rulebook.specs.declared.CertificateKind.TheVariants as certificate
-use Rattle.rulebook.specs.declared.CheckAnswer.TheVariants as check
 use Rattle.rulebook.specs.declared.Refusal.TheVariants as refusal
 use Rattle.rulebook.specs.Tools.{choose}
 use Rattle.rulebook.specs.Weights.{stakes_fit, family}
@@ -23,9 +23,10 @@ use Rattle.stakes.specs.declared.LentTable.{LentTable}
 use Rattle.stakes.specs.Table.{made_of, Fit, filled}
 use Rattle.stakes.proofs.Laws.{made_fits, made_fit}
 use Rattle.stakes.proofs.Filling.{filled_front}
-use Rattle.certificates.specs.declared.Checked.{Checked}
 use Rattle.certificates.specs.Told.{told}
 use Rattle.checker.specs.InPacket.{finished, alone, is_final_kind, followed, continued, proven, placed_stakes, single_on, proven_on}
+use Rattle.rulebook.specs.declared.Accepted.{Accepted}
+use Rattle.rulebook.specs.declared.Refusal.{Refusal}
 
 -- Of the numbers 1 to 5 it is 5.
 old_final : (n : ℕ) → is_final_kind (certificate_kind n) ≡ eqb n 5
@@ -98,7 +99,7 @@ proven_is ws packet (bad r) = refl
 
 -- ---- the answer on stakes that fit, from what is told of the first certificate
 
-module _ (ws packet : List ℕ) (o : Checked) (e : o ≡ told ws (one_at ws packet 0)) where
+module _ (ws packet : List ℕ) (o : Result (Accepted × ℕ) Refusal) (e : o ≡ told ws (one_at ws packet 0)) where
   pub single_answer : single_on ws packet ≡ alone (length packet) o
   unfolding single_on
   single_answer = alone_is ws packet (one_at ws packet 0) ∙ ap (alone (length packet)) (sym e)
@@ -110,25 +111,25 @@ module _ (ws packet : List ℕ) (o : Checked) (e : o ≡ told ws (one_at ws pack
 -- ---- the whole answer, by whether they fit
 
 module _ (ws packet : List ℕ) (t : Bool) (e : stakes_fit ws (length ws) ≡ t) where
-  pub single_bad : t ≡ false → check.Refused refusal.BadSizes ≡ check_certificate ws packet
+  pub single_bad : t ≡ false → Err refusal.BadSizes ≡ check_certificate ws packet
   unfolding check_certificate
-  single_bad f = sym (given_off (stakes_fit ws (length ws)) (check.Refused refusal.BadSizes) (λ _. single_of ws packet (one_at ws packet 0)) (e ∙ f))
+  single_bad f = sym (given_off (stakes_fit ws (length ws)) (Err refusal.BadSizes) (λ _. single_of ws packet (one_at ws packet 0)) (e ∙ f))
 
-  pub proof_bad : t ≡ false → check.Refused refusal.BadSizes ≡ check_proof ws packet
+  pub proof_bad : t ≡ false → Err refusal.BadSizes ≡ check_proof ws packet
   unfolding check_proof
-  proof_bad f = sym (given_off (stakes_fit ws (length ws)) (check.Refused refusal.BadSizes) (λ _. proof_of ws packet (one_at ws packet 0)) (e ∙ f))
+  proof_bad f = sym (given_off (stakes_fit ws (length ws)) (Err refusal.BadSizes) (λ _. proof_of ws packet (one_at ws packet 0)) (e ∙ f))
 
   pub single_on_lem : t ≡ true → (xs : List ℕ) → xs ≡ ws → single_on xs packet ≡ check_certificate ws packet
   unfolding check_certificate single_on
   single_on_lem f xs q =
       ap (λ (x : List ℕ). single_of x packet (one_at x packet 0)) q
-      ∙ sym (given_on (stakes_fit ws (length ws)) (check.Refused refusal.BadSizes) (λ _. single_of ws packet (one_at ws packet 0)) (e ∙ f))
+      ∙ sym (given_on (stakes_fit ws (length ws)) (Err refusal.BadSizes) (λ _. single_of ws packet (one_at ws packet 0)) (e ∙ f))
 
   pub proof_on_lem : t ≡ true → (xs : List ℕ) → xs ≡ ws → proven_on xs packet ≡ check_proof ws packet
   unfolding check_proof proven_on
   proof_on_lem f xs q =
       ap (λ (x : List ℕ). proof_of x packet (one_at x packet 0)) q
-      ∙ sym (given_on (stakes_fit ws (length ws)) (check.Refused refusal.BadSizes) (λ _. proof_of ws packet (one_at ws packet 0)) (e ∙ f))
+      ∙ sym (given_on (stakes_fit ws (length ws)) (Err refusal.BadSizes) (λ _. proof_of ws packet (one_at ws packet 0)) (e ∙ f))
 
 -- ---- lent stakes
 

@@ -6,18 +6,18 @@ ghost use Rattle.rulebook.specs.Checker.{check_certificate, check_proof};
 ghost use Rattle.stakes.specs.Table.{Fit};
 ghost use Rattle.checker.specs.InPacket.{finished, is_final_kind, followed, continued, placed_stakes, single_on, proven_on};
 
-use certificates::{Checked, one_at};
-use rulebook::{Accepted, CertificateKind, CheckAnswer, Refusal, Weight};
+use certificates::one_at;
+use rulebook::{Accepted, CertificateKind, Refusal, Weight};
 use stakes::{LentTable, StakeTable, TABLE_NODES};
 
 // Leftover bytes last.
-fn finish(a: Accepted, next: usize, length: usize) -> CheckAnswer
+fn finish(a: Accepted, next: usize, length: usize) -> Result<Accepted, Refusal>
     ensures { result ≡ finished a next length }
 {
     if next < length {
-        CheckAnswer::Refused(Refusal::BadLength)
+        Err(Refusal::BadLength)
     } else {
-        CheckAnswer::Accepted(a)
+        Ok(a)
     }
 }
 
@@ -36,25 +36,25 @@ fn is_final(k: CertificateKind) -> bool
 }
 
 // What the second certificate makes of a proof whose first is told as a: 16 unless it is kind 5 of that slot.
-fn second(a: Accepted, other: Checked, length: usize) -> CheckAnswer
+fn second(a: Accepted, other: Result<(Accepted, usize), Refusal>, length: usize) -> Result<Accepted, Refusal>
     ensures { result ≡ followed a length other }
 {
     match other {
-        Checked::Bad(r) => CheckAnswer::Refused(r),
-        Checked::Good(f, next) => {
+        Err(r) => Err(r),
+        Ok((f, next)) => {
             let kind = f.kind;
             let of_that_slot = f.slot.0 == a.slot.0;
             if is_final(kind) & of_that_slot {
                 finish(a, next, length)
             } else {
-                CheckAnswer::Refused(Refusal::NotAProof)
+                Err(Refusal::NotAProof)
             }
         }
     }
 }
 
 // What follows the first certificate of a proof, told as a: 16 unless its kind is 1 or 2.
-fn after_first(stakes: &[u64], t: LentTable, packet: &[u8], a: Accepted, next: usize) -> CheckAnswer
+fn after_first(stakes: &[u64], t: LentTable, packet: &[u8], a: Accepted, next: usize) -> Result<Accepted, Refusal>
     requires { Fit stakes.now t }
     ensures { result ≡ continued stakes.now packet.now a.kind a next }
 {
@@ -62,46 +62,46 @@ fn after_first(stakes: &[u64], t: LentTable, packet: &[u8], a: Accepted, next: u
     match k {
         CertificateKind::FastFinal => finish(a, next, packet.len()),
         CertificateKind::Notar => second(a, one_at(stakes, t, packet, next), packet.len()),
-        CertificateKind::NotarFallback => CheckAnswer::Refused(Refusal::NotAProof),
-        CertificateKind::Skip => CheckAnswer::Refused(Refusal::NotAProof),
-        CertificateKind::Final => CheckAnswer::Refused(Refusal::NotAProof),
-        CertificateKind::Other => CheckAnswer::Refused(Refusal::NotAProof),
+        CertificateKind::NotarFallback => Err(Refusal::NotAProof),
+        CertificateKind::Skip => Err(Refusal::NotAProof),
+        CertificateKind::Final => Err(Refusal::NotAProof),
+        CertificateKind::Other => Err(Refusal::NotAProof),
     }
 }
 
 // A packet that is to be one certificate, on the stakes in the first places, which fit.
-fn certificate_on(places: &[u64], t: LentTable, packet: &[u8]) -> CheckAnswer
+fn certificate_on(places: &[u64], t: LentTable, packet: &[u8]) -> Result<Accepted, Refusal>
     requires { Fit (placed_stakes places.now t) t }
     ensures { result ≡ single_on (placed_stakes places.now t) packet.now }
 {
     let count = t.count;
     let one = one_at(&places[..count], t, packet, 0);
     match one {
-        Checked::Bad(r) => CheckAnswer::Refused(r),
-        Checked::Good(a, next) => finish(a, next, packet.len()),
+        Err(r) => Err(r),
+        Ok((a, next)) => finish(a, next, packet.len()),
     }
 }
 
 // A packet that is to be a finality proof, on such stakes: kind 1, or kind 2 and then kind 5 of the same slot.
-fn proof_on(places: &[u64], t: LentTable, packet: &[u8]) -> CheckAnswer
+fn proof_on(places: &[u64], t: LentTable, packet: &[u8]) -> Result<Accepted, Refusal>
     requires { Fit (placed_stakes places.now t) t }
     ensures { result ≡ proven_on (placed_stakes places.now t) packet.now }
 {
     let count = t.count;
     let first = one_at(&places[..count], t, packet, 0);
     match first {
-        Checked::Bad(r) => CheckAnswer::Refused(r),
-        Checked::Good(a, next) => after_first(&places[..count], t, packet, a, next),
+        Err(r) => Err(r),
+        Ok((a, next)) => after_first(&places[..count], t, packet, a, next),
     }
 }
 
 // Checks a packet that is to be one certificate: up to 64 nodes on the stake table, above that on the lent words.
-pub fn check_certificate(stakes: &[u64], packet: &[u8]) -> CheckAnswer
+pub fn check_certificate(stakes: &[u64], packet: &[u8]) -> Result<Accepted, Refusal>
     ensures { result ≡ check_certificate stakes.now packet.now }
 {
     let made = stakes::make_table(stakes);
     if !made.fits {
-        return CheckAnswer::Refused(Refusal::BadSizes);
+        return Err(Refusal::BadSizes);
     }
     let lent = made.table;
     if TABLE_NODES < lent.count {
@@ -123,12 +123,12 @@ pub fn check_certificate(stakes: &[u64], packet: &[u8]) -> CheckAnswer
 }
 
 // Checks a packet that is to be a finality proof, on the same tables.
-pub fn check_proof(stakes: &[u64], packet: &[u8]) -> CheckAnswer
+pub fn check_proof(stakes: &[u64], packet: &[u8]) -> Result<Accepted, Refusal>
     ensures { result ≡ check_proof stakes.now packet.now }
 {
     let made = stakes::make_table(stakes);
     if !made.fits {
-        return CheckAnswer::Refused(Refusal::BadSizes);
+        return Err(Refusal::BadSizes);
     }
     let lent = made.table;
     if TABLE_NODES < lent.count {

@@ -1,4 +1,5 @@
 -- The writers of the face. Assumes nothing.
+use Rattle.std.specs.Prelude.{Result, Ok, Err}
 use mathlib.Core.Path.{◌≡◌, refl, sym, ap, ◌∙◌}
 use mathlib.Core.Bool.{Bool, true, false}
 use mathlib.Core.List.{List, [], ◌∷◌}
@@ -7,17 +8,11 @@ use native.Mathlib.Omega.{arith}
 use lib.ListN.{length, get_or, take}
 use Rattle.rulebook.specs.Certificates.{Certificate}
 use Rattle.rulebook.specs.declared.Accepted.{Accepted}
-use Rattle.rulebook.specs.declared.CheckAnswer.{CheckAnswer}
-use Rattle.rulebook.specs.declared.CheckAnswer.TheVariants as check
-use Rattle.rulebook.specs.declared.ReadAnswer.{ReadAnswer}
-use Rattle.rulebook.specs.declared.ReadAnswer.TheVariants as read
 use Rattle.rulebook.specs.declared.Refusal.{Refusal}
 use Rattle.rulebook.specs.declared.Refusal.TheVariants as refusal
 use Rattle.rulebook.specs.declared.Vote.{Vote}
 use Rattle.rulebook.specs.declared.VoteKind.{VoteKind}
 use Rattle.rulebook.specs.declared.VoteKind.TheVariants as vote
-use Rattle.rulebook.specs.declared.WriteAnswer.{WriteAnswer}
-use Rattle.rulebook.specs.declared.WriteAnswer.TheVariants as write
 use Rattle.rulebook.specs.Ledger.{Ledger, table_of}
 use Rattle.rulebook.specs.PaperNumbers.{refusal_number, vote_kind, vote_number, write_panel, read_panel, check_number, check_values, check_missing}
 use Rattle.rulebook.specs.Tools.{choose}
@@ -42,11 +37,11 @@ use Rattle.exactly.specs.Written.{NumberedExactly, FaceCertificateExactly, FaceP
 
 -- ---- numbers
 
-written_number : (a : WriteAnswer) (n : ℕ) → a ≡ write.Written n → (write_panel a).number ≡ 0
+written_number : (a : Result ℕ Refusal) (n : ℕ) → a ≡ Ok n → (write_panel a).number ≡ 0
 unfolding write_panel
 written_number a n e = rw e
 
-missing_number : (a : WriteAnswer) → a ≡ write.Refused refusal.NotHeld → (write_panel a).number ≡ 18
+missing_number : (a : Result ℕ Refusal) → a ≡ Err refusal.NotHeld → (write_panel a).number ≡ 18
 unfolding write_panel refusal_number
 missing_number a e = rw e
 
@@ -72,14 +67,14 @@ eighteen refusal.NotAProof e = absurd (omega arith)
 eighteen refusal.BadRecord e = absurd (omega arith)
 eighteen refusal.NotHeld e = refl
 
-number_missing : (a : WriteAnswer) → (write_panel a).number ≡ 18 → a ≡ write.Refused refusal.NotHeld
+number_missing : (a : Result ℕ Refusal) → (write_panel a).number ≡ 18 → a ≡ Err refusal.NotHeld
 unfolding write_panel
-number_missing (write.Written n) e = absurd (omega arith)
-number_missing (write.Refused r) e = ap write.Refused (eighteen r e)
+number_missing (Ok n) e = absurd (omega arith)
+number_missing (Err r) e = ap Err (eighteen r e)
 
 -- ---- exactly
 
-numbered : {fits : Type 0} {there : Bool} (a : WriteAnswer) (number : ℕ) → number ≡ (write_panel a).number → WrittenExactly fits there a → NumberedExactly fits there number
+numbered : {fits : Type 0} {there : Bool} (a : Result ℕ Refusal) (number : ℕ) → number ≡ (write_panel a).number → WrittenExactly fits there a → NumberedExactly fits there number
 numbered a number e w =
     record {
       written = λ f t. let x = w.written f t in e ∙ written_number a x.0 x.1;
@@ -101,16 +96,16 @@ face_proof_exactly ws buffer s b number count after h =
 -- ---- read back
 
 -- What is written is counted.
-counted : (a : WriteAnswer) (n count : ℕ) → a ≡ write.Written n → count ∷ [] ≡ (write_panel a).values → n ≡ count
+counted : (a : Result ℕ Refusal) (n count : ℕ) → a ≡ Ok n → count ∷ [] ≡ (write_panel a).values → n ≡ count
 unfolding write_panel
-counted a n count e f = sym (ap (λ (xs : List ℕ). get_or xs 0 0) (f ∙ ap (λ (x : WriteAnswer). (write_panel x).values) e))
+counted a n count e f = sym (ap (λ (xs : List ℕ). get_or xs 0 0) (f ∙ ap (λ (x : Result ℕ Refusal). (write_panel x).values) e))
 
 -- The counted bytes are those that were written.
 front : (bytes buffer after : List ℕ) (count : ℕ) → after ≡ written.over bytes buffer → count ≡ length bytes → take count after ≡ bytes
 front bytes buffer after count e f =
     let z : count - 0 ≡ count = omega arith in ap (λ (m : ℕ). take m after) (sym z) ∙ packet_is bytes buffer after count e f
 
-accepted_told : {n : ℕ} (answer : CheckAnswer) (told : Accepted) → answer ≡ check.Accepted told → (number : ℕ) (values : List ℕ) (missing : ℕ) → Checked n answer number values missing
+accepted_told : {n : ℕ} (answer : Result Accepted Refusal) (told : Accepted) → answer ≡ Ok told → (number : ℕ) (values : List ℕ) (missing : ℕ) → Checked n answer number values missing
     → (number ≡ 0) × (values ≡ accepted_values n told) × (missing ≡ 0)
 unfolding check_number check_values check_missing
 accepted_told {n} answer told e number values missing h =
@@ -161,9 +156,9 @@ face_vote_back nodes v buffer count after number values small h r =
     let w : written.Wrote = write_vote nodes (length buffer) v in
     let x = write_done w.answer (sym h.numbered) in
     let n = counted w.answer x.0 count x.1 h.counted in
-    let e : read_vote nodes (take count after) ≡ read.Read v =
+    let e : read_vote nodes (take count after) ≡ Ok v =
     ap (λ (m : ℕ). read_vote nodes (take m after)) (sym n) ∙ written_back nodes x.0 v buffer after small (record { answered = sym x.1; bytes = h.bytes }) in
-    (r.numbered ∙ ap (λ (a : ReadAnswer). (read_panel a).number) e, r.valued ∙ ap (λ (a : ReadAnswer). (read_panel a).values) e)
+    (r.numbered ∙ ap (λ (a : Result Vote Refusal). (read_panel a).number) e, r.valued ∙ ap (λ (a : Result Vote Refusal). (read_panel a).values) e)
 
 kind_back : (k : VoteKind) → k ≡ vote_kind (vote_number k)
 unfolding vote_kind vote_number choose
@@ -182,10 +177,10 @@ vote_in_lem : (v : Vote) → v ≡ vote_in (vote_values v)
 vote_in_lem v = λ i. record { kind = kind_back v.kind i; node = v.node; slot = v.slot; block = v.block }
 
 -- A message that is answered 0 is that vote.
-read_done : (a : ReadAnswer) (values : List ℕ) → MessageRead a 0 values → a ≡ read.Read (vote_in values)
+read_done : (a : Result Vote Refusal) (values : List ℕ) → MessageRead a 0 values → a ≡ Ok (vote_in values)
 unfolding read_panel
-read_done (read.Read v) values h = ap read.Read (vote_in_lem v ∙ ap vote_in (sym h.valued))
-read_done (read.Refused r) values h = absurd (omega (arith, refusal_numbered r, h.numbered))
+read_done (Ok v) values h = ap Ok (vote_in_lem v ∙ ap vote_in (sym h.valued))
+read_done (Err r) values h = absurd (omega (arith, refusal_numbered r, h.numbered))
 
 pub face_one_spelling : FaceOneSpelling
 face_one_spelling nodes others p q values hp hq a b =

@@ -1,8 +1,7 @@
 -- THE WRITERS OF THE FACE: 0 exactly where what is asked for is there, and what was written reads back.
-use Rattle.std.specs.Prelude.{◌≡◌, Bool, true, false, List, [], ◌∷◌, ℕ, ◌^◌, ◌<◌, length, take}
+use Rattle.std.specs.Prelude.{◌≡◌, Bool, true, false, List, [], ◌∷◌, ℕ, ◌^◌, ◌<◌, length, take, Result}
 use Rattle.rulebook.specs.Certificates.{Certificate}
 use Rattle.rulebook.specs.declared.Accepted.{Accepted}
-use Rattle.rulebook.specs.declared.CheckAnswer.{CheckAnswer}
 use Rattle.rulebook.specs.declared.Vote.{Vote}
 use Rattle.rulebook.specs.Ledger.{Ledger, table_of}
 use Rattle.rulebook.specs.Pool.{held}
@@ -16,6 +15,7 @@ use Rattle.record.specs.Layout.{ledger_of}
 use Rattle.writers.specs.Writing.{kind_on, certificate_on, proof_on}
 use Rattle.answers.specs.Face.{Wrote, Checked, MessageRead, vote_values, accepted_values}
 use Rattle.promises.specs.Exactly.{CertificateAsked, ProofAsked}
+use Rattle.rulebook.specs.declared.Refusal.{Refusal}
 
 -- ---- "A certificate is written exactly when it is held."
 
@@ -42,7 +42,7 @@ FaceProofExactly =
 
 -- A packet is these certificates with their signers, and a check of it with the record's stakes answers 0 with the true values, signer count and
 -- weight among them.
-pub record FaceBack (l : Ledger) (packet : List ℕ) (check : CheckAnswer) (certificates : List Certificate) (told : Accepted) : Type 0 where
+pub record FaceBack (l : Ledger) (packet : List ℕ) (check : Result Accepted Refusal) (certificates : List Certificate) (told : Accepted) : Type 0 where
   pub spelled : parts packet ≡ certificates
   pub checked : (number : ℕ) (values : List ℕ) (missing : ℕ) → Checked (length (table_of l)) check number values missing
       → (number ≡ 0) × (values ≡ accepted_values (length (table_of l)) told) × (missing ≡ 0)

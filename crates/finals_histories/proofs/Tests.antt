@@ -1,4 +1,5 @@
 -- What the tests say of a window: the premises themselves.
+use Rattle.std.specs.Prelude.{Ok}
 use mathlib.Core.Path.{◌≡◌}
 use mathlib.Core.Bool.{Bool, true, false, not, ◌&&◌, ◌||◌}
 use Prim.Native.Nat.{ℕ, suc, ◌*◌, ◌≤◌, ◌<◌}
@@ -11,7 +12,6 @@ use Rattle.rulebook.specs.Ledger.{Ledger, none, fresh, cell_at, row_at, is_block
 use Rattle.rulebook.specs.Pool.{ready}
 use Rattle.rulebook.specs.Rules.{is_final}
 use Rattle.rulebook.specs.Inputs.{start_verdict}
-use Rattle.rulebook.specs.declared.Verdict.TheVariants.{Fine}
 use Rattle.rule_laws.proofs.ToolLaws.{all_at, some_find}
 use Rattle.safety.specs.Slot.{Ballot, notar, final}
 use Rattle.safety.specs.Ballots.{has}
@@ -49,7 +49,7 @@ module _ (w : Window) where
 
   -- What is always there: accepted starts, a first slot, and prompt nodes among those that were fed.
   record Frame : Type 0 where
-    pub started : (n : ℕ) → T (prompt_in w n) → start_verdict h.stakes n (h.genesis n) ≡ Fine
+    pub started : (n : ℕ) → T (prompt_in w n) → start_verdict h.stakes n (h.genesis n) ≡ Ok tt
     pub first : T (is_first w.first)
     pub last : w.last ≤ last_slot
     pub honestly : (n : ℕ) → T (prompt_in w n) → T (honest_in h n)

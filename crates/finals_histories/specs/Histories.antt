@@ -1,8 +1,7 @@
 -- The rings. Each node is fed only votes that the others cast, or lies of a node that is not honest; no order between nodes is meant.
-use Rattle.std.specs.Prelude.{◌≡◌, Bool, true, false, not, List, [], ◌∷◌, ◌++◌, ℕ, zero, suc, ◌+◌, ◌*◌, ◌≤◌, ◌<◌, T, length}
+use Rattle.std.specs.Prelude.{◌≡◌, Bool, true, false, not, List, [], ◌∷◌, ◌++◌, ℕ, zero, suc, ◌+◌, ◌*◌, ◌≤◌, ◌<◌, T, length, Ok}
 use Rattle.rulebook.specs.declared.CertificateKind.TheVariants as certificate
 use Rattle.rulebook.specs.declared.Input.{Input}
-use Rattle.rulebook.specs.declared.Verdict.TheVariants.{Fine}
 use Rattle.rulebook.specs.Weights.{last_slot, window_of, weight, is_first}
 use Rattle.rulebook.specs.Ledger.{row_at, fresh, cell_at, is_block, first_block}
 use Rattle.rulebook.specs.Pool.{held, ready}
@@ -34,7 +33,7 @@ ProvedOf w n t = Proved w.history.stakes w.history.genesis (fed_in w.history) (p
 pub record AllBut (left : ℕ) (w : Window) : Type 0 where
   pub begins : T (is_first w.first)
   pub last : w.last ≤ last_slot
-  pub started : (n : ℕ) → T (prompt_in w n) → start_verdict w.history.stakes n (w.history.genesis n) ≡ Fine
+  pub started : (n : ℕ) → T (prompt_in w n) → start_verdict w.history.stakes n (w.history.genesis n) ≡ Ok tt
   pub strong : ¬ (left ≡ the_strength) → 3 * total w.history < 5 * weight w.history.stakes (length w.history.stakes) (prompt_in w)
   pub first : ¬ (left ≡ the_first) → (n : ℕ) → T (prompt_in w n) → T (is_block (block_in w w.first) w.parent_slot w.parent (first_block (end_in w.history n) w.first))
   pub ready_parent : ¬ (left ≡ the_parent) → (n : ℕ) → T (prompt_in w n) → T (ready (end_in w.history n) w.first w.parent_slot w.parent)

@@ -1,4 +1,5 @@
 -- Blocks are final over seen lives: the words mean the ledgers of the rule book's theorem, and what outboxes told is what its lives make.
+use Rattle.std.specs.Prelude.{Result}
 use mathlib.Core.Path.{◌≡◌, sym, ap, ◌∙◌, subst}
 use mathlib.Core.Bool.{true, not}
 use mathlib.Core.List.{List}
@@ -7,7 +8,6 @@ use native.Mathlib.Omega.{arith}
 use lib.Dec.{T, ltb, leb, leb→le, le→leb, not_T}
 use lib.ListN.{length}
 use Rattle.rulebook.specs.declared.CertificateKind.TheVariants as certificate
-use Rattle.rulebook.specs.declared.WriteAnswer.{WriteAnswer}
 use Rattle.rulebook.specs.Weights.{last_slot, slot_ok}
 use Rattle.rulebook.specs.PaperNumbers.{write_panel}
 use Rattle.rulebook.specs.Ledger.{Ledger, none, fresh, row_at, cell_at, is_armed, is_block, first_block, keeps_block}
@@ -40,6 +40,7 @@ use Rattle.seen.proofs.More.{holds_more}
 use Rattle.seen.proofs.Chain.{parents}
 use Rattle.seen.proofs.Progress.{mail_in}
 use Rattle.finals_seen.specs.Finals.{Proved, Told, SkiplessIsPatient, GenesisReady, Led, FinalsIn, Heard, by_notars, by_finals, BlocksVoted, FastFinal, SlowFinal, FinalTold, BlocksFinal, OthersToo, WatchersToo, NextLeader, FirstWindow, AnyWindow}
+use Rattle.rulebook.specs.declared.Refusal.{Refusal}
 
 -- ---- one life, a node's or a watcher's
 
@@ -58,7 +59,7 @@ module _ (stakes : List ℕ) (genesis : ℕ) (v : Seen) (alive : Alive stakes ge
         writes = λ buffer after number written fits w.
             w.numbered
             ∙ ap (λ (x : writer.Wrote). (write_panel x.answer).number) (proof_on_lem stakes c.own genesis c.size v c.lived (length buffer) t b)
-            ∙ ap (λ (x : WriteAnswer). (write_panel x).number) (final.final_written now (length buffer) t b lo hi some (subst (λ (l : Ledger). T (is_final l t b)) c.lived.ledger h)
+            ∙ ap (λ (x : Result ℕ Refusal). (write_panel x).number) (final.final_written now (length buffer) t b lo hi some (subst (λ (l : Ledger). T (is_final l t b)) c.lived.ledger h)
             (no_less (length buffer) (proof_room now.count) (subst (λ (n : ℕ). proof_room n ≤ length buffer) (sym (count_is stakes c.own genesis c.size v.came)) fits)));
         accepted = λ small buffer after values written number missing w x.
             (written_accepted stakes genesis v alive).1 buffer after values t b written number missing small w x;

@@ -30,15 +30,15 @@ ghost use Rattle.calls.specs.Life.{Met, MetWith, GoesOn, Stays, Life, Watch, beg
 ghost use Rattle.host.specs.Answered.{WroteWith, CheckedWith, CardWith, FinalWith, ArmedWith, SplitWith, AnnounceWith, VotesWith, BlocksWith, MarksWith, HeadWith, WeightsWith, CertificatesWith, MessageWith, ComparedWith, LinesWith, PiecedWith, EndedWith};
 ghost use Rattle.vouched_packets.specs.Split.{split_on};
 
-use announcing::{AnnounceAnswer, may_announce};
-use cards::{CardAnswer, read_card};
+use announcing::may_announce;
+use cards::read_card;
 use checker::{check_certificate, check_proof};
 use differences::{DifferAnswer, differ};
 use inquest_lines::ListAnswer;
 use kept_lines::list_certificates;
 use messages::{read_vote, write_vote};
 use node::step;
-use pieces::{PieceAnswer, end, piece};
+use pieces::{end, piece};
 use quointrowel::{
     qr_block, qr_block_weights, qr_card, qr_check_certificate, qr_check_proof, qr_differ, qr_end,
     qr_final_block, qr_head, qr_is_armed, qr_kept_blocks, qr_kept_certificates, qr_kept_votes,
@@ -48,20 +48,18 @@ use quointrowel::{
     qr_vouched_packet, qr_watch, qr_write_certificate, qr_write_proof, qr_write_vote,
 };
 use readers::{
-    ArmedAnswer, BlocksAnswer, FinalAnswer, HeadAnswer, MarksAnswer, VotesAnswer, WeightsAnswer,
     read_armed, read_blocks, read_final, read_head, read_marks, read_votes, read_weights,
 };
 use record::record_words;
-use rulebook::{
-    Block, CheckAnswer, Input, Node, ReadAnswer, Slot, StartAnswer, StepAnswer, Vote, WriteAnswer,
-};
+use rulebook::{Accepted, Refusal, 
+    Block, Input, Node, Slot, Vote, };
 use same_parents::same_parents;
 use standing::own_votes_stand;
 use starts::{start, watch};
 use taking::take;
 use texts::refusal_text;
 use trays::tray;
-use vouched_packets::{SplitAnswer, split_proof, vouched_packet};
+use vouched_packets::{split_proof, vouched_packet};
 use vouching::vouched;
 use writers::{write_certificate, write_proof};
 
@@ -405,28 +403,28 @@ pub fn face_pieces_bytes() -> usize
 // ---- the public operations: what a life is made of
 
 // Calls the public start.
-pub fn plain_start(rec: &mut [u64], stakes: &[u64], own: Node, genesis: u64) -> StartAnswer
+pub fn plain_start(rec: &mut [u64], stakes: &[u64], own: Node, genesis: u64) -> Result<(), Refusal>
     ensures { Started rec.old stakes.now own.0 genesis (start_panel result).number rec.new }
 {
     start(rec, stakes, own, genesis)
 }
 
 // Calls the public start of a watcher.
-pub fn plain_watch(rec: &mut [u64], stakes: &[u64], genesis: u64) -> StartAnswer
+pub fn plain_watch(rec: &mut [u64], stakes: &[u64], genesis: u64) -> Result<(), Refusal>
     ensures { Watched rec.old stakes.now genesis (start_panel result).number rec.new }
 {
     watch(rec, stakes, genesis)
 }
 
 // Calls the public step.
-pub fn plain_step(rec: &mut [u64], outbox: &mut [u64], input: Input) -> StepAnswer
+pub fn plain_step(rec: &mut [u64], outbox: &mut [u64], input: Input) -> Result<usize, Refusal>
     ensures { MetWith (one_input input) rec.old outbox.old result rec.new outbox.new }
 {
     step(rec, outbox, input)
 }
 
 // Calls the public taking.
-pub fn plain_take(rec: &mut [u64], outbox: &mut [u64], packet: &[u8]) -> StepAnswer
+pub fn plain_take(rec: &mut [u64], outbox: &mut [u64], packet: &[u8]) -> Result<usize, Refusal>
     ensures { MetWith (a_packet packet.now) rec.old outbox.old result rec.new outbox.new }
 {
     take(rec, outbox, packet)
@@ -438,7 +436,7 @@ pub fn plain_tray(
     outbox: &mut [u64],
     votes: &[u64],
     answers: &mut [u64],
-) -> StepAnswer
+) -> Result<usize, Refusal>
     ensures { MetWith (a_tray votes.now answers.old answers.new) rec.old outbox.old result rec.new outbox.new }
 {
     tray(rec, outbox, votes, answers)
@@ -453,91 +451,91 @@ pub fn plain_write_certificate(
     kind: u64,
     slot: Slot,
     block: u64,
-) -> WriteAnswer
+) -> Result<usize, Refusal>
     ensures { WroteWith (certificate_on rec.now (length buffer.old) kind slot.0 block) buffer.old result buffer.new }
 {
     write_certificate(rec, buffer, kind, slot, block)
 }
 
 // Calls the public proof writer.
-pub fn plain_write_proof(rec: &[u64], buffer: &mut [u8], slot: Slot, block: u64) -> WriteAnswer
+pub fn plain_write_proof(rec: &[u64], buffer: &mut [u8], slot: Slot, block: u64) -> Result<usize, Refusal>
     ensures { WroteWith (proof_on rec.now (length buffer.old) slot.0 block) buffer.old result buffer.new }
 {
     write_proof(rec, buffer, slot, block)
 }
 
 // Calls the public check of a certificate.
-pub fn plain_check_certificate(stakes: &[u64], packet: &[u8]) -> CheckAnswer
+pub fn plain_check_certificate(stakes: &[u64], packet: &[u8]) -> Result<Accepted, Refusal>
     ensures { CheckedWith (length stakes.now) (check_certificate stakes.now packet.now) result }
 {
     check_certificate(stakes, packet)
 }
 
 // Calls the public check of a proof.
-pub fn plain_check_proof(stakes: &[u64], packet: &[u8]) -> CheckAnswer
+pub fn plain_check_proof(stakes: &[u64], packet: &[u8]) -> Result<Accepted, Refusal>
     ensures { CheckedWith (length stakes.now) (check_proof stakes.now packet.now) result }
 {
     check_proof(stakes, packet)
 }
 
 // Calls the public reader of a card.
-pub fn plain_read_card(rec: &[u64], slot: Slot) -> CardAnswer
+pub fn plain_read_card(rec: &[u64], slot: Slot) -> Result<Tally, Refusal>
     ensures { CardWith (card_on rec.now slot.0) result }
 {
     read_card(rec, slot)
 }
 
 // Calls the public reader of a final block.
-pub fn plain_read_final(rec: &[u64], slot: Slot) -> FinalAnswer
+pub fn plain_read_final(rec: &[u64], slot: Slot) -> Result<u64, Refusal>
     ensures { FinalWith (final_on rec.now slot.0) result }
 {
     read_final(rec, slot)
 }
 
 // Calls the public question where a proof's first certificate ends.
-pub fn plain_split_proof(rec: &[u64], packet: &[u8]) -> SplitAnswer
+pub fn plain_split_proof(rec: &[u64], packet: &[u8]) -> Result<usize, Refusal>
     ensures { SplitWith (split_on rec.now packet.now) result }
 {
     split_proof(rec, packet)
 }
 
 // Calls the public question whether a block may be announced.
-pub fn plain_may_announce(rec: &[u64], slot: Slot, b: Block) -> AnnounceAnswer
+pub fn plain_may_announce(rec: &[u64], slot: Slot, b: Block) -> Result<bool, Refusal>
     ensures { AnnounceWith (announced_on rec.now slot.0 b) result }
 {
     may_announce(rec, slot, b)
 }
 
 // Calls the public reader of an armed window.
-pub fn plain_read_armed(rec: &[u64], slot: Slot) -> ArmedAnswer
+pub fn plain_read_armed(rec: &[u64], slot: Slot) -> Result<bool, Refusal>
     ensures { ArmedWith (armed_on rec.now slot.0) result }
 {
     read_armed(rec, slot)
 }
 
 // Calls the public reader of stored votes.
-pub fn plain_read_votes(rec: &[u64], slot: Slot, node: Node) -> VotesAnswer
+pub fn plain_read_votes(rec: &[u64], slot: Slot, node: Node) -> Result<Cell, Refusal>
     ensures { VotesWith (votes_on rec.now slot.0 node.0) result }
 {
     read_votes(rec, slot, node)
 }
 
 // Calls the public reader of kept blocks.
-pub fn plain_read_blocks(rec: &[u64], slot: Slot) -> BlocksAnswer
+pub fn plain_read_blocks(rec: &[u64], slot: Slot) -> Result<KeptBlocks, Refusal>
     ensures { BlocksWith (blocks_on rec.now slot.0) result }
 {
     read_blocks(rec, slot)
 }
 
 // Calls the public reader of marks.
-pub fn plain_read_marks(rec: &[u64], slot: Slot) -> MarksAnswer
+pub fn plain_read_marks(rec: &[u64], slot: Slot) -> Result<SlotMarks, Refusal>
     ensures { MarksWith (marks_on rec.now slot.0) result }
 {
     read_marks(rec, slot)
 }
 
 // Calls the public reader of a record's head.
-pub fn plain_read_head(rec: &[u64]) -> HeadAnswer
+pub fn plain_read_head(rec: &[u64]) -> Result<RecordHead, Refusal>
     ensures { HeadWith (head_on rec.now) result }
 {
     read_head(rec)
@@ -551,35 +549,35 @@ pub fn plain_list_certificates(rec: &[u64], s: Slot, list: &mut [u64]) -> ListAn
 }
 
 // Calls the public reader of a block's weights.
-pub fn plain_read_weights(rec: &[u64], s: Slot, b: u64) -> WeightsAnswer
+pub fn plain_read_weights(rec: &[u64], s: Slot, b: u64) -> Result<BlockWeights, Refusal>
     ensures { WeightsWith (weights_on rec.now s.0 b) result }
 {
     read_weights(rec, s, b)
 }
 
 // Calls the public operation that takes a piece.
-pub fn plain_piece(words: &mut [u64], front: &mut [u8], stakes: &[u64], bytes: &[u8]) -> PieceAnswer
+pub fn plain_piece(words: &mut [u64], front: &mut [u8], stakes: &[u64], bytes: &[u8]) -> Result<(), Refusal>
     ensures { PiecedWith words.old front.old stakes.now bytes.now result words.new front.new }
 {
     piece(words, front, stakes, bytes)
 }
 
 // Calls the public operation that ends a proof in pieces.
-pub fn plain_end(words: &mut [u64], front: &mut [u8]) -> CheckAnswer
+pub fn plain_end(words: &mut [u64], front: &mut [u8]) -> Result<Accepted, Refusal>
     ensures { EndedWith words.old front.old result words.new front.new }
 {
     end(words, front)
 }
 
 // Calls the public reader of vote messages.
-pub fn plain_read_vote(count: usize, message: &[u8]) -> ReadAnswer
+pub fn plain_read_vote(count: usize, message: &[u8]) -> Result<Vote, Refusal>
     ensures { MessageWith (read_vote count message.now) result }
 {
     read_vote(count, message)
 }
 
 // Calls the public writer of vote messages.
-pub fn plain_write_vote(count: usize, vote: Vote, buffer: &mut [u8]) -> WriteAnswer
+pub fn plain_write_vote(count: usize, vote: Vote, buffer: &mut [u8]) -> Result<usize, Refusal>
     ensures { WroteWith (write_vote count (length buffer.old) vote) buffer.old result buffer.new }
 {
     write_vote(count, vote, buffer)
@@ -621,7 +619,7 @@ pub fn plain_same_parents(one: &[u64], two: &[u64], list: &mut [u64]) -> ListAns
 }
 
 // Calls the public writer of texts.
-pub fn plain_refusal_text(buffer: &mut [u8], number: u64) -> WriteAnswer
+pub fn plain_refusal_text(buffer: &mut [u8], number: u64) -> Result<usize, Refusal>
     ensures { WroteWith (text_on (length buffer.old) number) buffer.old result buffer.new }
 {
     refusal_text(buffer, number)

@@ -1,14 +1,8 @@
 -- Computed cases of the lines, beside the text as a reader sees it.
-use Rattle.std.specs.Prelude.{Bool, List, [], ◌∷◌, ℕ, ◌-◌, ◌^◌, T}
+use Rattle.std.specs.Prelude.{Bool, List, [], ◌∷◌, ℕ, ◌-◌, ◌^◌, T, Result, Ok, Err}
 use Prim.Native.Char.{code}
 use Prim.Native.String as string
-use Rattle.rulebook.specs.declared.StartAnswer.TheVariants as start
-use Rattle.rulebook.specs.declared.StepAnswer.TheVariants as step
-use Rattle.rulebook.specs.declared.WriteAnswer.TheVariants as write
-use Rattle.rulebook.specs.declared.ReadAnswer.TheVariants as read
 use Rattle.rulebook.specs.declared.VoteKind.TheVariants as vote
-use Rattle.rulebook.specs.declared.CheckAnswer.{CheckAnswer}
-use Rattle.rulebook.specs.declared.CheckAnswer.TheVariants as check
 use Rattle.rulebook.specs.declared.CertificateKind.TheVariants as certificate
 use Rattle.rulebook.specs.declared.Refusal.TheVariants as refusal
 use Rattle.rulebook.specs.Tools.{choose, whenever, part}
@@ -18,6 +12,8 @@ use Rattle.rulebook.specs.Scripts.{equal, all}
 use Rattle.lines.specs.Text.{glyph, digits_of, decimal, hex_pair, hex_pairs, hex_text, record_text, records_to, records_text}
 use Rattle.lines.specs.Answers.{number_line, answer_line, spaced, start_line, step_line, votes_to, votes_text, tray_line, packet_line, message_line, missing_line, five_values, check_line}
 use Rattle.lines.specs.Figures.{vote_text, share_text, missing_text}
+use Rattle.rulebook.specs.declared.Accepted.{Accepted}
+use Rattle.rulebook.specs.declared.Refusal.{Refusal}
 
 -- The bytes of a text.
 abbrev bytes_of : string.String → List ℕ
@@ -39,25 +35,25 @@ abbrev hex : Bool
 hex = all (reads (hex_text []) "-" ∷ reads (hex_text (0 ∷ [])) "00" ∷ reads (hex_text (1 ∷ 159 ∷ 171 ∷ 255 ∷ [])) "019FABFF" ∷ [])
 
 -- A check's answer under a table of 64 nodes, with what is missing.
-abbrev checked : CheckAnswer → List ℕ
+abbrev checked : Result Accepted Refusal → List ℕ
 checked a = check_line (check_panel 64 a) (check_missing a)
 
 -- The answers, done and refused; a tray without a vote, and one with a refused vote in its middle.
 abbrev lines : Bool
 lines =
-    all (reads (start_line (start_panel start.Started)) "0\n" ∷ reads (start_line (start_panel (start.Refused refusal.BadRecord))) "17\n"
-    ∷ reads (step_line (step_panel (step.Done 0)) []) "0 0\n"
-    ∷ reads (step_line (step_panel (step.Done 2)) (3 ∷ 1 ∷ 0 ∷ 6 ∷ 16 ∷ 7001 ∷ 5 ∷ 5 ∷ 5 ∷ [])) "0 2 3,1,0 6,16,7001\n"
-    ∷ reads (step_line (step_panel (step.Refused refusal.NoRoom)) (3 ∷ 1 ∷ 0 ∷ [])) "9\n"
-    ∷ reads (tray_line (step_panel (step.Done 0)) [] []) "0 0\n"
-    ∷ reads (tray_line (step_panel (step.Done 1)) (7 ∷ 1 ∷ 0 ∷ 5 ∷ []) (0 ∷ 16 ∷ 7 ∷ [])) "0 1 7,1,0 : 0 16 7\n"
-    ∷ reads (tray_line (step_panel (step.Refused refusal.BadLength)) (7 ∷ 1 ∷ 0 ∷ []) (0 ∷ [])) "12\n"
-    ∷ reads (packet_line (write_panel (write.Written 2)) (4 ∷ 240 ∷ 9 ∷ [])) "0 2 04F0\n"
-    ∷ reads (packet_line (write_panel (write.Refused refusal.NotHeld)) (4 ∷ [])) "18\n"
-    ∷ reads (message_line (read_panel (read.Read (record { kind = vote.NotarFallback; node = record { 0 = 63 }; slot = record { 0 = 16 }; block = 7 })))) "0 2 63 16 7\n"
-    ∷ reads (message_line (read_panel (read.Refused refusal.BadLength))) "12\n"
-    ∷ reads (checked (check.Accepted (record { kind = certificate.Skip; slot = record { 0 = 12 }; block = 0; signers = 3; weight = record { 0 = 60 } }))) "0 4 12 0 3 60\n"
-    ∷ reads (checked (check.Refused (refusal.TooLight (record { 0 = 70 })))) "15 70\n" ∷ reads (checked (check.Refused refusal.BadNumber)) "13\n" ∷ [])
+    all (reads (start_line (start_panel (Ok tt))) "0\n" ∷ reads (start_line (start_panel (Err refusal.BadRecord))) "17\n"
+    ∷ reads (step_line (step_panel (Ok 0)) []) "0 0\n"
+    ∷ reads (step_line (step_panel (Ok 2)) (3 ∷ 1 ∷ 0 ∷ 6 ∷ 16 ∷ 7001 ∷ 5 ∷ 5 ∷ 5 ∷ [])) "0 2 3,1,0 6,16,7001\n"
+    ∷ reads (step_line (step_panel (Err refusal.NoRoom)) (3 ∷ 1 ∷ 0 ∷ [])) "9\n"
+    ∷ reads (tray_line (step_panel (Ok 0)) [] []) "0 0\n"
+    ∷ reads (tray_line (step_panel (Ok 1)) (7 ∷ 1 ∷ 0 ∷ 5 ∷ []) (0 ∷ 16 ∷ 7 ∷ [])) "0 1 7,1,0 : 0 16 7\n"
+    ∷ reads (tray_line (step_panel (Err refusal.BadLength)) (7 ∷ 1 ∷ 0 ∷ []) (0 ∷ [])) "12\n"
+    ∷ reads (packet_line (write_panel (Ok 2)) (4 ∷ 240 ∷ 9 ∷ [])) "0 2 04F0\n"
+    ∷ reads (packet_line (write_panel (Err refusal.NotHeld)) (4 ∷ [])) "18\n"
+    ∷ reads (message_line (read_panel (Ok (record { kind = vote.NotarFallback; node = record { 0 = 63 }; slot = record { 0 = 16 }; block = 7 })))) "0 2 63 16 7\n"
+    ∷ reads (message_line (read_panel (Err refusal.BadLength))) "12\n"
+    ∷ reads (checked (Ok (record { kind = certificate.Skip; slot = record { 0 = 12 }; block = 0; signers = 3; weight = record { 0 = 60 } }))) "0 4 12 0 3 60\n"
+    ∷ reads (checked (Err (refusal.TooLight (record { 0 = 70 })))) "15 70\n" ∷ reads (checked (Err refusal.BadNumber)) "13\n" ∷ [])
 
 -- A stored vote; a block's weight and what is missing to its next certificate; nothing where nothing is missing.
 abbrev shown : Bool

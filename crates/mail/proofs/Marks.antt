@@ -1,5 +1,6 @@
 -- An armed window stays armed, and a slot's timeout is marked as taken only where it was accepted: so an armed slot whose timeout is fed has
 -- accepted it by then.
+use Rattle.std.specs.Prelude.{⊤, Result, Ok, Err}
 use mathlib.Core.Path.{◌≡◌, refl, sym, ap, ◌∙◌, subst}
 use mathlib.Core.Bool.{Bool, true, false, not, ◌&&◌, ◌||◌}
 use mathlib.Core.List.{List, [], ◌∷◌}
@@ -11,8 +12,6 @@ use lib.ListN.{get_or, set}
 use lib.Seq.{get_or-set_same, get_or-set_other}
 use Rattle.rulebook.specs.declared.Input.{Input}
 use Rattle.rulebook.specs.declared.Input.TheVariants as input
-use Rattle.rulebook.specs.declared.Verdict.{Verdict}
-use Rattle.rulebook.specs.declared.Verdict.TheVariants.{Fine, Refused}
 use Rattle.rulebook.specs.Certificates.{Certificate}
 use Rattle.rulebook.specs.Weights.{last_slot, window_of, slot_ok}
 use Rattle.rulebook.specs.Ledger.{Ledger, Row, none, places, table_of, row_at, is_watcher, is_armed, no_initial, own_cell, certificates_at, put_row, put_armed, put_timed_out}
@@ -43,6 +42,7 @@ use Rattle.mail.specs.Mail.{times_out, timed_out_in}
 use Rattle.mail.proofs.Votes.{slot_fine}
 use Rattle.mail.proofs.Quiet.{intake_armed}
 use Rattle.mail.proofs.Arrivals.{any_is}
+use Rattle.rulebook.specs.declared.Refusal.{Refusal}
 
 -- The timeout of slot s is marked as taken.
 abbrev pub marked : Ledger → ℕ → Bool
@@ -102,7 +102,7 @@ run_marks s o h = (run_keeps (Along s o) (marks_lawful s o) o (marks_start s o h
 
 -- ---- what arrives
 
-timeout_passes : (l : Ledger) (s : ℕ) → T (not (is_watcher l)) → 1 ≤ s → s ≤ last_slot → T (is_armed l s) → T (not (marked l s)) → timeout_verdict l s ≡ Fine
+timeout_passes : (l : Ledger) (s : ℕ) → T (not (is_watcher l)) → 1 ≤ s → s ≤ last_slot → T (is_armed l s) → T (not (marked l s)) → timeout_verdict l s ≡ Ok tt
 unfolding timeout_verdict
 timeout_passes l s v lo hi a u =
     pass (is_watcher l) _ _ v
@@ -110,7 +110,7 @@ timeout_passes l s v lo hi a u =
     (pass (not (is_armed l s)) _ _ (tests.yes (is_armed l s) a)
     (pass (marked l s) _ _ u refl)))
 
-fine_done : (l : Ledger) (i : Input) (v : Verdict) → v ≡ Fine → T (is_done (fed_on v l i).answer)
+fine_done : (l : Ledger) (i : Input) (v : Result ⊤ Refusal) → v ≡ Ok tt → T (is_done (fed_on v l i).answer)
 unfolding fed_on fed_with is_done
 fine_done l i v e = rw e tt
 
@@ -123,7 +123,7 @@ module _ (l : Ledger) (h : Sound l) (s : ℕ) where
       given_by (λ (p : State). (row_at p.ledger s).timed_out ≡ (row_at (put_timed_out l t) s).timed_out) (no_initial (own_cell l t)) o (λ _. cast_skips o t) refl
       (λ _. (skips_keep _ (voter_casting (Along s o) (marks_lawful s o)) t lo hi o (marks_start s o (sound_timed_out l h t lo hi), v)).0.1.mark)
 
-  intake_mark : (i : Input) → verdict l i ≡ Fine → ¬ T (times_out (of_input i) s) → (row_at (intake l i).ledger s).timed_out ≡ (row_at l s).timed_out
+  intake_mark : (i : Input) → verdict l i ≡ Ok tt → ¬ T (times_out (of_input i) s) → (row_at (intake l i).ledger s).timed_out ≡ (row_at l s).timed_out
   unfolding intake store_vote keep_block verdict
   intake_mark (input.Vote v) e n = let f = vote_fine l v e in row_mark l v.slot.0 _ f.high h.shaped refl s
   intake_mark (input.Block t b) e n = let f = block_fine l t.0 b e in row_mark l t.0 _ f.high h.shaped refl s
@@ -146,9 +146,9 @@ module _ (l : Ledger) (h : Sound l) (s : ℕ) where
     mark = λ t. T-right (times_out i s && is_done f.answer) (marked l s) (subst (λ (m : Ledger). T (marked m s)) e t);
   }
 
-  fed_kept : (v : Verdict) (i : Input) → verdict l i ≡ v → Kept (of_input i) (fed_on v l i)
+  fed_kept : (v : Result ⊤ Refusal) (i : Input) → verdict l i ≡ v → Kept (of_input i) (fed_on v l i)
   unfolding fed_on fed_with refused_with is_done
-  fed_kept Fine i e =
+  fed_kept (Ok tt) i e =
       let o = intake l i in
       let m = run_marks s o (intake_paid l h i e).sound in
       let a = times_out (of_input i) s in
@@ -158,18 +158,18 @@ module _ (l : Ledger) (h : Sound l) (s : ℕ) where
             (λ u. T-left (a && true) (marked l s) (T_and a true u tt))
             (λ u. T-right (a && true) (marked l s) (subst (λ (z : ℕ). T (not (none z))) (m.mark ∙ intake_mark i e (T_not a u)) t));
       }
-  fed_kept (Refused r) i e = refused_kept (of_input i) (refused_with l r) refl
+  fed_kept (Err r) i e = refused_kept (of_input i) (refused_with l r) refl
 
-  taken_kept : (v : Verdict) (bytes : List ℕ) (c : Certificate) → judge (table_of l) c ≡ Fine → kept_verdict (certificates_at l c.slot) (kind_for l c) c.block ≡ v → Kept (of_packet bytes) (taken_on v l c)
+  taken_kept : (v : Result ⊤ Refusal) (bytes : List ℕ) (c : Certificate) → judge (table_of l) c ≡ Ok tt → kept_verdict (certificates_at l c.slot) (kind_for l c) c.block ≡ v → Kept (of_packet bytes) (taken_on v l c)
   unfolding taken_on fed_with refused_with keep_certificate
-  taken_kept Fine bytes c j e =
+  taken_kept (Ok tt) bytes c j e =
       let f = taken_fine l h c j e in
       let m = run_marks s (state_of (keep_certificate l c) []) (sound_certificate l h c f) in
       record {
         armed = λ t. m.armed t;
         mark = λ t. subst (λ (z : ℕ). T (not (none z))) (m.mark ∙ row_mark l c.slot _ f.high h.shaped refl s) t;
       }
-  taken_kept (Refused r) bytes c j e = refused_kept (of_packet bytes) (refused_with l r) refl
+  taken_kept (Err r) bytes c j e = refused_kept (of_packet bytes) (refused_with l r) refl
 
   served_kept : (i : Arrival) → Kept i (served l i)
   unfolding served feed taken refused_with
@@ -186,12 +186,12 @@ module _ (l : Ledger) (h : Sound l) (s : ℕ) where
   timeout_done v lo hi a (of_input (input.Timeout x)) t =
       by_test (marked l s) (λ u. T-right (times_out (of_input (input.Timeout x)) s && is_done (served l (of_input (input.Timeout x))).answer) (marked l s) u)
       (λ u. T-left (eqb x.0 s && is_done (fed_on (timeout_verdict l x.0) l (input.Timeout x)).answer) (marked l s)
-      (T_and (eqb x.0 s) (is_done (fed_on (timeout_verdict l x.0) l (input.Timeout x)).answer) t (done (timeout_verdict l x.0) (subst (λ (z : ℕ). timeout_verdict l z ≡ Fine) (sym (eqb→eq x.0 s t)) (fine u)))))
+      (T_and (eqb x.0 s) (is_done (fed_on (timeout_verdict l x.0) l (input.Timeout x)).answer) t (done (timeout_verdict l x.0) (subst (λ (z : ℕ). timeout_verdict l z ≡ Ok tt) (sym (eqb→eq x.0 s t)) (fine u)))))
     where
-      fine : T (not (marked l s)) → timeout_verdict l s ≡ Fine
+      fine : T (not (marked l s)) → timeout_verdict l s ≡ Ok tt
       fine u = timeout_passes l s v lo hi a u
 
-      done : (z : Verdict) → z ≡ Fine → T (is_done (fed_on z l (input.Timeout x)).answer)
+      done : (z : Result ⊤ Refusal) → z ≡ Ok tt → T (is_done (fed_on z l (input.Timeout x)).answer)
       done z e = fine_done l (input.Timeout x) z e
   timeout_done v lo hi a (of_input input.Look) t = absurd t
   timeout_done v lo hi a (of_packet bytes) t = absurd t

@@ -1,4 +1,5 @@
 -- By the policy every kept block of a slot but the first has rule D's weights, and so every block that it lets the host announce is kept.
+use Rattle.std.specs.Prelude.{Ok}
 use mathlib.Core.Path.{◌≡◌, refl, sym, subst}
 use mathlib.Core.Bool.{false, not, ◌&&◌, ◌||◌}
 use mathlib.Core.List.{List, [], ◌∷◌}
@@ -10,7 +11,6 @@ use lib.ListN.{length}
 use Rattle.rulebook.specs.declared.Block.{Block}
 use Rattle.rulebook.specs.declared.Slot.{Slot}
 use Rattle.rulebook.specs.declared.Input.TheVariants as input
-use Rattle.rulebook.specs.declared.Verdict.TheVariants.{Fine}
 use Rattle.rulebook.specs.Weights.{last_slot, slot_ok, places_for}
 use Rattle.rulebook.specs.Ledger.{Ledger, Row, none, fresh, blocks_at, some_block, all_blocks, is_free, has_number, is_block, keeps_block}
 use Rattle.rulebook.specs.Rules.{fallback_weights}
@@ -202,7 +202,7 @@ module _ {most : ℕ} (me : ℕ) (l : Ledger) (s : ℕ) (o : Orderly most me l s
         let e = (and_t (eqb h.0.number k.number) (eqb h.0.parentslot.0 k.parentslot.0 && eqb h.0.parent k.parent) h.1).0 in
         T_not (some_block (has_number b) (blocks_at l s)) new (h.2 (has_number b) (subst (λ (z : ℕ). T (eqb h.0.number z)) y.number e)))
 
-    block_fine : T (not (some_block (has_number b) (blocks_at l s))) → T (some_block is_free (blocks_at l s)) → block_verdict l s k ≡ Fine
+    block_fine : T (not (some_block (has_number b) (blocks_at l s))) → T (some_block is_free (blocks_at l s)) → block_verdict l s k ≡ Ok tt
     unfolding block_verdict stands_against
     block_fine new free =
         pass (not (slot_ok s)) _ _ (tests.yes (slot_ok s) (slot_fine s lo hi))
@@ -223,7 +223,7 @@ module _ {most : ℕ} (me : ℕ) (l : Ledger) (s : ℕ) (o : Orderly most me l s
     unfolding verdict intake
     shown_kept u may new =
         let free = room lo hi b y.some may new in
-        let fine : block_verdict l t.0 k ≡ Fine = rw y.slot (block_fine new free) in
+        let fine : block_verdict l t.0 k ≡ (Ok tt) = rw y.slot (block_fine new free) in
         (intake_grows me l o.ready (input.Block t k) fine).blocks s b p x
         (rw y.slot (keeps_it (and_t (eqb t.0 s) (is_block b p x k) u).1 free))
 

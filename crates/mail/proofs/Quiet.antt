@@ -1,4 +1,5 @@
 -- Records over a life; and what an arrival leaves that makes no record: no rule has applied, so that no window was armed.
+use Rattle.std.specs.Prelude.{⊤, Result, Ok, Err}
 use mathlib.Core.Path.{◌≡◌, refl, sym, ap, ◌∙◌}
 use mathlib.Core.Bool.{Bool, true, false, ◌||◌}
 use mathlib.Core.List.{List, [], ◌∷◌, ◌++◌, append_assoc, reverse}
@@ -7,8 +8,6 @@ use native.Mathlib.Omega.{arith}
 use lib.ListN.{length, length-append, length-reverse}
 use Rattle.rulebook.specs.declared.Input.{Input}
 use Rattle.rulebook.specs.declared.Input.TheVariants as input
-use Rattle.rulebook.specs.declared.Verdict.{Verdict}
-use Rattle.rulebook.specs.declared.Verdict.TheVariants.{Fine, Refused}
 use Rattle.rulebook.specs.declared.VoteKind.TheVariants as vote
 use Rattle.rulebook.specs.Certificates.{Certificate}
 use Rattle.rulebook.specs.Ledger.{Ledger, table_of, no_initial, own_cell, certificates_at, put_timed_out}
@@ -27,6 +26,7 @@ use Rattle.settling.proofs.Spending.{came_more, run_comes}
 use Rattle.settling.proofs.Life.{intake_paid, taken_fine, served_paid}
 use Rattle.safety.specs.Ballots.{same_record, among}
 use Rattle.safety.specs.Ring.{after_all, made_in}
+use Rattle.rulebook.specs.declared.Refusal.{Refusal}
 
 -- ---- records
 
@@ -84,15 +84,15 @@ module _ (l : Ledger) (h : Sound l) where
   abbrev Stays : Fed → Type 0
   Stays f = length f.records ≡ 0 → f.ledger.armed ≡ l.armed
 
-  fed_armed : (v : Verdict) (i : Input) → verdict l i ≡ v → Stays (fed_on v l i)
+  fed_armed : (v : Result ⊤ Refusal) (i : Input) → verdict l i ≡ v → Stays (fed_on v l i)
   unfolding fed_on fed_with refused_with
-  fed_armed Fine i e q = run_armed (intake l i) (intake_paid l h i e).sound q ∙ intake_armed l i
-  fed_armed (Refused r) i e q = refl
+  fed_armed (Ok tt) i e q = run_armed (intake l i) (intake_paid l h i e).sound q ∙ intake_armed l i
+  fed_armed (Err r) i e q = refl
 
-  taken_armed : (v : Verdict) (c : Certificate) → judge (table_of l) c ≡ Fine → kept_verdict (certificates_at l c.slot) (kind_for l c) c.block ≡ v → Stays (taken_on v l c)
+  taken_armed : (v : Result ⊤ Refusal) (c : Certificate) → judge (table_of l) c ≡ Ok tt → kept_verdict (certificates_at l c.slot) (kind_for l c) c.block ≡ v → Stays (taken_on v l c)
   unfolding taken_on fed_with refused_with keep_certificate
-  taken_armed Fine c j e q = run_armed (state_of (keep_certificate l c) []) (sound_certificate l h c (taken_fine l h c j e)) q
-  taken_armed (Refused r) c j e q = refl
+  taken_armed (Ok tt) c j e q = run_armed (state_of (keep_certificate l c) []) (sound_certificate l h c (taken_fine l h c j e)) q
+  taken_armed (Err r) c j e q = refl
 
   served_armed : (i : Arrival) → Stays (served l i)
   unfolding served feed taken refused_with

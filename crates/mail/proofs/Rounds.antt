@@ -1,4 +1,5 @@
 -- Feeding ends: a round in which no node that is fed makes a record finds cast, armed and asked what was so before it, and feeds all of it.
+use Rattle.std.specs.Prelude.{Ok}
 use mathlib.Core.Path.{◌≡◌, refl, sym, ap, ◌∙◌, subst}
 use mathlib.Core.Bool.{Bool, true, false, not, ◌&&◌}
 use mathlib.Core.List.{List, [], ◌∷◌, ◌++◌, append-nil}
@@ -8,7 +9,6 @@ use native.Mathlib.Decide.{ℕ_discrete}
 use lib.Dec.{T, eqb_refl}
 use lib.ListN.{length, get_or, length-append}
 use Rattle.rulebook.specs.declared.Cell.{Cell}
-use Rattle.rulebook.specs.declared.Verdict.TheVariants.{Fine}
 use Rattle.rulebook.specs.Tools.{part, sum_to}
 use Rattle.rulebook.specs.Weights.{places_for, total_to, window_of, is_first}
 use Rattle.rulebook.specs.Ledger.{Ledger, none, fresh, cell_at, own_cell, no_initial, is_armed}
@@ -78,7 +78,7 @@ after_sound l (i ∷ is) h = after_sound (served l i).ledger is (served_paid l h
 
 -- Lives that go on in rounds, of any nodes whose starts were accepted.
 module _ (stakes : List ℕ) (genesis : ℕ → ℕ) (nodes : Test) (fed more : ℕ → ℕ → List Arrival) (go_on : (k n : ℕ) → fed (suc k) n ≡ fed k n ++ more k n)
-    (started : (n : ℕ) → T (nodes n) → start_verdict stakes n (genesis n) ≡ Fine) where
+    (started : (n : ℕ) → T (nodes n) → start_verdict stakes n (genesis n) ≡ Ok tt) where
   abbrev start : ℕ → Ledger
   start n = fresh stakes n (genesis n)
 
@@ -193,7 +193,7 @@ module _ (stakes : List ℕ) (genesis : ℕ → ℕ) (nodes : Test) (fed more : 
 -- ---- the honest nodes of a ring
 
 module _ (stakes : List ℕ) (genesis : ℕ → ℕ) (honest : Test) (fed : ℕ → ℕ → List Arrival) (u : ℕ) (r : Rounds stakes genesis honest fed u) where
-  abbrev started : (n : ℕ) → T (honest n) → start_verdict stakes n (genesis n) ≡ Fine
+  abbrev started : (n : ℕ) → T (honest n) → start_verdict stakes n (genesis n) ≡ Ok tt
   started = (r.ring 0).started
 
   abbrev still : Quiet stakes genesis honest fed r.more r.go_on started

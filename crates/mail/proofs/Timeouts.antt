@@ -1,4 +1,5 @@
 -- An accepted timeout leaves an own initial vote in its slot, and it stays.
+use Rattle.std.specs.Prelude.{⊤, Result, Ok, Err}
 use mathlib.Core.Path.{◌≡◌, refl, sym, ap, ◌∙◌, subst}
 use mathlib.Core.Bool.{Bool, true, false, not, ◌&&◌, ◌||◌}
 use mathlib.Core.List.{List, [], ◌∷◌}
@@ -9,8 +10,6 @@ use Rattle.rulebook.specs.declared.Cell.{Cell}
 use Rattle.rulebook.specs.declared.Input.{Input}
 use Rattle.rulebook.specs.declared.Input.TheVariants as input
 use Rattle.rulebook.specs.declared.VoteKind.TheVariants as vote
-use Rattle.rulebook.specs.declared.Verdict.{Verdict}
-use Rattle.rulebook.specs.declared.Verdict.TheVariants as verdicts
 use Rattle.rulebook.specs.Tools.{all_to}
 use Rattle.rulebook.specs.Weights.{last_slot, slot_ok, window_of, first_of}
 use Rattle.rulebook.specs.Ledger.{Ledger, none, no_initial, fresh, cell_at, own_cell, put_timed_out}
@@ -34,6 +33,7 @@ use Rattle.safety.proofs.Steps.{Going, Ready, passed, mine, skip_going, row_goin
 use Rattle.safety.proofs.Lives.{step_ready, life_grow, life_ready, start_sized, fresh_ready}
 use Rattle.mail.specs.Mail.{times_out, timed_out_in, TimedOutIsEnough}
 use Rattle.mail.proofs.Votes.{intake_grows}
+use Rattle.rulebook.specs.declared.Refusal.{Refusal}
 
 -- Node me has an initial vote in slot s.
 abbrev Voted : ℕ → Ledger → ℕ → Type 0
@@ -98,22 +98,22 @@ module _ {most : ℕ} (me : ℕ) (i : Arrival) (from : State) (me-in : me < most
       (λ x. skip_keeps p3 s (f + 3) (omega arith) g3 (here p2 (f + 2) (eqb→eq (f + 2) s x) (omega arith) g2))
       (λ x. here p3 (f + 3) (eqb→eq (f + 3) s x) (omega arith) g3))))
 
-slot_low : (l : Ledger) (s : ℕ) → timeout_verdict l s ≡ verdicts.Fine → 1 ≤ s
+slot_low : (l : Ledger) (s : ℕ) → timeout_verdict l s ≡ Ok tt → 1 ≤ s
 unfolding timeout_verdict slot_ok
 slot_low l zero e = absurd (passed _ _ _ (passed _ _ _ e).1).0
 slot_low l (suc s) e = omega arith
 
 -- An input that is answered 0 has passed the tests.
-pub done_fine : (l : Ledger) (i : Input) → T (is_done (served l (of_input i)).answer) → verdict l i ≡ verdicts.Fine
+pub done_fine : (l : Ledger) (i : Input) → T (is_done (served l (of_input i)).answer) → verdict l i ≡ Ok tt
 unfolding served feed fed_on refused_with is_done
 done_fine l i t = go (verdict l i) t
   where
-    go : (v : Verdict) → T (is_done (fed_on v l i).answer) → v ≡ verdicts.Fine
-    go verdicts.Fine u = refl
-    go (verdicts.Refused r) u = absurd u
+    go : (v : Result ⊤ Refusal) → T (is_done (fed_on v l i).answer) → v ≡ Ok tt
+    go (Ok tt) u = refl
+    go (Err r) u = absurd u
 
 module _ {most : ℕ} (me : ℕ) (l : Ledger) (r : Ready most me l) where
-  pub timeout_votes : (i : Arrival) (s : ℕ) → timeout_verdict l s ≡ verdicts.Fine → Voted me (time_out l s).ledger s
+  pub timeout_votes : (i : Arrival) (s : ℕ) → timeout_verdict l s ≡ Ok tt → Voted me (time_out l s).ledger s
   unfolding time_out
   timeout_votes i s e =
       let g = start_going me l r i in

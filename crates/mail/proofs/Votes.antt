@@ -1,4 +1,5 @@
 -- A vote that an honest node cast and that is fed to an honest node stands in its pool: it is there already, or its place is free.
+use Rattle.std.specs.Prelude.{⊤, Result, Ok}
 use mathlib.Core.Path.{◌≡◌, refl, sym, ap, ◌∙◌, subst}
 use mathlib.Core.Bool.{Bool, true, false, not, ◌&&◌, ◌||◌}
 use mathlib.Core.List.{List, [], ◌∷◌}
@@ -12,8 +13,6 @@ use Rattle.rulebook.specs.declared.VoteKind.{VoteKind}
 use Rattle.rulebook.specs.declared.VoteKind.TheVariants as vote
 use Rattle.rulebook.specs.declared.Input.{Input}
 use Rattle.rulebook.specs.declared.Input.TheVariants as input
-use Rattle.rulebook.specs.declared.Verdict.{Verdict}
-use Rattle.rulebook.specs.declared.Verdict.TheVariants.{Fine}
 use Rattle.rulebook.specs.Weights.{last_slot, slot_ok}
 use Rattle.rulebook.specs.PaperNumbers.{vote_number}
 use Rattle.rulebook.specs.Ledger.{Ledger, none, no_initial, fresh, cell_at}
@@ -35,6 +34,7 @@ use Rattle.safety.proofs.Steps.{Going, Ready, pass, run_going, intake_going, sta
 use Rattle.safety.proofs.Lives.{step_ready, life_grow, life_table, fresh_ready, watch_sized}
 use Rattle.safety.proofs.Safety.{in_table_lem, start_ready, end_ready, pooled, own_stored}
 use Rattle.mail.specs.Mail.{FedIsEnough, WatcherFedIsEnough}
+use Rattle.rulebook.specs.declared.Refusal.{Refusal}
 
 -- ---- kinds
 
@@ -190,13 +190,13 @@ module _ (c o : Cell) (nc : Neat c) (neat : Neat o) (all : (w : Ballot) → T (h
   room_of skip_fallback t nh = tt
   room_of final t nh = tt
 
-place_fine : (a b : Bool) → T (not a) → T b → place_verdict (place_if a b) ≡ Fine
+place_fine : (a b : Bool) → T (not a) → T b → place_verdict (place_if a b) ≡ Ok tt
 unfolding place_if place_verdict
 place_fine true b t u = absurd t
 place_fine false true t u = refl
 place_fine false false t u = absurd u
 
-pub free_room : (c : Cell) (v : Ballot) → T (not (misfits (kind_of v) (block_of v))) → T (room_for c v) → ¬ T (has c v) → place_verdict (place_of c (kind_of v) (block_of v)) ≡ Fine
+pub free_room : (c : Cell) (v : Ballot) → T (not (misfits (kind_of v) (block_of v))) → T (room_for c v) → ¬ T (has c v) → place_verdict (place_of c (kind_of v) (block_of v)) ≡ Ok tt
 unfolding place_of misfits
 free_room c (notar b) m r nh = place_fine (eqb c.notar b) (no_initial c) (not_T (eqb c.notar b) (λ u. nh (is_notar c b m u))) (and_t (not (none b)) (no_initial c) r).1
 free_room c (notar_fallback b) m r nh =
@@ -215,18 +215,18 @@ slot_fine s lo hi = T_and (leb 1 s) (leb s last_slot) (le→leb 1 s lo) (le→le
 
 module _ {most : ℕ} (me : ℕ) (l : Ledger) (r : Ready most me l) where
   -- What the intake left the run keeps, and so does the answer.
-  pub intake_grows : (i : Input) → verdict l i ≡ Fine → Grow (intake l i).ledger (served l (of_input i)).ledger
+  pub intake_grows : (i : Input) → verdict l i ≡ Ok tt → Grow (intake l i).ledger (served l (of_input i)).ledger
   unfolding served feed fed_on fed_with
   intake_grows i e =
       let o = intake l i in
       let g = intake_going me l r.count i e (start_going me l r (of_input i)) in
       let from : Going most me (of_input i) o o = record { moves = stay; shaped = g.shaped; own = g.own; seat = g.seat; inv = g.inv } in
-      subst (λ (x : Verdict). Grow o.ledger (fed_on x l i).ledger) (sym e)
+      subst (λ (x : Result ⊤ Refusal). Grow o.ledger (fed_on x l i).ledger) (sym e)
       (moves_grow me (of_input i) o (run o) (run_going me (of_input i) o o from).moves).1
 
   module _ (w : Vote) (s m : ℕ) (v : Ballot) (lo : 1 ≤ s) (hi : s ≤ last_slot) (in_table : m < l.count) (ne : ¬ (m ≡ me))
       (en : w.node.0 ≡ m) (ek : w.kind ≡ kind_of v) (es : w.slot.0 ≡ s) (eb : w.block ≡ block_of v) where
-    vote_fine : T (not (misfits (kind_of v) (block_of v))) → place_verdict (place_of (cell_at l s m) (kind_of v) (block_of v)) ≡ Fine → vote_verdict l w ≡ Fine
+    vote_fine : T (not (misfits (kind_of v) (block_of v))) → place_verdict (place_of (cell_at l s m) (kind_of v) (block_of v)) ≡ Ok tt → vote_verdict l w ≡ Ok tt
     unfolding vote_verdict
     vote_fine f p =
         rw (en, ek, es, eb)

@@ -1,8 +1,7 @@
 -- What a host feeds is enough: a vote that an honest node cast ends in the pool, and a timeout in an own initial vote, whatever else the node
 -- was fed. Each promise is a statement that proofs/ proves under the same name in small letters.
-use Rattle.std.specs.Prelude.{◌≡◌, Bool, false, not, ◌&&◌, ◌||◌, List, [], ◌∷◌, ℕ, ◌≤◌, T, eqb}
+use Rattle.std.specs.Prelude.{◌≡◌, Bool, false, not, ◌&&◌, ◌||◌, List, [], ◌∷◌, ℕ, ◌≤◌, T, eqb, Ok}
 use Rattle.rulebook.specs.declared.Input.TheVariants as input
-use Rattle.rulebook.specs.declared.Verdict.TheVariants.{Fine}
 use Rattle.rulebook.specs.Weights.{last_slot}
 use Rattle.rulebook.specs.Ledger.{Ledger, fresh, cell_at, own_cell, no_initial}
 use Rattle.rulebook.specs.Inputs.{start_verdict, watch_verdict}
@@ -27,7 +26,7 @@ FedIsEnough =
 abbrev pub WatcherFedIsEnough : Type 0
 WatcherFedIsEnough =
     (stakes : List ℕ) (genesis : ℕ → ℕ) (honest : Test) (fed : ℕ → List Arrival) → Ring stakes genesis honest fed
-    → (g : ℕ) → watch_verdict stakes g ≡ Fine → (lived : List Arrival) → HoldsGenuine honest (cast_by stakes genesis honest fed) (watched stakes g lived)
+    → (g : ℕ) → watch_verdict stakes g ≡ Ok tt → (lived : List Arrival) → HoldsGenuine honest (cast_by stakes genesis honest fed) (watched stakes g lived)
     → (m s : ℕ) (v : Ballot) → T (honest m) → 1 ≤ s → s ≤ last_slot
     → T (cast_by stakes genesis honest fed m s v) → T (brought_by lived s m v) → T (has (cell_at (watched stakes g lived) s m) v)
 
@@ -49,5 +48,5 @@ timed_out_in l (i ∷ is) s = (times_out i s && is_done (served l i).answer) || 
 -- A node that accepted the timeout of a slot has an initial vote in it from then on.
 abbrev pub TimedOutIsEnough : Type 0
 TimedOutIsEnough =
-    (stakes : List ℕ) (me genesis : ℕ) → start_verdict stakes me genesis ≡ Fine → (lived : List Arrival) (s : ℕ) → T (timed_out_in (fresh stakes me genesis) lived s)
+    (stakes : List ℕ) (me genesis : ℕ) → start_verdict stakes me genesis ≡ Ok tt → (lived : List Arrival) (s : ℕ) → T (timed_out_in (fresh stakes me genesis) lived s)
     → T (not (no_initial (own_cell (after_all (fresh stakes me genesis) lived) s)))

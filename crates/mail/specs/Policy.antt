@@ -1,9 +1,8 @@
 -- THE HOST'S POLICY for blocks: announce a slot's first block as it comes, and a further one only once it has rule D's weights in the pool.
 -- By #107's arithmetic at most three blocks of a slot ever have those weights, so that the four places are enough. First the policy, then the
 -- promises, each as a statement that proofs/ proves under the same name in small letters.
-use Rattle.std.specs.Prelude.{◌≡◌, Bool, true, not, ◌&&◌, ◌||◌, List, [], ◌∷◌, ℕ, ◌≤◌, ◌<◌, T, length}
+use Rattle.std.specs.Prelude.{◌≡◌, Bool, true, not, ◌&&◌, ◌||◌, List, [], ◌∷◌, ℕ, ◌≤◌, ◌<◌, T, length, Ok}
 use Rattle.rulebook.specs.declared.Input.TheVariants as input
-use Rattle.rulebook.specs.declared.Verdict.TheVariants.{Fine}
 use Rattle.rulebook.specs.Weights.{last_slot}
 use Rattle.rulebook.specs.Ledger.{Ledger, none, fresh, blocks_at, some_block, all_blocks, is_free, has_number, keeps_block}
 use Rattle.rulebook.specs.Rules.{fallback_weights}
@@ -30,8 +29,8 @@ by_policy l (i ∷ is) = allowed l i && by_policy (served l i).ledger is
 
 -- An accepted start: a node's, or a watcher's, which has the number after the last.
 pub data Started (stakes : List ℕ) : ℕ → ℕ → Type 0 where
-  as_node : {own genesis : ℕ} → start_verdict stakes own genesis ≡ Fine → Started stakes own genesis
-  as_watcher : {genesis : ℕ} → watch_verdict stakes genesis ≡ Fine → Started stakes (length stakes) genesis
+  as_node : {own genesis : ℕ} → start_verdict stakes own genesis ≡ Ok tt → Started stakes own genesis
+  as_watcher : {genesis : ℕ} → watch_verdict stakes genesis ≡ Ok tt → Started stakes (length stakes) genesis
 
 -- The parent (p, x) of a block of slot s is one that 5 and 11 let pass at a node of this genesis.
 pub record ParentFits (genesis s p x : ℕ) : Type 0 where

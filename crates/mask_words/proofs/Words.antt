@@ -1,4 +1,5 @@
 -- Masks read and written a word at a time. Assumes nothing.
+use Rattle.std.specs.Prelude.{Result, Ok, Err}
 use mathlib.Core.Path.{◌≡◌, refl, sym, ap, ap₂, ◌∙◌, subst}
 use mathlib.Core.List.{List, [], ◌∷◌, ◌++◌, append_assoc, append-nil}
 use Prim.Native.Nat.{ℕ, zero, suc, ◌+◌, ◌-◌, ◌*◌, ◌/◌, ◌%◌, ◌^◌, ◌<◌, ◌≤◌}
@@ -9,42 +10,41 @@ use types.Run.{OneOf}
 use denote.Enum.Declared.{tag_of}
 use lib.ListN.{length, get_or, set, take, length-append, length-set}
 use lib.Seq.{take-suc, take-length, take-suc-set}
-use Rattle.rulebook.specs.declared.Reading.{Reading}
 use Rattle.rulebook.specs.contracts.Reading as type
-use Rattle.rulebook.specs.declared.Reading.TheVariants as reading
-use Rattle.rulebook.specs.declared.Laid.TheVariants as laid
 use Rattle.rulebook.specs.Packets.{number_at, number_bytes, above_word, word_then, mask_at, mask_bytes, joined}
 use Rattle.rule_laws.proofs.WordLaws.{Words}
 use Rattle.mask_words.specs.Told.{failed_word, laid_as}
 use Rattle.numbers.specs.Written.{Room, Written}
 use Rattle.mask_words.proofs.Fell.{fell_word}
 use Rattle.numbers.proofs.Stores.{after, stores_lay}
+use Rattle.rulebook.specs.declared.Unread.{Unread}
+use Rattle.rulebook.specs.declared.Unread.TheVariants.{Early, Malformed}
 
 -- ---- reading
 
 -- Words that were read, in front of what is still to be read.
-unfoldable pub ahead : List ℕ → Reading → Reading
+unfoldable pub ahead : List ℕ → Result (ℕ × ℕ) Unread → Result (ℕ × ℕ) Unread
 ahead [] r = r
 ahead (x ∷ xs) r = above_word x (ahead xs r)
 
-ahead_more : (xs : List ℕ) (v : ℕ) (r : Reading) → ahead (xs ++ (v ∷ [])) r ≡ ahead xs (above_word v r)
+ahead_more : (xs : List ℕ) (v : ℕ) (r : Result (ℕ × ℕ) Unread) → ahead (xs ++ (v ∷ [])) r ≡ ahead xs (above_word v r)
 unfolding ahead
 ahead_more [] v r = refl
 ahead_more (x ∷ xs) v r = ap (above_word x) (ahead_more xs v r)
 
-ahead_all : (xs : List ℕ) (p : ℕ) → ahead xs (reading.Number 0 p) ≡ reading.Number (joined xs) p
+ahead_all : (xs : List ℕ) (p : ℕ) → ahead xs (Ok (0, p)) ≡ Ok (joined xs, p)
 unfolding ahead above_word joined
 ahead_all [] p = refl
 ahead_all (x ∷ xs) p = ap (above_word x) (ahead_all xs p)
 
-ahead_fell : (xs : List ℕ) (n : Reading) (a b : ℕ) → ahead xs (laid_as (failed_word n) a) ≡ laid_as (failed_word n) b
+ahead_fell : (xs : List ℕ) (n : Result (ℕ × ℕ) Unread) (a b : ℕ) → ahead xs (laid_as (failed_word n) a) ≡ laid_as (failed_word n) b
 unfolding ahead above_word laid_as
-ahead_fell [] (reading.Number v p) a b = refl
-ahead_fell [] reading.Early a b = refl
-ahead_fell [] reading.Malformed a b = refl
-ahead_fell (x ∷ xs) (reading.Number v p) a b = ap (above_word x) (ahead_fell xs (reading.Number v p) a b)
-ahead_fell (x ∷ xs) reading.Early a b = ap (above_word x) (ahead_fell xs reading.Early a b)
-ahead_fell (x ∷ xs) reading.Malformed a b = ap (above_word x) (ahead_fell xs reading.Malformed a b)
+ahead_fell [] (Ok (v, p)) a b = refl
+ahead_fell [] (Err Early) a b = refl
+ahead_fell [] (Err Malformed) a b = refl
+ahead_fell (x ∷ xs) (Ok (v, p)) a b = ap (above_word x) (ahead_fell xs (Ok (v, p)) a b)
+ahead_fell (x ∷ xs) (Err Early) a b = ap (above_word x) (ahead_fell xs (Err Early) a b)
+ahead_fell (x ∷ xs) (Err Malformed) a b = ap (above_word x) (ahead_fell xs (Err Malformed) a b)
 
 -- The first i of w words are read, and the next number stands at p.
 pub record Taken (w : ℕ) (bytes : List ℕ) (at : ℕ) (words : List ℕ) (i p : ℕ) : Type 0 where
@@ -63,7 +63,7 @@ module _ (w : ℕ) (bytes : List ℕ) (at : ℕ) (words : List ℕ) (i p : ℕ) 
       let e : w - i ≡ suc (w - (i + 1)) = omega arith in
       sym (ap (λ (k : ℕ). ahead (take i words) (mask_at k bytes p)) e) ∙ t.left
 
-  pub taken_more : (v next : ℕ) → i < w → number_at bytes p ≡ reading.Number v next → Taken w bytes at (set words i v) (i + 1) next
+  pub taken_more : (v next : ℕ) → i < w → number_at bytes p ≡ Ok (v, next) → Taken w bytes at (set words i v) (i + 1) next
   unfolding word_then
   taken_more v next h e =
       let l : i < length words = omega (arith, t.long) in
@@ -73,23 +73,23 @@ module _ (w : ℕ) (bytes : List ℕ) (at : ℕ) (words : List ℕ) (i p : ℕ) 
         left =
             ap (λ (xs : List ℕ). ahead xs (mask_at (w - (i + 1)) bytes next)) (ap (λ (k : ℕ). take k (set words i v)) (add-one i) ∙ take-suc-set words i v l)
             ∙ ahead_more (take i words) v (mask_at (w - (i + 1)) bytes next)
-            ∙ ap (λ (r : Reading). ahead (take i words) (word_then r (mask_at (w - (i + 1)) bytes))) (sym e)
+            ∙ ap (λ (r : Result (ℕ × ℕ) Unread). ahead (take i words) (word_then r (mask_at (w - (i + 1)) bytes))) (sym e)
             ∙ step h;
       }
 
-  pub taken_fell : (n : Reading) (x : ℕ) → i < w → OneOf (1 ∷ 2 ∷ []) (tag_of type.the_type n) → n ≡ number_at bytes p → laid_as (failed_word n) x ≡ mask_at w bytes at
+  pub taken_fell : (n : Result (ℕ × ℕ) Unread) (x : ℕ) → i < w → OneOf (1 ∷ 2 ∷ []) (tag_of type.the_type n) → n ≡ number_at bytes p → laid_as (failed_word n) x ≡ mask_at w bytes at
   taken_fell n x h k e =
       sym (ahead_fell (take i words) n x x)
       ∙ ap (ahead (take i words)) (fell_word n (number_at bytes p) (mask_at (w - (i + 1)) bytes) x k e)
       ∙ step h
 
-  pub taken_all : w ≤ i → laid_as (laid.Upto p) (joined words) ≡ mask_at w bytes at
+  pub taken_all : w ≤ i → laid_as (Ok p) (joined words) ≡ mask_at w bytes at
   unfolding laid_as mask_at
   taken_all h =
       let z : w - i ≡ 0 = omega arith in
       let e : i ≡ length words = omega (arith, t.upto, t.long) in
       sym (ahead_all words p)
-      ∙ ap (λ (xs : List ℕ). ahead xs (reading.Number 0 p)) (sym (ap (λ (k : ℕ). take k words) e ∙ take-length words))
+      ∙ ap (λ (xs : List ℕ). ahead xs (Ok (0, p))) (sym (ap (λ (k : ℕ). take k words) e ∙ take-length words))
       ∙ ap (λ (k : ℕ). ahead (take i words) (mask_at k bytes p)) (sym z)
       ∙ t.left
 

@@ -6,34 +6,34 @@ ghost use Rattle.rulebook.specs.Packets.{mask_at, mask_bytes, joined};
 ghost use Rattle.mask_words.specs.Told.{failed_word, laid_as};
 ghost use Rattle.numbers.specs.Written.{Room, Written};
 
+use rulebook::Unread;
 use numbers::{take_number, write_number};
-use rulebook::{Laid, Reading};
 
 // What a number that could not be read makes of the mask.
-fn failed_word(n: Reading) -> Laid
+fn failed_word(n: Result<(u64, usize), Unread>) -> Result<usize, Unread>
     ensures { result ≡ failed_word n }
 {
     match n {
-        Reading::Early => Laid::Early,
-        Reading::Malformed => Laid::Malformed,
-        Reading::Number(_, _) => Laid::Malformed,
+        Err(Unread::Early) => Err(Unread::Early),
+        Err(Unread::Malformed) => Err(Unread::Malformed),
+        Ok(_) => Err(Unread::Malformed),
     }
 }
 
 // Reads as many numbers as there are lent words into them, lowest nodes first; the first that cannot be read decides.
-pub fn read_mask(bytes: &[u8], at: usize, mask: &mut [u64]) -> Laid
+pub fn read_mask(bytes: &[u8], at: usize, mask: &mut [u64]) -> Result<usize, Unread>
     ensures { laid_as result (joined mask.new) ≡ mask_at (length mask.old) bytes.now at }
 {
     let mut p = at;
     for i in 0..mask.len() {
         let n = take_number(bytes, p);
-        let Reading::Number(v, next) = n else {
+        let Ok((v, next)) = n else {
             return failed_word(n);
         };
         mask[i] = v;
         p = next;
     }
-    Laid::Upto(p)
+    Ok(p)
 }
 
 // Writes the words of a mask from a place on and answers the place after them.

@@ -1,12 +1,11 @@
 -- The four numbers written one after the other, and what the writer answers. Assumes nothing.
+use Rattle.std.specs.Prelude.{⊤, Result, Ok}
 use mathlib.Core.Path.{◌≡◌, refl, subst}
 use mathlib.Core.List.{List, ◌++◌, append_assoc}
 use Prim.Native.Nat.{ℕ, ◌+◌, ◌≤◌}
 use native.Mathlib.Omega.{arith}
 use lib.ListN.{length, length-append}
 use Rattle.rulebook.specs.declared.Vote.{Vote}
-use Rattle.rulebook.specs.declared.Verdict.{Verdict}
-use Rattle.rulebook.specs.declared.Verdict.TheVariants.{Fine}
 use Rattle.rulebook.specs.PaperNumbers.{vote_number}
 use Rattle.rulebook.specs.Packets.{number_bytes}
 use Rattle.rulebook.specs.Messages.{message_bytes, message_verdict, write_vote}
@@ -14,6 +13,7 @@ use Rattle.rulebook.specs.Writers.{wrote_on}
 use Rattle.numbers.specs.Written.{Room, Written}
 use Rattle.numbers.proofs.Stores.{after}
 use Rattle.messages.proofs.Tested.{message_fine, message_length, message_few}
+use Rattle.rulebook.specs.declared.Refusal.{Refusal}
 
 -- One run of bytes.
 pub four : {l l1 l2 l3 l4 : List ℕ} {p q r n k : ℕ} (v : Vote) → 0 + length (message_bytes v) ≤ length l → k ≡ vote_number v.kind
@@ -34,12 +34,12 @@ four {l} {l1} {l4 = l4} {p} {n = n} v h e w1 w2 w3 w4 =
     subst (λ (y : List ℕ). Written l 0 y l4 n) z (after (omega arith) (after (omega arith) (after (omega arith) x1 w2) w3) w4)
 
 -- Where nothing is refused there is room.
-pub message_room : (count : ℕ) (v : Vote) (buffer : List ℕ) → message_verdict count (length buffer) v ≡ Fine → Room buffer 0 (message_bytes v)
+pub message_room : (count : ℕ) (v : Vote) (buffer : List ℕ) → message_verdict count (length buffer) v ≡ Ok tt → Room buffer 0 (message_bytes v)
 message_room count v buffer e =
     let f = message_fine count (length buffer) v e in
-    record { ends = omega (arith, message_few count v Fine f.0 f.2, f.1) }
+    record { ends = omega (arith, message_few count v (Ok tt) f.0 f.2, f.1) }
 
 -- What is answered, by what was found.
-pub message_judged : (count room : ℕ) (v : Vote) (found : Verdict) → found ≡ message_verdict count room v → write_vote count room v ≡ wrote_on found (message_bytes v)
+pub message_judged : (count room : ℕ) (v : Vote) (found : Result ⊤ Refusal) → found ≡ message_verdict count room v → write_vote count room v ≡ wrote_on found (message_bytes v)
 unfolding write_vote
 message_judged count room v found e = rw e refl

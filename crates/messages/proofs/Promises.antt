@@ -1,4 +1,5 @@
 -- The promises of vote messages. Assumes nothing.
+use Rattle.std.specs.Prelude.{⊤, Result, Ok, Err}
 use mathlib.Core.Path.{◌≡◌, refl, sym, ap, ap₂, ◌∙◌, subst}
 use mathlib.Core.Bool.{Bool, true, false, not}
 use mathlib.Core.List.{List, [], ◌++◌, append_assoc, append-nil}
@@ -14,15 +15,8 @@ use Rattle.rulebook.specs.declared.VoteKind.{VoteKind}
 use Rattle.rulebook.specs.declared.VoteKind.TheVariants as vote
 use Rattle.rulebook.specs.declared.Place.{Place}
 use Rattle.rulebook.specs.declared.Place.TheVariants.{Free, Same, Taken}
-use Rattle.rulebook.specs.declared.Reading.{Reading}
-use Rattle.rulebook.specs.declared.Reading.TheVariants as reading
 use Rattle.rulebook.specs.declared.Refusal.{Refusal}
 use Rattle.rulebook.specs.declared.Refusal.TheVariants as refusal
-use Rattle.rulebook.specs.declared.Verdict.{Verdict}
-use Rattle.rulebook.specs.declared.Verdict.TheVariants.{Fine, Refused}
-use Rattle.rulebook.specs.declared.ReadAnswer.{ReadAnswer}
-use Rattle.rulebook.specs.declared.ReadAnswer.TheVariants as read
-use Rattle.rulebook.specs.declared.WriteAnswer.TheVariants as write
 use Rattle.rulebook.specs.Tools.{whenever, choose}
 use Rattle.rulebook.specs.Weights.{slot_ok, count_fits}
 use Rattle.rulebook.specs.PaperNumbers.{vote_kind, vote_number}
@@ -36,6 +30,8 @@ use Rattle.rule_laws.proofs.RuleLaws.{refuse_fine, wrote_fine, wrote_bytes, wrot
 use Rattle.rule_laws.proofs.NumberLaws.{Read, number_in, number_read}
 use Rattle.messages.specs.Promises.{Bytes, WrittenBack, OneSpelling, SixteenHold, PoolAgrees, TakenWritten}
 use Rattle.messages.proofs.Tested.{Tested, tests_fine, fine_tests, message_fine, fine_message, kind_few, slot_few, count_few, message_few}
+use Rattle.rulebook.specs.declared.Unread.{Unread}
+use Rattle.rulebook.specs.declared.Unread.TheVariants.{Early, Malformed}
 
 -- ---- kinds and their numbers
 
@@ -68,19 +64,19 @@ kind_number n e = go (eqb n 1) (eqb n 2) (eqb n 3) (eqb n 4) (eqb n 5) refl refl
 -- ---- an accepted message
 
 -- What follows a number, where the message is read.
-as_says : (r : Reading) (f : ℕ → ℕ → ReadAnswer) (v : Vote) → as_read r f ≡ read.Read v
-    → (x : ℕ) × (p : ℕ) × (r ≡ reading.Number x p) × (f x p ≡ read.Read v)
+as_says : (r : Result (ℕ × ℕ) Unread) (f : ℕ → ℕ → Result Vote Refusal) (v : Vote) → as_read r f ≡ Ok v
+    → (x : ℕ) × (p : ℕ) × (r ≡ Ok (x, p)) × (f x p ≡ Ok v)
 unfolding as_read
-as_says (reading.Number x p) f v e = (x, p, refl, e)
-as_says reading.Early f v e = let z : ◌≡◌ {A = ℕ} 0 1 = cc in absurd (omega arith)
-as_says reading.Malformed f v e = let z : ◌≡◌ {A = ℕ} 0 1 = cc in absurd (omega arith)
+as_says (Ok (x, p)) f v e = (x, p, refl, e)
+as_says (Err Early) f v e = let z : ◌≡◌ {A = ℕ} 0 1 = cc in absurd (omega arith)
+as_says (Err Malformed) f v e = let z : ◌≡◌ {A = ℕ} 0 1 = cc in absurd (omega arith)
 
-on_says : (found : Verdict) (w v : Vote) → read_on found w ≡ read.Read v → (found ≡ Fine) × (w ≡ v)
+on_says : (found : Result ⊤ Refusal) (w v : Vote) → read_on found w ≡ Ok v → (found ≡ Ok tt) × (w ≡ v)
 unfolding read_on
-on_says Fine w v e = (refl, cc)
-on_says (Refused r) w v e = let z : ◌≡◌ {A = ℕ} 0 1 = cc in absurd (omega arith)
+on_says (Ok tt) w v e = (refl, cc)
+on_says (Err r) w v e = let z : ◌≡◌ {A = ℕ} 0 1 = cc in absurd (omega arith)
 
-counted_says : (t : Bool) (f : Unit {0} → ReadAnswer) (v : Vote) → whenever t f (read.Refused refusal.BadSizes) ≡ read.Read v → (t ≡ true) × (f tt ≡ read.Read v)
+counted_says : (t : Bool) (f : Unit {0} → Result Vote Refusal) (v : Vote) → whenever t f (Err refusal.BadSizes) ≡ Ok v → (t ≡ true) × (f tt ≡ Ok v)
 unfolding whenever
 counted_says true f v e = (refl, e)
 counted_says false f v e = let z : ◌≡◌ {A = ℕ} 0 1 = cc in absurd (omega arith)
@@ -94,10 +90,10 @@ four_spelled bytes at p q r next kind node slot block r1 r2 r3 r4 h =
 -- The count fits, the vote passes its tests, and the bytes are those that the vote is written with.
 pub record Accepted (count : ℕ) (bytes : List ℕ) (v : Vote) : Type 0 where
   pub counted : count_fits count ≡ true
-  pub tested : Tested count v Fine
+  pub tested : Tested count v (Ok tt)
   pub spelled : Bytes bytes → bytes ≡ message_bytes v
 
-pub accepted : (count : ℕ) (bytes : List ℕ) (v : Vote) → read_vote count bytes ≡ read.Read v → Accepted count bytes v
+pub accepted : (count : ℕ) (bytes : List ℕ) (v : Vote) → read_vote count bytes ≡ Ok v → Accepted count bytes v
 unfolding read_vote read_to vote_of message_bytes
 accepted count bytes v e =
     let (fits, f0) = counted_says (count_fits count) _ v e in
@@ -111,7 +107,7 @@ accepted count bytes v e =
     let r4 = number_read bytes r block next e4 in
     let (fine, same) = on_says _ (vote_of kind node slot block) v f4 in
     let t = tests_fine count (vote_of kind node slot block) _ fine in
-    let whole = refuse_fine (ltb next (length bytes)) refusal.BadLength Fine t.rest in
+    let whole = refuse_fine (ltb next (length bytes)) refusal.BadLength (Ok tt) t.rest in
     let ended : next ≡ length bytes = omega (arith, r4.inside, ltb-false next (length bytes) whole.0) in
     subst (Accepted count bytes) same
     (record {
@@ -134,7 +130,7 @@ pub sixteen_hold : SixteenHold
 unfolding write_vote
 sixteen_hold count room n v e =
     let f = message_fine count room v (wrote_fine (message_verdict count room v) (message_bytes v) n e) in
-    omega (arith, message_few count v Fine f.0 f.2, wrote_count (message_verdict count room v) (message_bytes v) n e)
+    omega (arith, message_few count v (Ok tt) f.0 f.2, wrote_count (message_verdict count room v) (message_bytes v) n e)
 
 -- A vote is that of its four numbers.
 vote_same : (v : Vote) → is_other v.kind ≡ false → vote_of (vote_number v.kind) v.node.0 v.slot.0 v.block ≡ v
@@ -142,13 +138,13 @@ unfolding vote_of
 vote_same v e = ap (λ (k : VoteKind). record { kind = k; node = v.node; slot = v.slot; block = v.block }) (number_kind v.kind e)
 
 -- Nothing is refused of its numbers where no byte remains.
-read_whole : (count next end : ℕ) (v : Vote) → end ≤ next → Tested count v Fine
-    → read_to count (vote_of (vote_number v.kind) v.node.0 v.slot.0 v.block) next end ≡ read.Read v
+read_whole : (count next end : ℕ) (v : Vote) → end ≤ next → Tested count v (Ok tt)
+    → read_to count (vote_of (vote_number v.kind) v.node.0 v.slot.0 v.block) next end ≡ Ok v
 unfolding read_to read_on refuse_if
-read_whole count next end v l t = rw (vote_same v t.kind, le-ltb next end l, fine_tests count v Fine t)
+read_whole count next end v l t = rw (vote_same v t.kind, le-ltb next end l, fine_tests count v (Ok tt) t)
 
 -- The bytes of a vote that passes its tests read back.
-read_back : (count : ℕ) (v : Vote) → v.block < 2 ^ 64 → count_fits count ≡ true → Tested count v Fine → read_vote count (message_bytes v) ≡ read.Read v
+read_back : (count : ℕ) (v : Vote) → v.block < 2 ^ 64 → count_fits count ≡ true → Tested count v (Ok tt) → read_vote count (message_bytes v) ≡ Ok v
 unfolding read_vote as_read whenever message_bytes
 read_back count v h c t =
     let k = number_bytes (vote_number v.kind) in
@@ -186,20 +182,20 @@ written_back count n v buffer after h w =
 
 -- ---- the pool
 
-place_left : (p : Place) (r : Refusal) → place_verdict p ≡ Refused r → (r ≡ refusal.AlreadyKept) ⊎ (r ≡ refusal.OtherStands)
+place_left : (p : Place) (r : Refusal) → place_verdict p ≡ Err r → (r ≡ refusal.AlreadyKept) ⊎ (r ≡ refusal.OtherStands)
 unfolding place_verdict
 place_left Free r e = let z : ◌≡◌ {A = ℕ} 0 1 = cc in absurd (omega arith)
 place_left Same r e = inl cc
 place_left Taken r e = inr cc
 
 -- What is left of a vote's tests.
-own_left : (t : Bool) (p : Place) (r : Refusal) → refuse_if t refusal.OwnName (place_verdict p) ≡ Refused r
+own_left : (t : Bool) (p : Place) (r : Refusal) → refuse_if t refusal.OwnName (place_verdict p) ≡ Err r
     → (r ≡ refusal.OwnName) ⊎ ((r ≡ refusal.AlreadyKept) ⊎ (r ≡ refusal.OtherStands))
 unfolding refuse_if
 own_left true p r e = inl cc
 own_left false p r e = inr (place_left p r e)
 
-pool_left : (l : Ledger) (v : Vote) → Tested l.count v Fine
+pool_left : (l : Ledger) (v : Vote) → Tested l.count v (Ok tt)
     → vote_verdict l v ≡ refuse_if (eqb v.node.0 l.own) refusal.OwnName (place_verdict (place_of (cell_at l v.slot.0 v.node.0) v.kind v.block))
 unfolding vote_verdict refuse_if
 pool_left l v t = rw (t.kind, t.slot, lt-leb l.count v.node.0 t.node, t.fits)
@@ -209,7 +205,7 @@ pool_agrees l bytes v r e d =
     own_left (eqb v.node.0 l.own) (place_of (cell_at l v.slot.0 v.node.0) v.kind v.block) r
     (sym (pool_left l v (accepted l.count bytes v e).tested) ∙ d)
 
-taken_tested : (l : Ledger) (v : Vote) → vote_verdict l v ≡ Fine → Tested l.count v Fine
+taken_tested : (l : Ledger) (v : Vote) → vote_verdict l v ≡ Ok tt → Tested l.count v (Ok tt)
 unfolding vote_verdict
 taken_tested l v e =
     let kind = refuse_fine (is_other v.kind) refusal.BadKind _ e in

@@ -1,4 +1,5 @@
 -- What a vote that passes the tests 4, 3, 2, 5 has, and how many bytes it takes. Assumes nothing.
+use Rattle.std.specs.Prelude.{⊤, Result, Ok}
 use mathlib.Core.Path.{◌≡◌, refl}
 use mathlib.Core.Bool.{Bool, true, false, not}
 use Prim.Native.Nat.{ℕ, zero, suc, ◌+◌, ◌*◌, ◌/◌, ◌^◌, ◌<◌, ◌≤◌}
@@ -11,8 +12,6 @@ use Rattle.rulebook.specs.declared.Vote.{Vote}
 use Rattle.rulebook.specs.declared.VoteKind.{VoteKind}
 use Rattle.rulebook.specs.declared.VoteKind.TheVariants as vote
 use Rattle.rulebook.specs.declared.Refusal.TheVariants as refusal
-use Rattle.rulebook.specs.declared.Verdict.{Verdict}
-use Rattle.rulebook.specs.declared.Verdict.TheVariants.{Fine}
 use Rattle.rulebook.specs.Weights.{most_nodes, last_slot, slot_ok, count_fits}
 use Rattle.rulebook.specs.PaperNumbers.{vote_number}
 use Rattle.rulebook.specs.Inputs.{refuse_if, is_other, not_in_table, misfits}
@@ -21,16 +20,17 @@ use Rattle.rulebook.specs.Messages.{vote_tests, message_bytes, message_verdict}
 use Rattle.rule_laws.proofs.ToolLaws.{and_both}
 use Rattle.rule_laws.proofs.RuleLaws.{refuse_fine}
 use Rattle.rule_laws.proofs.NumberLaws.{groups_last, groups_more, number_few}
+use Rattle.rulebook.specs.declared.Refusal.{Refusal}
 
 -- A vote that passes all four, and what is found later.
-pub record Tested (count : ℕ) (v : Vote) (later : Verdict) : Type 0 where
+pub record Tested (count : ℕ) (v : Vote) (later : Result ⊤ Refusal) : Type 0 where
   pub kind : is_other v.kind ≡ false
   pub slot : slot_ok v.slot.0 ≡ true
   pub node : v.node.0 < count
   pub fits : misfits v.kind v.block ≡ false
-  pub rest : later ≡ Fine
+  pub rest : later ≡ Ok tt
 
-pub tests_fine : (count : ℕ) (v : Vote) (later : Verdict) → vote_tests count v later ≡ Fine → Tested count v later
+pub tests_fine : (count : ℕ) (v : Vote) (later : Result ⊤ Refusal) → vote_tests count v later ≡ Ok tt → Tested count v later
 unfolding vote_tests
 tests_fine count v later e =
     let kind = refuse_fine (is_other v.kind) refusal.BadKind _ e in
@@ -45,21 +45,21 @@ tests_fine count v later e =
       rest = block.1;
     }
 
-pub fine_tests : (count : ℕ) (v : Vote) (later : Verdict) → Tested count v later → vote_tests count v later ≡ Fine
+pub fine_tests : (count : ℕ) (v : Vote) (later : Result ⊤ Refusal) → Tested count v later → vote_tests count v later ≡ Ok tt
 unfolding vote_tests refuse_if
 fine_tests count v later t = rw (t.kind, t.slot, lt-leb count v.node.0 t.node, t.fits) t.rest
 
 -- What the writer asked before it wrote.
-pub message_fine : (count room : ℕ) (v : Vote) → message_verdict count room v ≡ Fine → (count_fits count ≡ true) × (16 ≤ room) × Tested count v Fine
+pub message_fine : (count room : ℕ) (v : Vote) → message_verdict count room v ≡ Ok tt → (count_fits count ≡ true) × (16 ≤ room) × Tested count v (Ok tt)
 unfolding message_verdict
 message_fine count room v e =
     let one = refuse_fine (not (count_fits count)) refusal.BadSizes _ e in
     let nine = refuse_fine (ltb room 16) refusal.NoRoom _ one.1 in
-    (not-false (count_fits count) one.0, ltb-false room 16 nine.0, tests_fine count v Fine nine.1)
+    (not-false (count_fits count) one.0, ltb-false room 16 nine.0, tests_fine count v (Ok tt) nine.1)
 
-pub fine_message : (count room : ℕ) (v : Vote) → count_fits count ≡ true → 16 ≤ room → Tested count v Fine → message_verdict count room v ≡ Fine
+pub fine_message : (count room : ℕ) (v : Vote) → count_fits count ≡ true → 16 ≤ room → Tested count v (Ok tt) → message_verdict count room v ≡ Ok tt
 unfolding message_verdict refuse_if
-fine_message count room v f l t = rw (f, le-ltb room 16 l) (fine_tests count v Fine t)
+fine_message count room v f l t = rw (f, le-ltb room 16 l) (fine_tests count v (Ok tt) t)
 
 -- ---- lengths
 
@@ -103,7 +103,7 @@ unfolding message_bytes
 message_length v = simp length-append (omega arith)
 
 -- One byte for the kind, at most two for the node, one for the slot, at most ten for the block.
-pub message_few : (count : ℕ) (v : Vote) (later : Verdict) → count_fits count ≡ true → Tested count v later → length (message_bytes v) ≤ 16
+pub message_few : (count : ℕ) (v : Vote) (later : Result ⊤ Refusal) → count_fits count ≡ true → Tested count v later → length (message_bytes v) ≤ 16
 message_few count v later f t =
     let c = count_few count f in
     let a = number_short 0 (vote_number v.kind) (kind_few v.kind) in

@@ -10,32 +10,32 @@ ghost use Rattle.messages.specs.Faults.{fault_of, left_over, unread_of};
 use inputs::vote_of;
 use kinds::{count_fits, is_other_vote, not_in_table, slot_ok, vote_misfits, vote_number};
 use numbers::{read_number, write_number};
-use rulebook::{Node, ReadAnswer, Reading, Refusal, Slot, Verdict, Vote, WriteAnswer};
+use rulebook::{Unread, Node, Refusal, Slot, Vote};
 
 // The bytes that a writer must be lent.
 const ROOM: usize = 16;
 
 // The first of 4, 3, 2, 5 that stands, where a vote is found wrong in kind, slot, node or block, else what is found later.
-fn first_fault(kind: bool, slot: bool, node: bool, block: bool, later: Verdict) -> Verdict
+fn first_fault(kind: bool, slot: bool, node: bool, block: bool, later: Result<(), Refusal>) -> Result<(), Refusal>
     ensures { result ≡ fault_of kind slot node block later }
 {
     if kind {
-        return Verdict::Refused(Refusal::BadKind);
+        return Err(Refusal::BadKind);
     }
     if slot {
-        return Verdict::Refused(Refusal::BadSlot);
+        return Err(Refusal::BadSlot);
     }
     if node {
-        return Verdict::Refused(Refusal::BadNode);
+        return Err(Refusal::BadNode);
     }
     if block {
-        return Verdict::Refused(Refusal::BadBlock);
+        return Err(Refusal::BadBlock);
     }
     later
 }
 
 // 4, 3, 2, 5, in this order, and then what is found later.
-fn vote_tests(count: usize, v: Vote, later: Verdict) -> Verdict
+fn vote_tests(count: usize, v: Vote, later: Result<(), Refusal>) -> Result<(), Refusal>
     ensures { result ≡ vote_tests count v later }
 {
     let k = v.kind;
@@ -47,57 +47,57 @@ fn vote_tests(count: usize, v: Vote, later: Verdict) -> Verdict
 }
 
 // 12: bytes remain.
-fn left_over(next: usize, end: usize) -> Verdict
+fn left_over(next: usize, end: usize) -> Result<(), Refusal>
     ensures { result ≡ left_over next end }
 {
     if next < end {
-        return Verdict::Refused(Refusal::BadLength);
+        return Err(Refusal::BadLength);
     }
-    Verdict::Fine
+    Ok(())
 }
 
 // 12 or 13: what a number that could not be read makes of the message.
-fn unread(n: Reading) -> ReadAnswer
+fn unread(n: Result<(u64, usize), Unread>) -> Result<Vote, Refusal>
     ensures { result ≡ unread_of n }
 {
     match n {
-        Reading::Early => ReadAnswer::Refused(Refusal::BadLength),
-        Reading::Malformed => ReadAnswer::Refused(Refusal::BadNumber),
-        Reading::Number(_, _) => ReadAnswer::Refused(Refusal::BadNumber),
+        Err(Unread::Early) => Err(Refusal::BadLength),
+        Err(Unread::Malformed) => Err(Refusal::BadNumber),
+        Ok(_) => Err(Refusal::BadNumber),
     }
 }
 
 // The vote, where nothing is refused.
-fn read_on(found: Verdict, v: Vote) -> ReadAnswer
+fn read_on(found: Result<(), Refusal>, v: Vote) -> Result<Vote, Refusal>
     ensures { result ≡ read_on found v }
 {
     match found {
-        Verdict::Fine => ReadAnswer::Read(v),
-        Verdict::Refused(r) => ReadAnswer::Refused(r),
+        Ok(()) => Ok(v),
+        Err(r) => Err(r),
     }
 }
 
 // The vote that a message spells, for a table of so many nodes.
-pub fn read_vote(count: usize, bytes: &[u8]) -> ReadAnswer
+pub fn read_vote(count: usize, bytes: &[u8]) -> Result<Vote, Refusal>
     ensures { result ≡ read_vote count bytes.now }
 {
     if !count_fits(count) {
-        return ReadAnswer::Refused(Refusal::BadSizes);
+        return Err(Refusal::BadSizes);
     }
     let n1 = read_number(bytes, 0);
-    let Reading::Number(kind, p) = n1 else {
+    let Ok((kind, p)) = n1 else {
         return unread(n1);
     };
     let n2 = read_number(bytes, p);
-    let Reading::Number(node, q) = n2 else {
+    let Ok((node, q)) = n2 else {
         return unread(n2);
     };
     let n3 = read_number(bytes, q);
-    let Reading::Number(slot, r) = n3 else {
+    let Ok((slot, r)) = n3 else {
         return unread(n3);
     };
     let n4 = read_number(bytes, r);
-    let Reading::Number(block, next) = n4 else {
+    let Ok((block, next)) = n4 else {
         return unread(n4);
     };
     let v = vote_of(kind, Node(node as usize), Slot(slot as usize), block);
@@ -105,16 +105,16 @@ pub fn read_vote(count: usize, bytes: &[u8]) -> ReadAnswer
 }
 
 // 1, 9, 4, 3, 2, 5, in this order, for a buffer of so many bytes.
-fn message_verdict(count: usize, room: usize, v: Vote) -> Verdict
+fn message_verdict(count: usize, room: usize, v: Vote) -> Result<(), Refusal>
     ensures { result ≡ message_verdict count room v }
 {
     if !count_fits(count) {
-        return Verdict::Refused(Refusal::BadSizes);
+        return Err(Refusal::BadSizes);
     }
     if room < ROOM {
-        return Verdict::Refused(Refusal::NoRoom);
+        return Err(Refusal::NoRoom);
     }
-    vote_tests(count, v, Verdict::Fine)
+    vote_tests(count, v, Ok(()))
 }
 
 // Writes the four numbers from the buffer's front and answers how many bytes they take.
@@ -132,12 +132,12 @@ fn lay_vote(buffer: &mut [u8], v: Vote) -> usize
 }
 
 // Writes the message of a vote to the buffer's front, for a table of so many nodes.
-pub fn write_vote(count: usize, v: Vote, buffer: &mut [u8]) -> WriteAnswer
+pub fn write_vote(count: usize, v: Vote, buffer: &mut [u8]) -> Result<usize, Refusal>
     ensures { Writes (write_vote count (length buffer.old) v) buffer.old result buffer.new }
 {
     let found = message_verdict(count, buffer.len(), v);
     match found {
-        Verdict::Refused(r) => WriteAnswer::Refused(r),
-        Verdict::Fine => WriteAnswer::Written(lay_vote(buffer, v)),
+        Err(r) => Err(r),
+        Ok(()) => Ok(lay_vote(buffer, v)),
     }
 }

@@ -1,9 +1,8 @@
 -- Computed cases of what a step leaves in lent memory: records from the outbox's front, words past them, the record's words, and all as
 -- found where a step is refused.
-use Rattle.std.specs.Prelude.{◌≡◌, true, false, List, [], ◌∷◌, ◌++◌, ℕ, replicate, T}
+use Rattle.std.specs.Prelude.{◌≡◌, true, false, List, [], ◌∷◌, ◌++◌, ℕ, replicate, T, Err}
 use Rattle.rulebook.specs.declared.Input.{Input}
 use Rattle.rulebook.specs.declared.Refusal.TheVariants as refusal
-use Rattle.rulebook.specs.declared.StepAnswer.TheVariants as answer
 use Rattle.rulebook.specs.PaperNumbers.{step_panel}
 use Rattle.rulebook.specs.Ledger.{fresh}
 use Rattle.rulebook.specs.Scripts.{vote, block, equals}
@@ -38,6 +37,6 @@ step_left ws whole holds = rw (whole, holds) tt
 
 -- Words that spell no ledger are 17, whatever the input and the outbox, and stay.
 unread_left : (ws out : List ℕ) (i : Input) → is_spelled ws ≡ false
-    → step_leaves ws out i ≡ record { answer = answer.Refused refusal.BadRecord; words = ws; outbox = out }
+    → step_leaves ws out i ≡ record { answer = Err refusal.BadRecord; words = ws; outbox = out }
 unfolding rules step_leaves
 unread_left ws out i broken = rw broken

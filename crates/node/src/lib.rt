@@ -9,7 +9,7 @@ ghost use Rattle.voter.specs.Voting.{Onward};
 ghost use Rattle.node.specs.Stepping.{StepOf, Taking};
 
 use intake::take_in;
-use rulebook::{Input, Refusal, StepAnswer, Verdict};
+use rulebook::{Input, Refusal};
 use run::settle;
 use soundness::sound;
 use verdicts::judge_input;
@@ -27,17 +27,17 @@ fn act(rec: &mut [u64], outbox: &mut [u64], i: Input) -> usize
 }
 
 // One input: refused with 17, 9 or as its kind has it, with all memory as found; or taken.
-pub fn step(rec: &mut [u64], outbox: &mut [u64], input: Input) -> StepAnswer
+pub fn step(rec: &mut [u64], outbox: &mut [u64], input: Input) -> Result<usize, Refusal>
     ensures { StepOf rec.old outbox.old input result rec.new outbox.new }
 {
     if !sound(rec) {
-        return StepAnswer::Refused(Refusal::BadRecord);
+        return Err(Refusal::BadRecord);
     }
     if outbox.len() < OUTBOX_WORDS {
-        return StepAnswer::Refused(Refusal::NoRoom);
+        return Err(Refusal::NoRoom);
     }
     match judge_input(rec, input) {
-        Verdict::Refused(r) => StepAnswer::Refused(r),
-        Verdict::Fine => StepAnswer::Done(act(rec, outbox, input)),
+        Err(r) => Err(r),
+        Ok(()) => Ok(act(rec, outbox, input)),
     }
 }

@@ -1,4 +1,5 @@
 -- Bytes written one store at a time, and one run of bytes after another.
+use Rattle.std.specs.Prelude.{Result, Ok, Err}
 use mathlib.Core.Path.{◌≡◌, refl, sym, ap, ap₂, ◌∙◌}
 use mathlib.Core.List.{List, [], ◌∷◌, ◌++◌, append_assoc}
 use Prim.Native.Nat.{ℕ, suc, ◌+◌, ◌≤◌}
@@ -7,9 +8,6 @@ use native.Mathlib.Omega.{arith}
 use lib.ListN.{length, take, drop, set, length-append}
 use lib.Seq.{sets, sets-eq, length-sets}
 use Rattle.rulebook.specs.declared.Refusal.{Refusal}
-use Rattle.rulebook.specs.declared.Verdict.TheVariants.{Fine, Refused}
-use Rattle.rulebook.specs.declared.WriteAnswer.{WriteAnswer}
-use Rattle.rulebook.specs.declared.WriteAnswer.TheVariants as write
 use Rattle.rulebook.specs.Writers.{Wrote, wrote_on, over, Writes}
 use Rattle.numbers.specs.Written.{Written, laid}
 
@@ -24,20 +22,20 @@ unfolding laid over
 laid_front buffer bytes = rw (zero-add (length bytes))
 
 -- A writer that refuses leaves the buffer as found.
-pub writes_refused : (wrote : Wrote) (bytes buffer : List ℕ) (r : Refusal) → wrote ≡ wrote_on (Refused r) bytes → Writes wrote buffer (write.Refused r) buffer
+pub writes_refused : (wrote : Wrote) (bytes buffer : List ℕ) (r : Refusal) → wrote ≡ wrote_on (Err r) bytes → Writes wrote buffer (Err r) buffer
 unfolding wrote_on over
 writes_refused wrote bytes buffer r e = rw e (record { answered = refl; bytes = refl })
 
 -- Else its bytes stand at the front.
-pub writes_laid : (wrote : Wrote) (bytes : List ℕ) {buffer left : List ℕ} {n : ℕ} → wrote ≡ wrote_on Fine bytes → Written buffer 0 bytes left n
-    → Writes wrote buffer (write.Written n) left
+pub writes_laid : (wrote : Wrote) (bytes : List ℕ) {buffer left : List ℕ} {n : ℕ} → wrote ≡ wrote_on (Ok tt) bytes → Written buffer 0 bytes left n
+    → Writes wrote buffer (Ok n) left
 unfolding wrote_on
 writes_laid wrote bytes {buffer} {left} {n} e w =
     let k : n ≡ length bytes = omega (arith, w.next_is) in
-    rw e (record { answered = ap write.Written k; bytes = w.after_is ∙ laid_front buffer bytes })
+    rw e (record { answered = ap Ok k; bytes = w.after_is ∙ laid_front buffer bytes })
 
 -- The contract leaves nothing open: two results that it allows are equal.
-pub writes_one : (wrote : Wrote) (buffer : List ℕ) (a b : WriteAnswer) (x y : List ℕ) → Writes wrote buffer a x → Writes wrote buffer b y → (a ≡ b) × (x ≡ y)
+pub writes_one : (wrote : Wrote) (buffer : List ℕ) (a b : Result ℕ Refusal) (x y : List ℕ) → Writes wrote buffer a x → Writes wrote buffer b y → (a ≡ b) × (x ≡ y)
 writes_one wrote buffer a b x y p q = (p.answered ∙ sym q.answered, p.bytes ∙ sym q.bytes)
 
 pub stores_append : (l : List ℕ) (i : ℕ) (xs ys : List ℕ) → sets l i (xs ++ ys) ≡ sets (sets l i xs) (i + length xs) ys

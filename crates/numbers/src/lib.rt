@@ -5,7 +5,6 @@ ghost use Rattle.std.specs.Prelude.{◌≡◌};
 ghost use Rattle.rulebook.specs.Packets.{last_fits, number_at, number_bytes};
 ghost use Rattle.numbers.specs.Written.{Room, Written};
 
-use rulebook::Reading;
 
 // A byte as a word.
 fn wide(x: u8) -> u64
@@ -22,7 +21,7 @@ fn last_fits(k: u64, b: u64) -> bool
 }
 
 // The number at a place, lowest group first; a place past the end reads as the packet's end.
-pub fn read_number(bytes: &[u8], at: usize) -> Reading
+pub fn read_number(bytes: &[u8], at: usize) -> Result<(u64, usize), Unread>
     ensures { result ≡ number_at bytes.now at }
 {
     let mut v: u64 = 0;
@@ -32,28 +31,28 @@ pub fn read_number(bytes: &[u8], at: usize) -> Reading
         let b = wide(bytes[i]);
         if b < 128 {
             if last_fits(k, b) {
-                return Reading::Number(v | (b << k), i + 1);
+                return Ok((v | (b << k), i + 1));
             }
-            return Reading::Malformed;
+            return Err(Unread::Malformed);
         }
         if 63 <= k {
-            return Reading::Malformed;
+            return Err(Unread::Malformed);
         }
         v = v | ((b & 127) << k);
         k += 7;
         i += 1;
     }
-    Reading::Early
+    Err(Unread::Early)
 }
 
 // The same, by one look where the number has one byte, as most have.
-pub fn take_number(bytes: &[u8], at: usize) -> Reading
+pub fn take_number(bytes: &[u8], at: usize) -> Result<(u64, usize), Unread>
     ensures { result ≡ number_at bytes.now at }
 {
     if at < bytes.len() {
         let b = wide(bytes[at]);
         if b < 128 {
-            return Reading::Number(b, at + 1);
+            return Ok((b, at + 1));
         }
     }
     read_number(bytes, at)

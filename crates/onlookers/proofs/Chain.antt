@@ -1,4 +1,5 @@
 -- Who looks on observes in the sense of the rule book's theorem, so that what is settled there is settled.
+use Rattle.std.specs.Prelude.{Result, Ok, Err}
 use mathlib.Core.Path.{◌≡◌, refl, sym, ap, ◌∙◌, subst}
 use mathlib.Core.Bool.{Bool, true, false, not, ◌&&◌}
 use mathlib.Core.List.{List, [], ◌∷◌}
@@ -7,7 +8,6 @@ use native.Mathlib.Omega.{arith}
 use lib.Dec.{T, eqb}
 use lib.ListN.{length}
 use borrow.Author.Tests.{eq-eqb, ne_eqb, eqb-true}
-use Rattle.rulebook.specs.declared.WriteAnswer.TheVariants as write
 use Rattle.rulebook.specs.Weights.{slot_ok}
 use Rattle.rulebook.specs.Ledger.{Ledger, none, fresh, row_at}
 use Rattle.rulebook.specs.Rules.{Record, record_of}
@@ -25,8 +25,6 @@ use Rattle.safety.proofs.Written.{proof_written}
 use Rattle.safety.proofs.Honest.{proof_holds}
 use Rattle.chain.specs.OneChain as book
 use Rattle.chain.proofs.Chains as chains
-use Rattle.readers.specs.declared.MarksAnswer.{MarksAnswer}
-use Rattle.readers.specs.declared.MarksAnswer.TheVariants as mark
 use Rattle.readers.specs.Asked.{marks_on, marks_kept, marks_panel}
 use Rattle.readers.proofs.Ways.{slot_none}
 use Rattle.writers.specs.Writing.{proof_on}
@@ -47,6 +45,8 @@ use Rattle.spreading.proofs.Spreading.{Onlooks, onlooks, observes, no_other}
 use Rattle.told.specs.Told.{count_of, tells}
 use Rattle.told.proofs.Told.{marks_are_told}
 use Rattle.onlookers.specs.Chain.{SettledFor, proved, told, read, wrote, OnlookersChained, OnlookersAgree, OnlookersNoAlarm}
+use Rattle.rulebook.specs.declared.Refusal.{Refusal}
+use Rattle.readers.specs.declared.SlotMarks.{SlotMarks}
 
 -- Where no record of the kind and slot is among them, none is counted.
 none_counted : (k s : ℕ) (rs : List Record) → ((b : ℕ) → ¬ T (among rs (record_of k s b))) → count_of (tells k s) rs ≡ 0
@@ -90,7 +90,7 @@ module _ (stakes : List ℕ) (genesis : ℕ → ℕ) (honest : Test) (lives : Li
 
     written_settled : (buffer after : List ℕ) (s b n : ℕ) → b < 2 ^ 64 → Wrote (proof_on w.words (length buffer) s b) buffer 0 n after → book.Settled stakes genesis honest fed s b
     written_settled buffer after s b n small x =
-        let answer : (write_proof end (length buffer) s b).answer ≡ write.Written n =
+        let answer : (write_proof end (length buffer) s b).answer ≡ Ok n =
         ap (λ (y : writer.Wrote). y.answer) (sym (proof_on_lem stakes o.own o.first o.size w o.lived (length buffer) s b)) ∙ (zero_written _ buffer after n x).1 in
         let p = (proof_written stakes o.own o.first o.size w.came (length buffer) s b n small answer).1 in
         book.certified (book.proved (write_proof end (length buffer) s b).bytes p.what
@@ -126,7 +126,7 @@ unfolding marks_on marks_panel marks_kept
 mark_read stakes genesis w alive s number a b r z =
     by_test (slot_ok s)
     (λ q. second ((readers_tell stakes genesis w alive).marks s number (a ∷ b ∷ []) r q).1 ∙ z)
-    (λ q. second (r.valued ∙ ap (λ (x : MarksAnswer). (marks_panel x).values) (slot_none mark.Refused w.words s _ (alive_sound alive) q)))
+    (λ q. second (r.valued ∙ ap (λ (x : Result SlotMarks Refusal). (marks_panel x).values) (slot_none Err w.words s _ (alive_sound alive) q)))
 
 -- A number that is not told to be there is 0.
 unmarked : (x : ℕ) → not (none x) ≡ false → x ≡ 0

@@ -1,4 +1,5 @@
 -- What one arrival adds to the votes, blocks and certificates of a ledger: itself where it is answered 0, and else nothing but own votes. Assumes nothing.
+use Rattle.std.specs.Prelude.{⊤, Result, Ok, Err}
 use mathlib.Core.Path.{◌≡◌, refl, sym, ap, ◌∙◌, subst}
 use mathlib.Core.Bool.{Bool, true, false, not, ◌&&◌, ◌||◌}
 use mathlib.Core.List.{List, [], ◌∷◌}
@@ -14,8 +15,6 @@ use Rattle.rulebook.specs.declared.CertificateKind.{CertificateKind}
 use Rattle.rulebook.specs.declared.Input.{Input}
 use Rattle.rulebook.specs.declared.Input.TheVariants as input
 use Rattle.rulebook.specs.declared.Refusal.{Refusal}
-use Rattle.rulebook.specs.declared.Verdict.{Verdict}
-use Rattle.rulebook.specs.declared.Verdict.TheVariants.{Fine, Refused}
 use Rattle.rulebook.specs.declared.Vote.{Vote}
 use Rattle.rulebook.specs.Certificates.{Certificate, Found, Whole, Kept}
 use Rattle.rulebook.specs.Tools.{part, whenever}
@@ -285,7 +284,7 @@ module _ (l : Ledger) (h : Sound l) where
         certificates = λ k s q. adds_none _ _ _ refl (d k s q);
       }
 
-  input_leads : (i : Input) → verdict l i ≡ Fine → Leads l (of_input i) (intake l i)
+  input_leads : (i : Input) → verdict l i ≡ Ok tt → Leads l (of_input i) (intake l i)
   unfolding intake verdict time_out hands is_watcher
   input_leads (input.Vote w) e =
       let f = vote_fine l w e in
@@ -377,18 +376,18 @@ module _ (l : Ledger) (h : Sound l) where
         certificates = λ j s q. same_certificates g.now (run o).ledger s (k.certificates s) j q ∙ t.certificates j s q;
       }
 
-  fed_serves : (v : Verdict) (i : Input) → verdict l i ≡ v → Serves (of_input i) (fed_on v l i)
+  fed_serves : (v : Result ⊤ Refusal) (i : Input) → verdict l i ≡ v → Serves (of_input i) (fed_on v l i)
   unfolding fed_on
-  fed_serves Fine i e = done (of_input i) (intake l i) (input_leads i e)
-  fed_serves (Refused r) i e = refused (of_input i) r
+  fed_serves (Ok tt) i e = done (of_input i) (intake l i) (input_leads i e)
+  fed_serves (Err r) i e = refused (of_input i) r
 
-  taken_serves : (v : Verdict) (bytes : List ℕ) (c : Certificate) (next : ℕ) → certificate_at bytes 0 ≡ Whole c next → judge (table_of l) c ≡ Fine
+  taken_serves : (v : Result ⊤ Refusal) (bytes : List ℕ) (c : Certificate) (next : ℕ) → certificate_at bytes 0 ≡ Whole c next → judge (table_of l) c ≡ Ok tt
       → kept_verdict (certificates_at l c.slot) (kind_for l c) c.block ≡ v → Serves (of_packet bytes) (taken_on v l c)
   unfolding taken_on
-  taken_serves Fine bytes c next r j e =
+  taken_serves (Ok tt) bytes c next r j e =
       let f = taken_fine l h c j e in
       done (of_packet bytes) (state_of (keep_certificate l c) []) (record { now = keep_certificate l c; took = packet_took bytes c next r f; leaves = begins _ (sound_certificate l h c f) })
-  taken_serves (Refused x) bytes c next r j e = refused (of_packet bytes) x
+  taken_serves (Err x) bytes c next r j e = refused (of_packet bytes) x
 
   pub served_serves : (c : Arrival) → Serves c (served l c)
   unfolding served feed taken

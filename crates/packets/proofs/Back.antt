@@ -1,4 +1,5 @@
 -- What a writer gives is accepted and reads back to what is held, with its true count and weight.
+use Rattle.std.specs.Prelude.{Ok, Err}
 use mathlib.Core.Path.{◌≡◌, refl, sym, ap, ap₂, ◌∙◌, subst}
 use mathlib.Core.Bool.{Bool, true, false, not, ◌&&◌, ◌||◌}
 use mathlib.Core.List.{List, [], ◌∷◌, ◌++◌, append-nil}
@@ -14,12 +15,9 @@ use Rattle.rulebook.specs.declared.Accepted.{Accepted}
 use Rattle.rulebook.specs.Certificates.{Certificate, Kept}
 use Rattle.rulebook.specs.declared.CertificateKind.{CertificateKind}
 use Rattle.rulebook.specs.declared.CertificateKind.TheVariants as certificate
-use Rattle.rulebook.specs.declared.CheckAnswer.TheVariants as check
 use Rattle.rulebook.specs.Certificates as found
 use Rattle.rulebook.specs.declared.Refusal.TheVariants as refusal
-use Rattle.rulebook.specs.declared.Verdict.TheVariants as verdict
 use Rattle.rulebook.specs.declared.Weight.{Weight}
-use Rattle.rulebook.specs.declared.WriteAnswer.TheVariants as write
 use Rattle.rulebook.specs.Tools.{part, sum_to, some_to}
 use Rattle.rulebook.specs.Weights.{last_slot, most_nodes, stake_in, weight, total_to, reaches, slot_ok, stakes_fit}
 use Rattle.rulebook.specs.PaperNumbers.{kind_in, number_in}
@@ -111,45 +109,45 @@ none_of a b c d p q r s = rw (p, q, r, s)
 
 -- Five tests that do not refuse.
 all_passed : (a b c d e : Bool) (m : Weight) → a ≡ false → b ≡ true → c ≡ false → d ≡ false → e ≡ true
-    → refuse_if a refusal.BadKind (refuse_if (not b) refusal.BadSlot (refuse_if c refusal.BadBlock (refuse_if d refusal.BadSigners (refuse_if (not e) (refusal.TooLight m) verdict.Fine)))) ≡ verdict.Fine
+    → refuse_if a refusal.BadKind (refuse_if (not b) refusal.BadSlot (refuse_if c refusal.BadBlock (refuse_if d refusal.BadSigners (refuse_if (not e) (refusal.TooLight m) (Ok tt))))) ≡ Ok tt
 unfolding refuse_if
 all_passed a b c d e m p q r s t = rw (p, q, r, s, t)
 
 -- ---- the checker on packets that begin with a good certificate
 
 module _ (stakes packet : List ℕ) (fits : stakes_fit stakes (length stakes) ≡ true) where
-  one_is : (c : Certificate) (at next : ℕ) → certificate_at packet at ≡ found.Whole c next → judge stakes c ≡ verdict.Fine → one_at stakes packet at ≡ good c next
+  one_is : (c : Certificate) (at next : ℕ) → certificate_at packet at ≡ found.Whole c next → judge stakes c ≡ Ok tt → one_at stakes packet at ≡ good c next
   unfolding one_at one_of judged
   one_is c at next e j = rw (e, j)
 
-  ends : (c : Certificate) (next : ℕ) → next ≡ length packet → ended stakes packet c next ≡ check.Accepted (accepted_of stakes c)
+  ends : (c : Certificate) (next : ℕ) → next ≡ length packet → ended stakes packet c next ≡ Ok (accepted_of stakes c)
   unfolding ended
   ends c next e =
-      given_on (not (ltb next (length packet))) (check.Refused refusal.BadLength) (λ _. check.Accepted (accepted_of stakes c))
+      given_on (not (ltb next (length packet))) (Err refusal.BadLength) (λ _. Ok (accepted_of stakes c))
       (ap not (le-ltb next (length packet) (omega arith)))
 
-  accepts_one : (c : Certificate) (next : ℕ) → certificate_at packet 0 ≡ found.Whole c next → judge stakes c ≡ verdict.Fine → next ≡ length packet
-      → check_certificate stakes packet ≡ check.Accepted (accepted_of stakes c)
+  accepts_one : (c : Certificate) (next : ℕ) → certificate_at packet 0 ≡ found.Whole c next → judge stakes c ≡ Ok tt → next ≡ length packet
+      → check_certificate stakes packet ≡ Ok (accepted_of stakes c)
   unfolding check_certificate single_of
   accepts_one c next e j n =
-      given_on (stakes_fit stakes (length stakes)) (check.Refused refusal.BadSizes) (λ _. single_of stakes packet (one_at stakes packet 0)) fits
+      given_on (stakes_fit stakes (length stakes)) (Err refusal.BadSizes) (λ _. single_of stakes packet (one_at stakes packet 0)) fits
       ∙ rw (one_is c 0 next e j) (ends c next n)
 
-  accepts_fast : (c : Certificate) (next : ℕ) → certificate_at packet 0 ≡ found.Whole c next → judge stakes c ≡ verdict.Fine
-      → kind_in (length stakes) c.kind ≡ certificate.FastFinal → next ≡ length packet → check_proof stakes packet ≡ check.Accepted (accepted_of stakes c)
+  accepts_fast : (c : Certificate) (next : ℕ) → certificate_at packet 0 ≡ found.Whole c next → judge stakes c ≡ Ok tt
+      → kind_in (length stakes) c.kind ≡ certificate.FastFinal → next ≡ length packet → check_proof stakes packet ≡ Ok (accepted_of stakes c)
   unfolding check_proof proof_of first_in
   accepts_fast c next e j k n =
-      given_on (stakes_fit stakes (length stakes)) (check.Refused refusal.BadSizes) (λ _. proof_of stakes packet (one_at stakes packet 0)) fits
+      given_on (stakes_fit stakes (length stakes)) (Err refusal.BadSizes) (λ _. proof_of stakes packet (one_at stakes packet 0)) fits
       ∙ rw (one_is c 0 next e j, k) (ends c next n)
 
-  accepts_slow : (c d : Certificate) (next end : ℕ) → certificate_at packet 0 ≡ found.Whole c next → judge stakes c ≡ verdict.Fine
-      → kind_in (length stakes) c.kind ≡ certificate.Notar → certificate_at packet next ≡ found.Whole d end → judge stakes d ≡ verdict.Fine → d.kind ≡ number_in (length stakes) certificate.Final
-      → d.slot ≡ c.slot → end ≡ length packet → check_proof stakes packet ≡ check.Accepted (accepted_of stakes c)
+  accepts_slow : (c d : Certificate) (next end : ℕ) → certificate_at packet 0 ≡ found.Whole c next → judge stakes c ≡ Ok tt
+      → kind_in (length stakes) c.kind ≡ certificate.Notar → certificate_at packet next ≡ found.Whole d end → judge stakes d ≡ Ok tt → d.kind ≡ number_in (length stakes) certificate.Final
+      → d.slot ≡ c.slot → end ≡ length packet → check_proof stakes packet ≡ Ok (accepted_of stakes c)
   unfolding check_proof proof_of first_in second_of
   accepts_slow c d next end e j k f i five same n =
-      given_on (stakes_fit stakes (length stakes)) (check.Refused refusal.BadSizes) (λ _. proof_of stakes packet (one_at stakes packet 0)) fits
+      given_on (stakes_fit stakes (length stakes)) (Err refusal.BadSizes) (λ _. proof_of stakes packet (one_at stakes packet 0)) fits
       ∙ rw (one_is c 0 next e j, k, one_is d next end f i)
-      (given_on (eqb d.kind (number_in (length stakes) certificate.Final) && eqb d.slot c.slot) (check.Refused refusal.NotAProof) (λ _. ended stakes packet c end)
+      (given_on (eqb d.kind (number_in (length stakes) certificate.Final) && eqb d.slot c.slot) (Err refusal.NotAProof) (λ _. ended stakes packet c end)
       (both_and (eqb d.kind (number_in (length stakes) certificate.Final)) (eqb d.slot c.slot) (eq-eqb d.kind (number_in (length stakes) certificate.Final) five) (eq-eqb d.slot c.slot same))
       ∙ ends c end n)
 
@@ -217,7 +215,7 @@ module _ (l : Ledger) (stakes : List ℕ) (t : TableIs l stakes) where
       unfolding reached weighs weigh
       heavy h = ap₂ (reaches (fifths_of k)) (sym t.total) (signed_weight_lem ∙ sym (weight_is who)) ∙ h
 
-      fine : slot_ok s ≡ true → block_misfits k b ≡ false → reached l k s b ≡ true → judge_kind stakes k cert ≡ verdict.Fine
+      fine : slot_ok s ≡ true → block_misfits k b ≡ false → reached l k s b ≡ true → judge_kind stakes k cert ≡ Ok tt
       unfolding judge_kind judge_weight
       fine so m h =
           all_passed (is_other_kind k) (slot_ok s) (block_misfits k b) (bad_signers size k cert) (reaches (fifths_of k) (total_to stakes size) (signed_weight stakes cert)) _ z so m signers_fine (heavy h)
@@ -230,7 +228,7 @@ module _ (l : Ledger) (stakes : List ℕ) (t : TableIs l stakes) where
       pub slot : c.slot ≡ s
       pub block : c.block ≡ b
       pub signers : bad_signers size k c ≡ false
-      pub fine : judge_kind stakes k c ≡ verdict.Fine
+      pub fine : judge_kind stakes k c ≡ Ok tt
       pub answer : accepted_of stakes c ≡ accepted_for l k s b
 
     abbrev answered : (ℕ → Bool) → Accepted
@@ -270,7 +268,7 @@ module _ (l : Ledger) (stakes : List ℕ) (t : TableIs l stakes) where
         let c : Certificate = masked_by l k s b q in
         let i = v.place in
         let stands = subst (λ (x : Kept). is_kept x ≡ true) (sym v.stands) v.kept in
-        let j = subst (λ (x : Kept). judge_kind stakes (place_kind i) (kept_in s x) ≡ verdict.Fine) v.stands (t.kept s i so stands) in
+        let j = subst (λ (x : Kept). judge_kind stakes (place_kind i) (kept_in s x) ≡ Ok tt) v.stands (t.kept s i so stands) in
         let g = serves_judged stakes (place_kind i) k (kept_in s q) c v.serves z m refl refl refl j in
         let kd : c.kind ≡ number_in size k = ap (λ (n : ℕ). number_in n k) t.count in
         record {
@@ -310,7 +308,7 @@ module _ (l : Ledger) (stakes : List ℕ) (t : TableIs l stakes) where
       kind_at : kind_in size c.kind ≡ k
       kind_at = ap (kind_in size) w.kind ∙ kind_back size k
 
-      judged_fine : judge stakes c ≡ verdict.Fine
+      judged_fine : judge stakes c ≡ Ok tt
       unfolding judge
       judged_fine = ap (λ (x : CertificateKind). judge_kind stakes x c) kind_at ∙ w.fine
 
@@ -343,17 +341,17 @@ module _ (l : Ledger) (stakes : List ℕ) (t : TableIs l stakes) where
 module _ (l : Ledger) (stakes : List ℕ) (t : TableIs l stakes) where
   certificate_on_lem : (k : CertificateKind) (s b : ℕ) → b < 2 ^ 64 → is_other_kind k ≡ false → slot_ok s ≡ true → block_misfits k b ≡ false → held l k s b ≡ true
       → (parts (certificate_bytes (certificate_for l k s b)) ≡ certificate_for l k s b ∷ [])
-      × (check_certificate stakes (certificate_bytes (certificate_for l k s b)) ≡ check.Accepted (accepted_for l k s b))
+      × (check_certificate stakes (certificate_bytes (certificate_for l k s b)) ≡ Ok (accepted_for l k s b))
   certificate_on_lem k s b h z so m hd =
       let c = certificate_for l k s b in
       let bytes = certificate_bytes c in
       let w = asked l stakes t k s b z so m hd in
       let r = reads_alone l stakes t k s b c w z h so in
-      (parts_one bytes c r, accepts_one stakes bytes t.fits c (length bytes) r (judged_fine l stakes t k s b c w) refl ∙ ap check.Accepted w.answer)
+      (parts_one bytes c r, accepts_one stakes bytes t.fits c (length bytes) r (judged_fine l stakes t k s b c w) refl ∙ ap Ok w.answer)
 
   fast_on : (s b : ℕ) → b < 2 ^ 64 → slot_ok s ≡ true → none b ≡ false → held l certificate.FastFinal s b ≡ true
       → (parts (certificate_bytes (certificate_for l certificate.FastFinal s b)) ≡ certificate_for l certificate.FastFinal s b ∷ [])
-      × (check_proof stakes (certificate_bytes (certificate_for l certificate.FastFinal s b)) ≡ check.Accepted (accepted_for l certificate.FastFinal s b))
+      × (check_proof stakes (certificate_bytes (certificate_for l certificate.FastFinal s b)) ≡ Ok (accepted_for l certificate.FastFinal s b))
   unfolding is_other_kind block_misfits
   fast_on s b h so m hd =
       let k = certificate.FastFinal in
@@ -362,14 +360,14 @@ module _ (l : Ledger) (stakes : List ℕ) (t : TableIs l stakes) where
       let w = asked l stakes t k s b refl so m hd in
       let r = reads_alone l stakes t k s b c w refl h so in (
         parts_one bytes c r,
-        accepts_fast stakes bytes t.fits c (length bytes) r (judged_fine l stakes t k s b c w) (kind_at l stakes t k s b c w) refl ∙ ap check.Accepted w.answer,
+        accepts_fast stakes bytes t.fits c (length bytes) r (judged_fine l stakes t k s b c w) (kind_at l stakes t k s b c w) refl ∙ ap Ok w.answer,
       )
 
   slow_on : (s b : ℕ) → b < 2 ^ 64 → slot_ok s ≡ true → none b ≡ false → held l certificate.Notar s b ≡ true → held l certificate.Final s 0 ≡ true
       → (parts (certificate_bytes (certificate_for l certificate.Notar s b) ++ certificate_bytes (certificate_for l certificate.Final s 0))
       ≡ certificate_for l certificate.Notar s b ∷ certificate_for l certificate.Final s 0 ∷ [])
       × (check_proof stakes (certificate_bytes (certificate_for l certificate.Notar s b) ++ certificate_bytes (certificate_for l certificate.Final s 0))
-      ≡ check.Accepted (accepted_for l certificate.Notar s b))
+      ≡ Ok (accepted_for l certificate.Notar s b))
   unfolding is_other_kind block_misfits
   slow_on s b h so m hn hf =
       let k = certificate.Notar in
@@ -385,7 +383,7 @@ module _ (l : Ledger) (stakes : List ℕ) (t : TableIs l stakes) where
         parts_two (x ++ y) c d (length x) (length x + length y) r q,
         accepts_slow stakes (x ++ y) t.fits c d (length x) (length x + length y) r (judged_fine l stakes t k s b c w) (kind_at l stakes t k s b c w) q
             (judged_fine l stakes t certificate.Final s 0 d v) v.kind (v.slot ∙ sym w.slot) (sym (length-append x y))
-            ∙ ap check.Accepted w.answer,
+            ∙ ap Ok w.answer,
       )
 
 pub certificate_back : CertificateBack
@@ -398,13 +396,13 @@ certificate_back l stakes t room k s b n h e =
     let p3 = refuse_fine (not (slot_ok s)) refusal.BadSlot _ p2.1 in
     let p4 = refuse_fine (block_misfits k b) refusal.BadBlock _ p3.1 in
     let p5 = refuse_fine (not (held l k s b)) refusal.NotHeld _ p4.1 in
-    subst (λ (x : List ℕ). (parts x ≡ certificate_for l k s b ∷ []) × (check_certificate stakes x ≡ check.Accepted (accepted_for l k s b)))
+    subst (λ (x : List ℕ). (parts x ≡ certificate_for l k s b ∷ []) × (check_certificate stakes x ≡ Ok (accepted_for l k s b)))
     (sym (wrote_bytes (certificate_verdict l room k s b) bytes v))
     (certificate_on_lem l stakes t k s b h p2.0 (not-false (slot_ok s) p3.0) p4.0 (not-false (held l k s b) p5.0))
 
 -- What is promised of the bytes of a proof.
 abbrev ProofOn : Ledger → List ℕ → ℕ → ℕ → List ℕ → List Certificate → CertificateKind → Type 0
-ProofOn l stakes s b bytes certs k = (parts bytes ≡ certs) × (check_proof stakes bytes ≡ check.Accepted (accepted_for l k s b))
+ProofOn l stakes s b bytes certs k = (parts bytes ≡ certs) × (check_proof stakes bytes ≡ Ok (accepted_for l k s b))
 
 pub proof_back : ProofBack
 unfolding write_proof proof_verdict proof_bytes is_final proof_parts proof_kind

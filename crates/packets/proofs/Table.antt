@@ -1,4 +1,5 @@
 -- A well-formed record has the table of its first stakes, and keeps certificates that the checker accepts with it.
+use Rattle.std.specs.Prelude.{⊤, Result, Ok, Err}
 use mathlib.Core.Path.{◌≡◌, refl, sym, ap, ◌∙◌, subst}
 use mathlib.Core.Bool.{Bool, true, ◌&&◌}
 use mathlib.Core.List.{List}
@@ -8,8 +9,6 @@ use lib.ListN.{length}
 use lib.Seq.{get_or-take, length-take-le}
 use lib.Dec.{eqb, leb}
 use borrow.Author.Tests.{leb-true, eqb-true}
-use Rattle.rulebook.specs.declared.Verdict.{Verdict}
-use Rattle.rulebook.specs.declared.Verdict.TheVariants.{Fine, Refused}
 use Rattle.rulebook.specs.Tools.{all_to}
 use Rattle.rulebook.specs.Weights.{most_nodes, places_for, most_stake, slot_ok, stake_in, total_to, stakes_fit}
 use Rattle.rulebook.specs.Ledger.{Ledger, none, places, table_of, certificates_at, kept_at, is_kept}
@@ -20,6 +19,7 @@ use Rattle.rule_laws.proofs.PlaceLaws.{nodes_placed}
 use Rattle.rule_laws.proofs.ToolLaws.{given_both, given_on, and_both, all_same, sum_same}
 use Rattle.rule_laws.proofs.CertificateLaws.{each_at, kept_within, record_certificates}
 use Rattle.packets.specs.Promises.{TableOfRecord}
+use Rattle.rulebook.specs.declared.Refusal.{Refusal}
 
 -- Stakes that agree below n fit alike, and have the same total.
 module _ (xs ys : List ℕ) (n : ℕ) (e : (i : ℕ) → i < n → stake_in xs i ≡ stake_in ys i) where
@@ -48,12 +48,12 @@ head_true l e =
     let p = and_both (stakes_fit l.stakes l.count) (eqb (total_to l.stakes l.count) l.total) h in
     (p.0, eqb-true (total_to l.stakes l.count) l.total p.1, eqb-true (places l) (places_for l.count) g.0)
 
-fine_is : (v : Verdict) → is_fine v ≡ true → v ≡ Fine
+fine_is : (v : Result ⊤ Refusal) → is_fine v ≡ true → v ≡ Ok tt
 unfolding is_fine
-fine_is Fine e = refl
-fine_is (Refused r) e = let z : ◌≡◌ {A = ℕ} 0 1 = cc in absurd (omega arith)
+fine_is (Ok tt) e = refl
+fine_is (Err r) e = let z : ◌≡◌ {A = ℕ} 0 1 = cc in absurd (omega arith)
 
-kept_fine : (l : Ledger) → well_formed l ≡ true → (s i : ℕ) → slot_ok s ≡ true → is_kept (kept_at l s i) ≡ true → judge_kind (table_of l) (place_kind i) (kept_in s (kept_at l s i)) ≡ Fine
+kept_fine : (l : Ledger) → well_formed l ≡ true → (s i : ℕ) → slot_ok s ≡ true → is_kept (kept_at l s i) ≡ true → judge_kind (table_of l) (place_kind i) (kept_in s (kept_at l s i)) ≡ Ok tt
 unfolding certificates_fit certificate_fits
 kept_fine l e s i so k =
     let ws = table_of l in

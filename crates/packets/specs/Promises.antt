@@ -1,14 +1,11 @@
 -- What is promised of packets, over the definitions of the rule book.
-use Rattle.std.specs.Prelude.{◌≡◌, Bool, true, ◌||◌, List, [], ◌∷◌, ℕ, ◌+◌, ◌^◌, ◌<◌, length, get_or}
+use Rattle.std.specs.Prelude.{◌≡◌, Bool, true, ◌||◌, List, [], ◌∷◌, ℕ, ◌+◌, ◌^◌, ◌<◌, length, get_or, Ok}
 use Rattle.rulebook.specs.declared.Accepted.{Accepted}
 use Rattle.rulebook.specs.Certificates.{Certificate, Found}
 use Rattle.rulebook.specs.declared.CertificateKind.{CertificateKind}
 use Rattle.rulebook.specs.declared.CertificateKind.TheVariants as certificate
-use Rattle.rulebook.specs.declared.CheckAnswer.TheVariants as check
 use Rattle.rulebook.specs.Certificates as found
-use Rattle.rulebook.specs.declared.WriteAnswer.TheVariants as write
 use Rattle.rulebook.specs.Tools.{whenever, choose}
-use Rattle.rulebook.specs.declared.Verdict.TheVariants.{Fine}
 use Rattle.rulebook.specs.Weights.{stake_in, weight, total_to, stakes_fit, slot_ok}
 use Rattle.rulebook.specs.PaperNumbers.{kind_in}
 use Rattle.rulebook.specs.Ledger.{Ledger, cell_at, kept_at, is_kept, table_of}
@@ -36,8 +33,8 @@ parts packet = part_from (certificate_at packet 0) (λ next. part_from (certific
 
 -- "Accepted": the checker of certificates takes the packet, or the checker of proofs does.
 pub data AcceptedByEither (stakes packet : List ℕ) : Type 0 where
-  as_certificate : (a : Accepted) → check_certificate stakes packet ≡ check.Accepted a → AcceptedByEither stakes packet
-  as_proof : (a : Accepted) → check_proof stakes packet ≡ check.Accepted a → AcceptedByEither stakes packet
+  as_certificate : (a : Accepted) → check_certificate stakes packet ≡ Ok a → AcceptedByEither stakes packet
+  as_proof : (a : Accepted) → check_proof stakes packet ≡ Ok a → AcceptedByEither stakes packet
 
 -- "No two accepted packets spell the same certificates": two that either checker accepts, and that read to the same certificates, one or
 -- two, are the same bytes, whatever the tables.
@@ -66,10 +63,10 @@ pub record FirstCounted (stakes packet : List ℕ) (a : Accepted) : Type 0 where
   pub counted : Counted stakes first a
 
 abbrev pub CertificateCounted : Type 0
-CertificateCounted = (stakes packet : List ℕ) (a : Accepted) → check_certificate stakes packet ≡ check.Accepted a → FirstCounted stakes packet a
+CertificateCounted = (stakes packet : List ℕ) (a : Accepted) → check_certificate stakes packet ≡ Ok a → FirstCounted stakes packet a
 
 abbrev pub ProofCounted : Type 0
-ProofCounted = (stakes packet : List ℕ) (a : Accepted) → check_proof stakes packet ≡ check.Accepted a → FirstCounted stakes packet a
+ProofCounted = (stakes packet : List ℕ) (a : Accepted) → check_proof stakes packet ≡ Ok a → FirstCounted stakes packet a
 
 -- ---- what a writer gives
 
@@ -79,7 +76,7 @@ pub record TableIs (l : Ledger) (stakes : List ℕ) : Type 0 where
   pub each : (n : ℕ) → n < length stakes → stake_in l.stakes n ≡ stake_in stakes n
   pub total : l.total ≡ total_to stakes (length stakes)
   pub fits : stakes_fit stakes (length stakes) ≡ true
-  pub kept : (s i : ℕ) → slot_ok s ≡ true → is_kept (kept_at l s i) ≡ true → judge_kind stakes (place_kind i) (kept_in s (kept_at l s i)) ≡ Fine
+  pub kept : (s i : ℕ) → slot_ok s ≡ true → is_kept (kept_at l s i) ≡ true → judge_kind stakes (place_kind i) (kept_in s (kept_at l s i)) ≡ Ok tt
 
 -- Every record that is not answered 17 has such a table: the first of its stakes.
 abbrev pub TableOfRecord : Type 0
@@ -104,9 +101,9 @@ accepted_for l k s b =
 abbrev pub CertificateBack : Type 0
 CertificateBack =
     (l : Ledger) (stakes : List ℕ) → TableIs l stakes → (room : ℕ) (k : CertificateKind) (s b n : ℕ) → b < 2 ^ 64
-    → (write_certificate l room k s b).answer ≡ write.Written n
+    → (write_certificate l room k s b).answer ≡ Ok n
     → (parts (write_certificate l room k s b).bytes ≡ certificate_for l k s b ∷ [])
-    × (check_certificate stakes (write_certificate l room k s b).bytes ≡ check.Accepted (accepted_for l k s b))
+    × (check_certificate stakes (write_certificate l room k s b).bytes ≡ Ok (accepted_for l k s b))
 
 -- The certificates of a proof, kind 1 preferred, and the kind of the first.
 unfoldable pub proof_parts : Ledger → ℕ → ℕ → List Certificate
@@ -120,6 +117,6 @@ proof_kind l s b = choose (held l certificate.FastFinal s b) certificate.FastFin
 
 abbrev pub ProofBack : Type 0
 ProofBack =
-    (l : Ledger) (stakes : List ℕ) → TableIs l stakes → (room s b n : ℕ) → b < 2 ^ 64 → (write_proof l room s b).answer ≡ write.Written n
+    (l : Ledger) (stakes : List ℕ) → TableIs l stakes → (room s b n : ℕ) → b < 2 ^ 64 → (write_proof l room s b).answer ≡ Ok n
     → (parts (write_proof l room s b).bytes ≡ proof_parts l s b)
-    × (check_proof stakes (write_proof l room s b).bytes ≡ check.Accepted (accepted_for l (proof_kind l s b) s b))
+    × (check_proof stakes (write_proof l room s b).bytes ≡ Ok (accepted_for l (proof_kind l s b) s b))

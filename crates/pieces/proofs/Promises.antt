@@ -1,4 +1,5 @@
 -- The promises of proofs in pieces.
+use Rattle.std.specs.Prelude.{⊤, Result, Ok, Err}
 use mathlib.Core.Path.{◌≡◌, refl, sym, ap, ap₂, ◌∙◌}
 use mathlib.Core.Bool.{Bool, true, false}
 use mathlib.Core.List.{List, [], ◌∷◌, ◌++◌, append_assoc, append-nil}
@@ -8,16 +9,12 @@ use lib.ListN.{length, take, drop, length-drop, take-append-drop}
 use lib.Seq.{take_all, length-take-le}
 use lib.Dec.{eqb}
 use borrow.Author.Tests.{eqb-true, eqb-false}
-use Rattle.rulebook.specs.declared.CheckAnswer.{CheckAnswer}
-use Rattle.rulebook.specs.declared.CheckAnswer.TheVariants as check
 use Rattle.rulebook.specs.declared.Refusal.{Refusal}
 use Rattle.rulebook.specs.declared.Refusal.TheVariants as refusal
 use Rattle.rulebook.specs.Weights.{stakes_fit}
 use Rattle.rulebook.specs.Ledger.{none}
 use Rattle.rulebook.specs.Checker.{check_proof}
 use Rattle.rule_laws.proofs.ToolLaws.{given_on, given_off, by_test, true_not_false}
-use Rattle.pieces.specs.declared.PieceAnswer.{PieceAnswer}
-use Rattle.pieces.specs.declared.PieceAnswer.TheVariants as answer
 use Rattle.pieces.specs.Pieces.{Taken, nothing, since, after_piece, piece_answer, end_answer, Asked, piece, end, Said, of_piece, of_end, said, after_call, said_by, after_calls, Piece, calls, packet, mores}
 use Rattle.pieces.specs.State.{state_words, front_bytes, mark, kept, nodes, table, front, blank, is_ready, is_whole, kept_front, PieceOf, EndOf, words_of, bytes_of}
 use Rattle.pieces.specs.Promises.{FrontDecides, Call, Meets, as_piece, as_end, Calls, no_more, called, asked_in, answered_in, last_words, last_bytes, zero_words, zero_bytes, CallsAnswer, CutsAnywhere, EndWithoutPiece, TableRefused, LeftByCalls, WholeIsLeft, PieceRefused, EndAnew, PieceOne, EndOne}
@@ -26,6 +23,7 @@ use Rattle.pieces.proofs.Tests.{ready_words, ready_bytes, ready_within, ready_bl
 use Rattle.pieces.proofs.Ways.{end_broken, piece_unready, piece_more, piece_unfit, piece_first, end_nothing, end_whole}
 use Rattle.pieces.proofs.Front as decided
 use Rattle.pieces.proofs.Held.{zeros, since_ready, since_whole, since_begun, since_table, since_front, words_more, bytes_more, words_first, bytes_first, nothing_mark, nothing_ready, nothing_whole}
+use Rattle.rulebook.specs.declared.Accepted.{Accepted}
 
 pub front_decides : FrontDecides
 front_decides stakes bytes = decided.front_decides stakes bytes
@@ -60,7 +58,7 @@ PieceIs t stakes bytes =
     PieceOf (words_of t) (bytes_of t) stakes bytes (piece_answer t stakes) (words_of (after_piece t stakes bytes)) (bytes_of (after_piece t stakes bytes))
 
 first_fits : (stakes bytes : List ℕ) → stakes_fit stakes (length stakes) ≡ true
-    → PieceOf (words_of nothing) (bytes_of nothing) stakes bytes answer.More (words_of (since stakes bytes)) (bytes_of (since stakes bytes))
+    → PieceOf (words_of nothing) (bytes_of nothing) stakes bytes (Ok tt) (words_of (since stakes bytes)) (bytes_of (since stakes bytes))
 first_fits stakes bytes e =
     piece_first (words_of nothing) (bytes_of nothing) stakes bytes nothing_ready nothing_mark e (sym (words_first stakes))
     (record {
@@ -72,8 +70,8 @@ piece_is : (t : Taken) (stakes bytes : List ℕ) → Fits t → PieceIs t stakes
 unfolding Fits PieceIs after_piece piece_answer
 piece_is nothing stakes bytes f =
     by_test (stakes_fit stakes (length stakes))
-    (λ e. rw (given_on (stakes_fit stakes (length stakes)) nothing (λ _. since stakes bytes) e, given_on (stakes_fit stakes (length stakes)) (answer.Refused refusal.BadSizes) (λ _. answer.More) e) (first_fits stakes bytes e))
-    (λ e. rw (given_off (stakes_fit stakes (length stakes)) nothing (λ _. since stakes bytes) e, given_off (stakes_fit stakes (length stakes)) (answer.Refused refusal.BadSizes) (λ _. answer.More) e)
+    (λ e. rw (given_on (stakes_fit stakes (length stakes)) nothing (λ _. since stakes bytes) e, given_on (stakes_fit stakes (length stakes)) (Err refusal.BadSizes) (λ _. (Ok tt)) e) (first_fits stakes bytes e))
+    (λ e. rw (given_off (stakes_fit stakes (length stakes)) nothing (λ _. since stakes bytes) e, given_off (stakes_fit stakes (length stakes)) (Err refusal.BadSizes) (λ _. (Ok tt)) e)
     (piece_unfit (words_of nothing) (bytes_of nothing) stakes bytes nothing_ready nothing_mark e))
 piece_is (since table taken) stakes bytes f =
     piece_more (words_of (since table taken)) (bytes_of (since table taken)) stakes bytes (since_ready table taken f) (since_begun table taken)
@@ -100,7 +98,7 @@ end_is (since table taken) f =
     (none_bytes ∙ ap zeros (sym (ready_bytes (words_of (since table taken)) (bytes_of (since table taken)) ready)))
 
 -- A piece that meets its contract, on a state that stands for what has been taken.
-pub piece_says : (t : Taken) (ws bs stakes bytes : List ℕ) (r : PieceAnswer) (ws' bs' : List ℕ) → Fits t → ws ≡ words_of t → bs ≡ bytes_of t
+pub piece_says : (t : Taken) (ws bs stakes bytes : List ℕ) (r : Result ⊤ Refusal) (ws' bs' : List ℕ) → Fits t → ws ≡ words_of t → bs ≡ bytes_of t
     → PieceOf ws bs stakes bytes r ws' bs' → (r ≡ piece_answer t stakes) × (ws' ≡ words_of (after_piece t stakes bytes)) × (bs' ≡ bytes_of (after_piece t stakes bytes))
 unfolding PieceIs
 piece_says t ws bs stakes bytes r ws' bs' f e g h =
@@ -108,7 +106,7 @@ piece_says t ws bs stakes bytes r ws' bs' f e g h =
     (rw (e, g) (piece_is t stakes bytes f))
 
 -- Likewise the end.
-pub end_says : (t : Taken) (ws bs : List ℕ) (r : CheckAnswer) (ws' bs' : List ℕ) → Fits t → ws ≡ words_of t → bs ≡ bytes_of t → EndOf ws bs r ws' bs'
+pub end_says : (t : Taken) (ws bs : List ℕ) (r : Result Accepted Refusal) (ws' bs' : List ℕ) → Fits t → ws ≡ words_of t → bs ≡ bytes_of t → EndOf ws bs r ws' bs'
     → (r ≡ end_answer t) × (ws' ≡ words_of nothing) × (bs' ≡ bytes_of nothing)
 end_says t ws bs r ws' bs' f e g h = end_one ws bs r (end_answer t) ws' (words_of nothing) bs' (bytes_of nothing) h (rw (e, g) (end_is t f))
 
@@ -160,7 +158,7 @@ later_said : (stakes taken : List ℕ) (ps : List Piece)
 unfolding said_by calls mores packet said after_call piece_answer after_piece end_answer
 later_said stakes taken [] = ap (λ (x : List ℕ). of_end (check_proof stakes x) ∷ []) (sym (append-nil taken))
 later_said stakes taken (p ∷ ps) =
-    ap (λ (xs : List Said). of_piece answer.More ∷ xs)
+    ap (λ (xs : List Said). of_piece (Ok tt) ∷ xs)
     (later_said stakes (taken ++ p.bytes) ps
     ∙ ap (λ (x : List ℕ). mores ps ++ (of_end (check_proof stakes x) ∷ [])) (append_assoc taken p.bytes (packet ps)))
 
@@ -170,13 +168,13 @@ later_left t [] = refl
 later_left t (p ∷ ps) = later_left (after_piece t p.stakes p.bytes) ps
 
 all_said : (stakes first : List ℕ) (later : List Piece) → stakes_fit stakes (length stakes) ≡ true
-    → said_by nothing (piece stakes first ∷ (calls later ++ (end ∷ []))) ≡ of_piece answer.More ∷ (mores later ++ (of_end (check_proof stakes (first ++ packet later)) ∷ []))
+    → said_by nothing (piece stakes first ∷ (calls later ++ (end ∷ []))) ≡ of_piece (Ok tt) ∷ (mores later ++ (of_end (check_proof stakes (first ++ packet later)) ∷ []))
 unfolding said_by said after_call piece_answer after_piece
 all_said stakes first later e =
-    ap₂ (λ (r : PieceAnswer) (t : Taken). of_piece r ∷ said_by t (calls later ++ (end ∷ [])))
-    (given_on (stakes_fit stakes (length stakes)) (answer.Refused refusal.BadSizes) (λ _. answer.More) e)
+    ap₂ (λ (r : Result ⊤ Refusal) (t : Taken). of_piece r ∷ said_by t (calls later ++ (end ∷ [])))
+    (given_on (stakes_fit stakes (length stakes)) (Err refusal.BadSizes) (λ _. (Ok tt)) e)
     (given_on (stakes_fit stakes (length stakes)) nothing (λ _. since stakes first) e)
-    ∙ ap (λ (xs : List Said). of_piece answer.More ∷ xs) (later_said stakes first later)
+    ∙ ap (λ (xs : List Said). of_piece (Ok tt) ∷ xs) (later_said stakes first later)
 
 all_left : (stakes first : List ℕ) (later : List Piece) → after_calls nothing (piece stakes first ∷ (calls later ++ (end ∷ []))) ≡ nothing
 unfolding after_calls after_call
@@ -201,7 +199,7 @@ end_without_piece r ws' bs' h =
 pub table_refused : TableRefused
 unfolding words_of bytes_of
 table_refused stakes bytes r ws' bs' e h =
-    piece_one zero_words zero_bytes stakes bytes r (answer.Refused refusal.BadSizes) ws' zero_words bs' zero_bytes h
+    piece_one zero_words zero_bytes stakes bytes r (Err refusal.BadSizes) ws' zero_words bs' zero_bytes h
     (piece_unfit zero_words zero_bytes stakes bytes nothing_ready nothing_mark e)
 
 -- ---- 17
@@ -283,7 +281,7 @@ whole_is_left ws bs = (whole_left ws bs, λ l. rw (l.words, l.bytes) (fits_whole
 -- ---- after the end
 
 -- A state that is not refused stands for what has been taken.
-whole_taken : (ws bs : List ℕ) (r : CheckAnswer) (ws' bs' : List ℕ) → EndOf ws bs r ws' bs' → is_whole ws bs ≡ true → (ws' ≡ zero_words) × (bs' ≡ zero_bytes)
+whole_taken : (ws bs : List ℕ) (r : Result Accepted Refusal) (ws' bs' : List ℕ) → EndOf ws bs r ws' bs' → is_whole ws bs ≡ true → (ws' ≡ zero_words) × (bs' ≡ zero_bytes)
 whole_taken ws bs r ws' bs' h e =
     let l = whole_left ws bs e in
     let t = after_calls nothing l.before in
@@ -292,30 +290,30 @@ whole_taken ws bs r ws' bs' h e =
 
 pub end_anew : EndAnew
 end_anew ws bs r ws' bs' h =
-    (whole_taken ws bs r ws' bs' h, λ e. end_one ws bs r (check.Refused refusal.BadRecord) ws' ws bs' bs h (end_broken ws bs e))
+    (whole_taken ws bs r ws' bs' h, λ e. end_one ws bs r (Err refusal.BadRecord) ws' ws bs' bs h (end_broken ws bs e))
 
 -- ---- a refused piece
 
-is_more : PieceAnswer → Bool
-is_more answer.More = true
-is_more (answer.Refused r) = false
+is_more : Result ⊤ Refusal → Bool
+is_more (Ok tt) = true
+is_more (Err r) = false
 
 -- No contract allows a refusal where the piece is taken.
-not_more : {X : Type 0} (ws bs stakes bytes : List ℕ) (r : Refusal) (ws' bs' left front : List ℕ) → PieceOf ws bs stakes bytes (answer.Refused r) ws' bs'
-    → PieceOf ws bs stakes bytes answer.More left front → X
+not_more : {X : Type 0} (ws bs stakes bytes : List ℕ) (r : Refusal) (ws' bs' left front : List ℕ) → PieceOf ws bs stakes bytes (Err r) ws' bs'
+    → PieceOf ws bs stakes bytes (Ok tt) left front → X
 unfolding is_more
 not_more ws bs stakes bytes r ws' bs' left front h m =
-    let e : answer.Refused r ≡ answer.More = (piece_one ws bs stakes bytes (answer.Refused r) answer.More ws' left bs' front h m).0 in
-    true_not_false (is_more answer.More) refl (sym (ap is_more e))
+    let e : Err r ≡ (Ok tt) = (piece_one ws bs stakes bytes (Err r) (Ok tt) ws' left bs' front h m).0 in
+    true_not_false (is_more (Ok tt)) refl (sym (ap is_more e))
 
 pub piece_refused_lem : PieceRefused
 piece_refused_lem ws bs stakes bytes r ws' bs' h =
-    let same : (x : PieceAnswer) → PieceOf ws bs stakes bytes x ws bs → (ws' ≡ ws) × (bs' ≡ bs) =
-    (λ x m. let i = piece_one ws bs stakes bytes (answer.Refused r) x ws' ws bs' bs h m in (i.1, i.2)) in
+    let same : (x : Result ⊤ Refusal) → PieceOf ws bs stakes bytes x ws bs → (ws' ≡ ws) × (bs' ≡ bs) =
+    (λ x m. let i = piece_one ws bs stakes bytes (Err r) x ws' ws bs' bs h m in (i.1, i.2)) in
     by_test (is_ready ws bs)
     (λ e. by_test (eqb (mark ws) 0)
     (λ t. by_test (stakes_fit stakes (length stakes))
     (λ f. not_more ws bs stakes bytes r ws' bs' _ _ h (piece_first ws bs stakes bytes e (eqb-true (mark ws) 0 t) f refl (record { words = refl; front = refl })))
-    (λ f. same (answer.Refused refusal.BadSizes) (piece_unfit ws bs stakes bytes e (eqb-true (mark ws) 0 t) f)))
+    (λ f. same (Err refusal.BadSizes) (piece_unfit ws bs stakes bytes e (eqb-true (mark ws) 0 t) f)))
     (λ t. not_more ws bs stakes bytes r ws' bs' _ _ h (piece_more ws bs stakes bytes e (eqb-false (mark ws) 0 t) (record { words = refl; front = refl }))))
-    (λ e. same (answer.Refused refusal.BadRecord) (piece_unready ws bs stakes bytes e))
+    (λ e. same (Err refusal.BadRecord) (piece_unready ws bs stakes bytes e))

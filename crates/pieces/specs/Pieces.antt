@@ -1,15 +1,13 @@
 -- "Let the checker take the packet piece by piece, a piece without bytes among them, with an end call": what each call answers, over the
 -- concatenation of the pieces.
-use Rattle.std.specs.Prelude.{List, [], ◌∷◌, ◌++◌, ℕ, length}
-use Rattle.rulebook.specs.declared.CheckAnswer.{CheckAnswer}
-use Rattle.rulebook.specs.declared.CheckAnswer.TheVariants as check
+use Rattle.std.specs.Prelude.{List, [], ◌∷◌, ◌++◌, ℕ, length, ⊤, Result, Ok, Err}
 use Rattle.rulebook.specs.declared.Refusal.TheVariants as refusal
 use Rattle.rulebook.specs.Tools.{whenever}
 use Rattle.rulebook.specs.Weights.{stakes_fit}
 use Rattle.rulebook.specs.PaperNumbers.{Panel, refusal_number}
 use Rattle.rulebook.specs.Checker.{check_proof}
-use Rattle.pieces.specs.declared.PieceAnswer.{PieceAnswer}
-use Rattle.pieces.specs.declared.PieceAnswer.TheVariants as answer
+use Rattle.rulebook.specs.declared.Accepted.{Accepted}
+use Rattle.rulebook.specs.declared.Refusal.{Refusal}
 
 -- What was taken since the last end: nothing, or the first piece's table and all bytes since then.
 pub data Taken : Type 0 where
@@ -23,19 +21,19 @@ after_piece nothing stakes bytes = whenever (stakes_fit stakes (length stakes)) 
 after_piece (since table bytes) stakes more = since table (bytes ++ more)
 
 -- "before it the answer is "more", whatever has been seen".
-unfoldable pub piece_answer : Taken → List ℕ → PieceAnswer
-piece_answer nothing stakes = whenever (stakes_fit stakes (length stakes)) (λ _. answer.More) (answer.Refused refusal.BadSizes)
-piece_answer (since table bytes) stakes = answer.More
+unfoldable pub piece_answer : Taken → List ℕ → Result ⊤ Refusal
+piece_answer nothing stakes = whenever (stakes_fit stakes (length stakes)) (λ _. (Ok tt)) (Err refusal.BadSizes)
+piece_answer (since table bytes) stakes = Ok tt
 
 -- "the end call gives the same answer as the whole packet would"; "An end call with no piece taken before it is 12".
-unfoldable pub end_answer : Taken → CheckAnswer
-end_answer nothing = check.Refused refusal.BadLength
+unfoldable pub end_answer : Taken → Result Accepted Refusal
+end_answer nothing = Err refusal.BadLength
 end_answer (since table bytes) = check_proof table bytes
 
 -- "more" is 0 on the panel, with no value beside it: the piece is done.
-unfoldable pub piece_panel : PieceAnswer → Panel
-piece_panel answer.More = record { number = 0; values = [] }
-piece_panel (answer.Refused r) = record { number = refusal_number r; values = [] }
+unfoldable pub piece_panel : Result ⊤ Refusal → Panel
+piece_panel (Ok tt) = record { number = 0; values = [] }
+piece_panel (Err r) = record { number = refusal_number r; values = [] }
 
 -- ---- a sequence of calls
 
@@ -46,8 +44,8 @@ pub data Asked : Type 0 where
 
 -- What it answers.
 pub data Said : Type 0 where
-  of_piece : PieceAnswer → Said
-  of_end : CheckAnswer → Said
+  of_piece : Result ⊤ Refusal → Said
+  of_end : Result Accepted Refusal → Said
 
 unfoldable pub said : Taken → Asked → Said
 said t (piece stakes bytes) = of_piece (piece_answer t stakes)
@@ -87,4 +85,4 @@ packet (p ∷ ps) = p.bytes ++ packet ps
 -- As many times "more".
 unfoldable pub mores : List Piece → List Said
 mores [] = []
-mores (p ∷ ps) = of_piece answer.More ∷ mores ps
+mores (p ∷ ps) = of_piece (Ok tt) ∷ mores ps

@@ -1,15 +1,12 @@
 -- What is promised of proofs in pieces, over the contracts of the code: a run of calls, each known by its contract alone.
-use Rattle.std.specs.Prelude.{◌≡◌, true, false, List, [], ◌∷◌, ◌++◌, map, ℕ, length, replicate, take}
-use Rattle.rulebook.specs.declared.CheckAnswer.{CheckAnswer}
-use Rattle.rulebook.specs.declared.CheckAnswer.TheVariants as check
+use Rattle.std.specs.Prelude.{◌≡◌, true, false, List, [], ◌∷◌, ◌++◌, map, ℕ, length, replicate, take, ⊤, Result, Ok, Err}
 use Rattle.rulebook.specs.declared.Refusal.{Refusal}
 use Rattle.rulebook.specs.declared.Refusal.TheVariants as refusal
 use Rattle.rulebook.specs.Weights.{stakes_fit}
 use Rattle.rulebook.specs.Checker.{check_proof}
-use Rattle.pieces.specs.declared.PieceAnswer.{PieceAnswer}
-use Rattle.pieces.specs.declared.PieceAnswer.TheVariants as answer
 use Rattle.pieces.specs.Pieces.{nothing, Asked, piece, end, Said, of_piece, of_end, said_by, after_calls, Piece, calls, packet, mores}
 use Rattle.pieces.specs.State.{state_words, front_bytes, PieceOf, EndOf, is_whole, words_of, bytes_of}
+use Rattle.rulebook.specs.declared.Accepted.{Accepted}
 
 -- ---- the front
 
@@ -28,8 +25,8 @@ pub record Call : Type 0 where
 
 -- What its contract has of it.
 pub data Meets (ws bs : List ℕ) : Asked → Said → List ℕ → List ℕ → Type 0 where
-  as_piece : {stakes bytes ws' bs' : List ℕ} {r : PieceAnswer} → PieceOf ws bs stakes bytes r ws' bs' → Meets ws bs (piece stakes bytes) (of_piece r) ws' bs'
-  as_end : {ws' bs' : List ℕ} {r : CheckAnswer} → EndOf ws bs r ws' bs' → Meets ws bs end (of_end r) ws' bs'
+  as_piece : {stakes bytes ws' bs' : List ℕ} {r : Result ⊤ Refusal} → PieceOf ws bs stakes bytes r ws' bs' → Meets ws bs (piece stakes bytes) (of_piece r) ws' bs'
+  as_end : {ws' bs' : List ℕ} {r : Result Accepted Refusal} → EndOf ws bs r ws' bs' → Meets ws bs end (of_end r) ws' bs'
 
 -- Calls one after the other, each on the state that the one before left.
 pub data Calls : List ℕ → List ℕ → List Call → Type 0 where
@@ -75,21 +72,21 @@ abbrev pub CutsAnywhere : Type 0
 CutsAnywhere =
     (stakes first : List ℕ) (later : List Piece) (cs : List Call) → stakes_fit stakes (length stakes) ≡ true
     → Calls zero_words zero_bytes cs → asked_in cs ≡ piece stakes first ∷ (calls later ++ (end ∷ []))
-    → (answered_in cs ≡ of_piece answer.More ∷ (mores later ++ (of_end (check_proof stakes (first ++ packet later)) ∷ [])))
+    → (answered_in cs ≡ of_piece (Ok tt) ∷ (mores later ++ (of_end (check_proof stakes (first ++ packet later)) ∷ [])))
     × (last_words zero_words cs ≡ zero_words)
     × (last_bytes zero_bytes cs ≡ zero_bytes)
 
 -- "An end call with no piece taken before it is 12."
 abbrev pub EndWithoutPiece : Type 0
 EndWithoutPiece =
-    (r : CheckAnswer) (ws' bs' : List ℕ) → EndOf zero_words zero_bytes r ws' bs'
-    → (r ≡ check.Refused refusal.BadLength) × (ws' ≡ zero_words) × (bs' ≡ zero_bytes)
+    (r : Result Accepted Refusal) (ws' bs' : List ℕ) → EndOf zero_words zero_bytes r ws' bs'
+    → (r ≡ Err refusal.BadLength) × (ws' ≡ zero_words) × (bs' ≡ zero_bytes)
 
 -- "A table that is refused with 1 is refused at the first call and nothing is taken."
 abbrev pub TableRefused : Type 0
 TableRefused =
-    (stakes bytes : List ℕ) (r : PieceAnswer) (ws' bs' : List ℕ) → stakes_fit stakes (length stakes) ≡ false → PieceOf zero_words zero_bytes stakes bytes r ws' bs'
-    → (r ≡ answer.Refused refusal.BadSizes) × (ws' ≡ zero_words) × (bs' ≡ zero_bytes)
+    (stakes bytes : List ℕ) (r : Result ⊤ Refusal) (ws' bs' : List ℕ) → stakes_fit stakes (length stakes) ≡ false → PieceOf zero_words zero_bytes stakes bytes r ws' bs'
+    → (r ≡ Err refusal.BadSizes) × (ws' ≡ zero_words) × (bs' ≡ zero_bytes)
 
 -- ---- 17
 
@@ -105,23 +102,23 @@ WholeIsLeft = (ws bs : List ℕ) → (is_whole ws bs ≡ true → LeftByCalls ws
 -- A refused piece leaves the state as found.
 abbrev pub PieceRefused : Type 0
 PieceRefused =
-    (ws bs stakes bytes : List ℕ) (r : Refusal) (ws' bs' : List ℕ) → PieceOf ws bs stakes bytes (answer.Refused r) ws' bs' → (ws' ≡ ws) × (bs' ≡ bs)
+    (ws bs stakes bytes : List ℕ) (r : Refusal) (ws' bs' : List ℕ) → PieceOf ws bs stakes bytes (Err r) ws' bs' → (ws' ≡ ws) × (bs' ≡ bs)
 
 -- A state that calls left is all 0 after the end, whatever was answered; any other is as found.
 abbrev pub EndAnew : Type 0
 EndAnew =
-    (ws bs : List ℕ) (r : CheckAnswer) (ws' bs' : List ℕ) → EndOf ws bs r ws' bs'
+    (ws bs : List ℕ) (r : Result Accepted Refusal) (ws' bs' : List ℕ) → EndOf ws bs r ws' bs'
     → (is_whole ws bs ≡ true → (ws' ≡ zero_words) × (bs' ≡ zero_bytes))
-    × (is_whole ws bs ≡ false → (r ≡ check.Refused refusal.BadRecord) × (ws' ≡ ws) × (bs' ≡ bs))
+    × (is_whole ws bs ≡ false → (r ≡ Err refusal.BadRecord) × (ws' ≡ ws) × (bs' ≡ bs))
 
 -- ---- the contracts leave nothing open
 
 abbrev pub PieceOne : Type 0
 PieceOne =
-    (ws bs stakes bytes : List ℕ) (r r' : PieceAnswer) (left left' front front' : List ℕ)
+    (ws bs stakes bytes : List ℕ) (r r' : Result ⊤ Refusal) (left left' front front' : List ℕ)
     → PieceOf ws bs stakes bytes r left front → PieceOf ws bs stakes bytes r' left' front' → (r ≡ r') × (left ≡ left') × (front ≡ front')
 
 abbrev pub EndOne : Type 0
 EndOne =
-    (ws bs : List ℕ) (r r' : CheckAnswer) (left left' front front' : List ℕ) → EndOf ws bs r left front → EndOf ws bs r' left' front'
+    (ws bs : List ℕ) (r r' : Result Accepted Refusal) (left left' front front' : List ℕ) → EndOf ws bs r left front → EndOf ws bs r' left' front'
     → (r ≡ r') × (left ≡ left') × (front ≡ front')

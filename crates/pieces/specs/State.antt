@@ -1,17 +1,14 @@
 -- The state that the host lends between the calls: words and bytes. Of the packet it keeps the front that a proof's answer can depend on.
-use Rattle.std.specs.Prelude.{◌≡◌, Bool, ◌&&◌, ◌||◌, List, ◌∷◌, ◌++◌, ℕ, ◌+◌, ◌-◌, ◌≤◌, min, length, get_or, set, take, drop, replicate, eqb, leb}
+use Rattle.std.specs.Prelude.{◌≡◌, Bool, ◌&&◌, ◌||◌, List, ◌∷◌, ◌++◌, ℕ, ◌+◌, ◌-◌, ◌≤◌, min, length, get_or, set, take, drop, replicate, eqb, leb, ⊤, Result, Ok, Err}
 use Rattle.std.proofs.Math.Seq.{paste}
-use Rattle.rulebook.specs.declared.CheckAnswer.{CheckAnswer}
-use Rattle.rulebook.specs.declared.CheckAnswer.TheVariants as check
 use Rattle.rulebook.specs.declared.Refusal.{Refusal}
 use Rattle.rulebook.specs.declared.Refusal.TheVariants as refusal
 use Rattle.rulebook.specs.Tools.{whenever, choose, all_to}
 use Rattle.rulebook.specs.Weights.{stakes_fit}
 use Rattle.rulebook.specs.Ledger.{none}
 use Rattle.rulebook.specs.Checker.{check_proof}
-use Rattle.pieces.specs.declared.PieceAnswer.{PieceAnswer}
-use Rattle.pieces.specs.declared.PieceAnswer.TheVariants as answer
 use Rattle.pieces.specs.Pieces.{Taken, nothing, since}
+use Rattle.rulebook.specs.declared.Accepted.{Accepted}
 
 -- ---- its parts
 
@@ -80,15 +77,15 @@ kept_front ws bs bytes = paste bs (kept ws) bytes (fitting ws bytes)
 
 -- What a piece answers and all that it leaves.
 pub record PieceLeft : Type 0 where
-  pub answer : PieceAnswer
+  pub answer : Result ⊤ Refusal
   pub words : List ℕ
   pub bytes : List ℕ
 
 abbrev pub piece_refused : Refusal → List ℕ → List ℕ → PieceLeft
-piece_refused r ws bs = record { answer = answer.Refused r; words = ws; bytes = bs }
+piece_refused r ws bs = record { answer = Err r; words = ws; bytes = bs }
 
 abbrev pub piece_taken : List ℕ → List ℕ → List ℕ → PieceLeft
-piece_taken ws bs bytes = record { answer = answer.More; words = kept_words ws bytes; bytes = kept_front ws bs bytes }
+piece_taken ws bs bytes = record { answer = Ok tt; words = kept_words ws bytes; bytes = kept_front ws bs bytes }
 
 unfoldable pub first_leaves : List ℕ → List ℕ → List ℕ → List ℕ → PieceLeft
 first_leaves ws bs stakes bytes =
@@ -101,7 +98,7 @@ piece_leaves ws bs stakes bytes =
     (piece_refused refusal.BadRecord ws bs)
 
 -- The contract of a piece: its answer, and all words and bytes of the state afterwards.
-pub record PieceOf (ws bs stakes bytes : List ℕ) (r : PieceAnswer) (ws' bs' : List ℕ) : Type 0 where
+pub record PieceOf (ws bs stakes bytes : List ℕ) (r : Result ⊤ Refusal) (ws' bs' : List ℕ) : Type 0 where
   pub answered : r ≡ (piece_leaves ws bs stakes bytes).answer
   pub words : ws' ≡ (piece_leaves ws bs stakes bytes).words
   pub front : bs' ≡ (piece_leaves ws bs stakes bytes).bytes
@@ -109,12 +106,12 @@ pub record PieceOf (ws bs stakes bytes : List ℕ) (r : PieceAnswer) (ws' bs' : 
 -- ---- what the end does
 
 pub record EndLeft : Type 0 where
-  pub answer : CheckAnswer
+  pub answer : Result Accepted Refusal
   pub words : List ℕ
   pub bytes : List ℕ
 
 abbrev pub end_refused : Refusal → List ℕ → List ℕ → EndLeft
-end_refused r ws bs = record { answer = check.Refused r; words = ws; bytes = bs }
+end_refused r ws bs = record { answer = Err r; words = ws; bytes = bs }
 
 -- The whole check of what was kept; afterwards all is 0.
 abbrev pub end_checked : List ℕ → List ℕ → EndLeft
@@ -127,7 +124,7 @@ end_leaves ws bs =
     (end_refused refusal.BadRecord ws bs)
 
 -- The contract of the end: its answer, and all words and bytes of the state afterwards.
-pub record EndOf (ws bs : List ℕ) (r : CheckAnswer) (ws' bs' : List ℕ) : Type 0 where
+pub record EndOf (ws bs : List ℕ) (r : Result Accepted Refusal) (ws' bs' : List ℕ) : Type 0 where
   pub answered : r ≡ (end_leaves ws bs).answer
   pub words : ws' ≡ (end_leaves ws bs).words
   pub front : bs' ≡ (end_leaves ws bs).bytes

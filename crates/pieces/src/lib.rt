@@ -6,7 +6,7 @@ ghost use Rattle.std.proofs.Math.Seq.{paste};
 ghost use Rattle.pieces.specs.State.{state_words, front_bytes, nodes, blank, is_sized, is_ready, holds_table, is_whole, Pasted, Sized, Taking, Keeps, with_table, PieceOf, EndOf};
 
 use checker::check_proof;
-use rulebook::{CheckAnswer, Refusal};
+use rulebook::{Refusal, Accepted};
 use stakes::make_table;
 
 // Words of the state: how far the packet is, how many nodes the table has, and a stake for each of at most 2,048.
@@ -15,13 +15,6 @@ pub const STATE_WORDS: usize = 2_050;
 // Bytes of the state: all that a proof's answer can depend on. A proof has at most two certificates of 67 numbers of ten bytes; of what
 // follows them the first byte alone can be seen.
 pub const FRONT_BYTES: usize = 1_341;
-
-// What a piece is answered.
-#[derive(Clone, Copy)]
-pub enum PieceAnswer {
-    More,
-    Refused(Refusal),
-}
 
 // How many words a state has.
 pub fn state_words() -> usize
@@ -186,34 +179,34 @@ fn keep_bytes(words: &mut [u64], front: &mut [u8], bytes: &[u8])
 }
 
 // Takes a piece of a proof. The table is looked at with the first piece alone.
-pub fn piece(words: &mut [u64], front: &mut [u8], stakes: &[u64], bytes: &[u8]) -> PieceAnswer
+pub fn piece(words: &mut [u64], front: &mut [u8], stakes: &[u64], bytes: &[u8]) -> Result<(), Refusal>
     ensures { PieceOf words.old front.old stakes.now bytes.now result words.new front.new }
 {
     if !is_ready(words, front) {
-        return PieceAnswer::Refused(Refusal::BadRecord);
+        return Err(Refusal::BadRecord);
     }
     if words[0] != 0 {
         keep_bytes(words, front, bytes);
-        return PieceAnswer::More;
+        return Ok(());
     }
     let made = make_table(stakes);
     if !made.fits {
-        return PieceAnswer::Refused(Refusal::BadSizes);
+        return Err(Refusal::BadSizes);
     }
     keep_table(words, stakes);
     keep_bytes(words, front, bytes);
-    PieceAnswer::More
+    Ok(())
 }
 
 // Ends a proof: what the whole packet is answered. Then nothing has been taken.
-pub fn end(words: &mut [u64], front: &mut [u8]) -> CheckAnswer
+pub fn end(words: &mut [u64], front: &mut [u8]) -> Result<Accepted, Refusal>
     ensures { EndOf words.old front.old result words.new front.new }
 {
     if !is_whole(words, front) {
-        return CheckAnswer::Refused(Refusal::BadRecord);
+        return Err(Refusal::BadRecord);
     }
     if words[0] == 0 {
-        return CheckAnswer::Refused(Refusal::BadLength);
+        return Err(Refusal::BadLength);
     }
     let kept = words[0] as usize - 1;
     let past = 2 + words[1] as usize;

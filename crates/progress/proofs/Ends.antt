@@ -1,4 +1,5 @@
 -- The ends of lives: no rule applies there, and a number is kept with one parent.
+use Rattle.std.specs.Prelude.{⊤, Result, Ok, Err}
 use mathlib.Core.Path.{◌≡◌, refl, sym, ap, ◌∙◌, subst}
 use mathlib.Core.Bool.{true, false, not, ◌&&◌, ◌||◌}
 use mathlib.Core.List.{List, [], ◌∷◌}
@@ -10,8 +11,6 @@ use lib.ListN.{get_or-eq_default}
 use Rattle.rulebook.specs.declared.Block.{Block}
 use Rattle.rulebook.specs.declared.Input.{Input}
 use Rattle.rulebook.specs.declared.Refusal.{Refusal}
-use Rattle.rulebook.specs.declared.Verdict.{Verdict}
-use Rattle.rulebook.specs.declared.Verdict.TheVariants.{Fine, Refused}
 use Rattle.rulebook.specs.Weights.{last_slot, is_first, window_of}
 use Rattle.rulebook.specs.Certificates.{Certificate}
 use Rattle.rulebook.specs.Ledger.{Ledger, Row, none, no_row, blank_row, table_of, fresh, row_at, is_armed, blocks_at, all_blocks, some_block, is_free, has_number, is_block, keeps_block, certificates_at}
@@ -52,15 +51,15 @@ module _ (l : Ledger) (h : Sound l) where
   unfolding refused_with is_done
   refused_leaves r = record { rests = λ t. absurd t; stays = λ e. refl }
 
-  fed_on_leaves : (v : Verdict) (i : Input) → verdict l i ≡ v → Leaves (fed_on v l i)
+  fed_on_leaves : (v : Result ⊤ Refusal) (i : Input) → verdict l i ≡ v → Leaves (fed_on v l i)
   unfolding fed_on
-  fed_on_leaves Fine i e = fed_leaves (run (intake l i)) (called_settled l h i e)
-  fed_on_leaves (Refused r) i e = refused_leaves r
+  fed_on_leaves (Ok tt) i e = fed_leaves (run (intake l i)) (called_settled l h i e)
+  fed_on_leaves (Err r) i e = refused_leaves r
 
-  taken_on_leaves : (v : Verdict) (c : Certificate) → judge (table_of l) c ≡ Fine → kept_verdict (certificates_at l c.slot) (kind_for l c) c.block ≡ v → Leaves (taken_on v l c)
+  taken_on_leaves : (v : Result ⊤ Refusal) (c : Certificate) → judge (table_of l) c ≡ Ok tt → kept_verdict (certificates_at l c.slot) (kind_for l c) c.block ≡ v → Leaves (taken_on v l c)
   unfolding taken_on
-  taken_on_leaves Fine c j e = fed_leaves (run (state_of (keep_certificate l c) [])) (kept_settled l h c (taken_fine l h c j e))
-  taken_on_leaves (Refused r) c j e = refused_leaves r
+  taken_on_leaves (Ok tt) c j e = fed_leaves (run (state_of (keep_certificate l c) [])) (kept_settled l h c (taken_fine l h c j e))
+  taken_on_leaves (Err r) c j e = refused_leaves r
 
   served_leaves : (c : Arrival) → Leaves (served l c)
   unfolding served feed taken

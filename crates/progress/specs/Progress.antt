@@ -1,8 +1,7 @@
 -- PROGRESS WITHOUT CLOCKS, over the written rules and honest lives: once the mail is in, every slot is decided and every window armed. First
 -- the premises and what the words mean, then the promises, each as a statement that proofs/ proves under the same name in small letters.
-use Rattle.std.specs.Prelude.{◌≡◌, Bool, false, not, ◌&&◌, ◌||◌, List, [], ◌∷◌, ℕ, suc, ◌≤◌, T, length}
+use Rattle.std.specs.Prelude.{◌≡◌, Bool, false, not, ◌&&◌, ◌||◌, List, [], ◌∷◌, ℕ, suc, ◌≤◌, T, length, Ok}
 use Rattle.rulebook.specs.declared.CertificateKind.TheVariants as certificate
-use Rattle.rulebook.specs.declared.Verdict.TheVariants.{Fine}
 use Rattle.rulebook.specs.Weights.{last_slot, weight, total_to, reaches, is_first}
 use Rattle.rulebook.specs.Ledger.{Ledger, none, cell_at, own_cell, no_initial, is_armed, keeps_block, fresh}
 use Rattle.rulebook.specs.Pool.{held}
@@ -32,13 +31,13 @@ pub record AtRest (l : Ledger) : Type 0 where
 -- "until none applies": a life of a node with an accepted arrival ends with no rule applying. Before the first one no rule has run.
 abbrev pub LivesSettle : Type 0
 LivesSettle =
-    (stakes : List ℕ) (own genesis : ℕ) → start_verdict stakes own genesis ≡ Fine → (lived : List Arrival)
+    (stakes : List ℕ) (own genesis : ℕ) → start_verdict stakes own genesis ≡ Ok tt → (lived : List Arrival)
     → T (accepted_in (fresh stakes own genesis) lived) → AtRest (after_all (fresh stakes own genesis) lived)
 
 -- Genesis is ready for slot 1 at once: a life has had an accepted arrival where window 1 is armed at its end, and nowhere else.
 abbrev pub WokenArmed : Type 0
 WokenArmed =
-    (stakes : List ℕ) (own genesis : ℕ) → start_verdict stakes own genesis ≡ Fine → (lived : List Arrival)
+    (stakes : List ℕ) (own genesis : ℕ) → start_verdict stakes own genesis ≡ Ok tt → (lived : List Arrival)
     → accepted_in (fresh stakes own genesis) lived ≡ is_armed (after_all (fresh stakes own genesis) lived) 1
 
 -- A ledger keeps a number of a slot with one parent.
@@ -48,7 +47,7 @@ OneParentEach l = (s b p x q y : ℕ) → T (keeps_block l s b p x) → T (keeps
 -- "8 is now given .. for a number with another parent": so does every node at the end of its life.
 abbrev pub ParentsAlone : Type 0
 ParentsAlone =
-    (stakes : List ℕ) (own genesis : ℕ) → start_verdict stakes own genesis ≡ Fine → (lived : List Arrival)
+    (stakes : List ℕ) (own genesis : ℕ) → start_verdict stakes own genesis ≡ Ok tt → (lived : List Arrival)
     → OneParentEach (after_all (fresh stakes own genesis) lived)
 
 -- ---- the ring

@@ -1,7 +1,6 @@
 -- Watchers beside a ring that goes on: a watcher that has the votes holds the certificate that decides each slot, and has armed its window.
-use Rattle.std.specs.Prelude.{◌≡◌, not, List, ℕ, suc, ◌≤◌, T, length}
+use Rattle.std.specs.Prelude.{◌≡◌, not, List, ℕ, suc, ◌≤◌, T, length, Ok}
 use Rattle.rulebook.specs.declared.CertificateKind.TheVariants as certificate
-use Rattle.rulebook.specs.declared.Verdict.TheVariants.{Fine}
 use Rattle.rulebook.specs.Weights.{last_slot}
 use Rattle.rulebook.specs.Ledger.{none, fresh, cell_at, is_armed}
 use Rattle.rulebook.specs.Pool.{held}
@@ -18,7 +17,7 @@ module _ (stakes : List ℕ) (genesis : ℕ → ℕ) (honest : Test) (fed : ℕ 
   -- What a watcher must have had: a start and an arrival that were accepted, and every vote that an honest node cast in slots up to u, finals
   -- aside. Neither blocks nor timeouts are asked of it.
   pub record WatcherMail (u g : ℕ) (lived : List Arrival) : Type 0 where
-    pub started : watch_verdict stakes g ≡ Fine
+    pub started : watch_verdict stakes g ≡ Ok tt
     pub woken : T (accepted_in (fresh stakes (length stakes) g) lived)
     pub votes : (m s : ℕ) (v : Ballot) → T (honest m) → 1 ≤ s → s ≤ u → T (not (is_final_vote v))
         → T (cast_by stakes genesis honest fed m s v) → T (has (cell_at (watched stakes g lived) s m) v)
@@ -33,7 +32,7 @@ module _ (stakes : List ℕ) (genesis : ℕ → ℕ) (honest : Test) (fed : ℕ 
 -- A watcher too has had an accepted arrival where window 1 is armed at its end, and nowhere else.
 abbrev pub WatcherWokenArmed : Type 0
 WatcherWokenArmed =
-    (stakes : List ℕ) (g : ℕ) → watch_verdict stakes g ≡ Fine → (lived : List Arrival)
+    (stakes : List ℕ) (g : ℕ) → watch_verdict stakes g ≡ Ok tt → (lived : List Arrival)
     → accepted_in (fresh stakes (length stakes) g) lived ≡ is_armed (watched stakes g lived) 1
 
 -- Where the mail of the slots up to u is in, each of them is decided so.

@@ -1,10 +1,10 @@
 -- The histories, computed.
+use Rattle.std.specs.Prelude.{Ok}
 use mathlib.Core.Path.{◌≡◌, refl, ◌∙◌}
 use mathlib.Core.Bool.{Bool, not}
 use Prim.Native.Nat.{ℕ, ◌≤◌}
 use native.Mathlib.Omega.{arith}
 use lib.Dec.{T}
-use Rattle.rulebook.specs.declared.Verdict.TheVariants.{Fine}
 use Rattle.rulebook.specs.Ledger.{Ledger, cell_at, is_armed}
 use Rattle.rulebook.specs.Inputs.{watch_verdict}
 use Rattle.safety.specs.Slot.{Ballot, notar}
@@ -126,7 +126,7 @@ beside_has : T (watcher_has going_ring 4 (ends going_ring) watched_going)
 unfolding tests watcher_has
 beside_has = tt
 
-beside_started : watch_verdict going_ring.stakes 1 ≡ Fine
+beside_started : watch_verdict going_ring.stakes 1 ≡ Ok tt
 unfolding tests
 beside_started = refl
 

@@ -1,4 +1,5 @@
 -- What the tests say of a history: the premises themselves.
+use Rattle.std.specs.Prelude.{Ok}
 use mathlib.Core.Path.{◌≡◌, sym, ap, ◌∙◌, subst}
 use mathlib.Core.Bool.{Bool, true, false, not, ◌&&◌, ◌||◌}
 use mathlib.Core.List.{List, [], ◌∷◌}
@@ -6,7 +7,6 @@ use Prim.Native.Nat.{ℕ, zero, suc, ◌+◌, ◌≤◌, ◌<◌}
 use native.Mathlib.Omega.{arith}
 use lib.Dec.{T, eqb, leb, eqb→eq, leb→le, ltb→lt, lt→ltb, T_not}
 use lib.ListN.{length, get_or}
-use Rattle.rulebook.specs.declared.Verdict.TheVariants.{Fine}
 use Rattle.rulebook.specs.Tools.{choose, some_to}
 use Rattle.rulebook.specs.Weights.{last_slot, weight, reaches, is_first, stakes_fit}
 use Rattle.rulebook.specs.Ledger.{Ledger, none, fresh, cell_at, own_cell, no_initial, is_armed, keeps_block, blocks_at}
@@ -69,7 +69,7 @@ module _ (h : History) where
   unfolding few_others
   few_ok t = ltb→lt _ (total h) t
 
-  pub started_ok : T (all_started h) → (n : ℕ) → T (honest_in h n) → start_verdict h.stakes n (h.genesis n) ≡ Fine
+  pub started_ok : T (all_started h) → (n : ℕ) → T (honest_in h n) → start_verdict h.stakes n (h.genesis n) ≡ Ok tt
   unfolding all_started
   started_ok t n z =
       let a = and_t (stakes_fit h.stakes (length h.stakes)) _ t in
@@ -79,7 +79,7 @@ module _ (h : History) where
 
   -- ---- the mail is in
 
-  module _ (st : (n : ℕ) → T (honest_in h n) → start_verdict h.stakes n (h.genesis n) ≡ Fine) (u : ℕ) where
+  module _ (st : (n : ℕ) → T (honest_in h n) → start_verdict h.stakes n (h.genesis n) ≡ Ok tt) (u : ℕ) where
     abbrev cast : ℕ → ℕ → Ballot → Bool
     cast n s v = cast_by h.stakes h.genesis (honest_in h) (fed_in h) n s v
 

@@ -1,8 +1,7 @@
 -- Why progress needs each of its premises: rings that meet all others and hang, as small as they come, beside rings that meet all and go on.
 -- No order between nodes is meant: each is fed only votes that the others cast, or lies of a node that is not honest.
-use Rattle.std.specs.Prelude.{◌≡◌, Bool, not, ◌&&◌, List, [], ◌∷◌, ◌++◌, ℕ, suc, ◌/◌, ◌≤◌, T, eqb, length}
+use Rattle.std.specs.Prelude.{◌≡◌, Bool, not, ◌&&◌, List, [], ◌∷◌, ◌++◌, ℕ, suc, ◌/◌, ◌≤◌, T, eqb, length, Ok}
 use Rattle.rulebook.specs.declared.Input.{Input}
-use Rattle.rulebook.specs.declared.Verdict.TheVariants.{Fine}
 use Rattle.rulebook.specs.PaperNumbers.{verdict_number}
 use Rattle.rulebook.specs.Weights.{last_slot, reaches, is_first}
 use Rattle.rulebook.specs.Ledger.{Ledger, fresh, cell_at, own_cell, no_initial, is_armed}
@@ -28,10 +27,10 @@ use Rattle.progress_histories.specs.Tests.{History, honest_in, fed_in, end_in, e
 -- Every premise of progress for the slots up to u, but for the one that is left out: the ring's as they are over what arrives, and the mail's.
 pub record AllBut (left : ℕ) (h : History) (u : ℕ) : Type 0 where
   pub few : ¬ (left ≡ the_fifth) → FewOthers h.stakes (honest_in h)
-  pub started : (n : ℕ) → T (honest_in h n) → start_verdict h.stakes n (h.genesis n) ≡ Fine
+  pub started : (n : ℕ) → T (honest_in h n) → start_verdict h.stakes n (h.genesis n) ≡ Ok tt
   pub mail : (n m s : ℕ) (v : Ballot) → T (honest_in h n) → T (honest_in h m) → ¬ (m ≡ n) → T (brought_by (fed_in h n) s m v)
       → T (cast_by h.stakes h.genesis (honest_in h) (fed_in h) m s v)
-  pub packets : ¬ (left ≡ the_certificates) → (n : ℕ) (c : Certificate) → T (honest_in h n) → HandedBy (fed_in h n) c → judge h.stakes c ≡ Fine
+  pub packets : ¬ (left ≡ the_certificates) → (n : ℕ) (c : Certificate) → T (honest_in h n) → HandedBy (fed_in h n) c → judge h.stakes c ≡ Ok tt
       → Genuine (length h.stakes) (honest_in h) (cast_by h.stakes h.genesis (honest_in h) (fed_in h)) c
   pub woken : ¬ (left ≡ the_acceptance) → (n : ℕ) → T (honest_in h n) → T (accepted_in (fresh h.stakes n (h.genesis n)) (fed_in h n))
   pub votes : ¬ (left ≡ the_votes) → (n m s : ℕ) (v : Ballot) → T (honest_in h n) → T (honest_in h m) → 1 ≤ s → s ≤ u → T (not (is_final_vote v))

@@ -1,4 +1,5 @@
 -- The tally card on the contracts: what is answered, 17 for a card that disagrees, and refusals. Assumes nothing.
+use Rattle.std.specs.Prelude.{⊤, Result, Ok, Err}
 use mathlib.Core.Path.{◌≡◌, refl, sym, ap, ◌∙◌}
 use mathlib.Core.Bool.{Bool, false}
 use mathlib.Core.List.{List, [], ◌∷◌}
@@ -6,7 +7,6 @@ use Prim.Native.Nat.{ℕ}
 use lib.ListN.{length}
 use lib.Dec.{eqb}
 use Rattle.rulebook.specs.declared.Refusal.{Refusal}
-use Rattle.rulebook.specs.declared.Verdict.{Verdict}
 use Rattle.rulebook.specs.PaperNumbers.{Panel, refusal_number, verdict_number}
 use Rattle.rulebook.specs.Tools.{choose}
 use Rattle.rulebook.specs.Weights.{slot_ok}
@@ -21,23 +21,12 @@ use Rattle.node.specs.Stepping.{step_leaves}
 use Rattle.taking.specs.Taking.{take_leaves}
 use Rattle.trays.specs.Lent.{tray_leaves}
 use Rattle.writers.specs.Writing.{certificate_on, proof_on}
-use Rattle.cards.specs.declared.CardAnswer.{CardAnswer}
-use Rattle.cards.specs.declared.CardAnswer.TheVariants as card
 use Rattle.cards.specs.Asked.{card_on, card_panel}
 use Rattle.cards.proofs.Ways.{unsound_card, slotless_card, card_recounted}
-use Rattle.announcing.specs.declared.AnnounceAnswer.{AnnounceAnswer}
 use Rattle.announcing.specs.Asked.{announce_panel}
 use Rattle.announcing.proofs.Laws.{asked_unsound}
-use Rattle.vouched_packets.specs.declared.SplitAnswer.{SplitAnswer}
 use Rattle.vouched_packets.specs.Split.{split_panel}
 use Rattle.vouched_packets.proofs.Splitting.{split_unsound}
-use Rattle.readers.specs.declared.FinalAnswer.{FinalAnswer}
-use Rattle.readers.specs.declared.ArmedAnswer.{ArmedAnswer}
-use Rattle.readers.specs.declared.VotesAnswer.{VotesAnswer}
-use Rattle.readers.specs.declared.BlocksAnswer.{BlocksAnswer}
-use Rattle.readers.specs.declared.MarksAnswer.{MarksAnswer}
-use Rattle.readers.specs.declared.HeadAnswer.{HeadAnswer}
-use Rattle.readers.specs.declared.WeightsAnswer.{WeightsAnswer}
 use Rattle.readers.specs.Weighed.{weights_panel}
 use Rattle.readers.specs.Asked.{final_panel, armed_panel, votes_panel, blocks_panel, marks_panel, head_panel}
 use Rattle.readers.proofs.Ways.{head_unsound}
@@ -52,11 +41,17 @@ use Rattle.promises.proofs.Stands.{face_stands}
 use Rattle.promises.proofs.Vouched.{face_vouched, face_same_parents, face_vouched_packet}
 use Rattle.promises.proofs.Readers.{unsound_final, unsound_armed, unsound_votes, unsound_blocks, unsound_marks, unsound_weights, face_certificates}
 use Rattle.promises.proofs.Printed.{sends}
+use Rattle.readers.specs.declared.BlockWeights.{BlockWeights}
+use Rattle.rulebook.specs.declared.Cell.{Cell}
+use Rattle.readers.specs.declared.KeptBlocks.{KeptBlocks}
+use Rattle.readers.specs.declared.RecordHead.{RecordHead}
+use Rattle.readers.specs.declared.SlotMarks.{SlotMarks}
+use Rattle.rulebook.specs.declared.Tally.{Tally}
 
 -- ---- what is answered
 
 -- 17 before all else.
-unsound_shown : (ws : List ℕ) (v : Verdict) (values : List ℕ) → sound_words ws ≡ false → (shown (sound_first ws v) values).number ≡ 17
+unsound_shown : (ws : List ℕ) (v : Result ⊤ Refusal) (values : List ℕ) → sound_words ws ≡ false → (shown (sound_first ws v) values).number ≡ 17
 unfolding shown sound_first refuse_if verdict_number refusal_number
 unsound_shown ws v values e = rw e
 
@@ -69,15 +64,15 @@ card_shown ws s a e =
     (λ u. rw (e ∙ slotless_card ws s t u, t, u)))
     (λ t. rw (e ∙ unsound_card ws s t, t))
 
-card_refusal : (a : CardAnswer) → ¬ ((card_panel a).number ≡ 0) → (r : Refusal) × (a ≡ card.Refused r)
+card_refusal : (a : Result Tally Refusal) → ¬ ((card_panel a).number ≡ 0) → (r : Refusal) × (a ≡ Err r)
 unfolding card_panel
-card_refusal (card.Card t) h = absurd (h refl)
-card_refusal (card.Refused r) h = (r, refl)
+card_refusal (Ok t) h = absurd (h refl)
+card_refusal (Err r) h = (r, refl)
 
 pub face_card_refused : FaceCardRefused
 unfolding card_panel
 face_card_refused answer number values h ne =
-    let x = card_refusal answer (λ e. ne (h.numbered ∙ e)) in h.valued ∙ ap (λ (a : CardAnswer). (card_panel a).values) x.1
+    let x = card_refusal answer (λ e. ne (h.numbered ∙ e)) in h.valued ∙ ap (λ (a : Result Tally Refusal). (card_panel a).values) x.1
 
 -- The number of the question for a card is never 15.
 never_light : (ws : List ℕ) (s : ℕ) → eqb (card_panel (card_on ws s)).number 15 ≡ false
@@ -120,17 +115,17 @@ unsound_refused ws e =
           h.numbered
           ∙ ap (λ (p : Panel). p.number) (proof_shown ws buffer s b (proof_on ws (length buffer) s b).answer _ (record { answered = refl; bytes = refl }))
           ∙ unsound_shown ws _ _ e;
-      card = λ s number values h. h.numbered ∙ ap (λ (a : CardAnswer). (card_panel a).number) (unsound_card ws s e);
-      final = λ s number block h. h.numbered ∙ ap (λ (a : FinalAnswer). (final_panel a).number) (unsound_final ws s e);
-      armed = λ s number flag h. h.numbered ∙ ap (λ (a : ArmedAnswer). (armed_panel a).number) (unsound_armed ws s e);
-      announce = λ s b number may h. h.numbered ∙ ap (λ (a : AnnounceAnswer). (announce_panel a).number) (sym (asked_unsound ws s b e));
-      split = λ bytes number first h. h.numbered ∙ ap (λ (a : SplitAnswer). (split_panel a).number) (sym (split_unsound ws bytes e));
-      votes = λ s n number values h. h.numbered ∙ ap (λ (a : VotesAnswer). (votes_panel a).number) (unsound_votes ws s n e);
-      blocks = λ s number values h. h.numbered ∙ ap (λ (a : BlocksAnswer). (blocks_panel a).number) (unsound_blocks ws s e);
-      marks = λ s number values h. h.numbered ∙ ap (λ (a : MarksAnswer). (marks_panel a).number) (unsound_marks ws s e);
-      head = λ number values h. h.numbered ∙ ap (λ (a : HeadAnswer). (head_panel a).number) (head_unsound ws e);
+      card = λ s number values h. h.numbered ∙ ap (λ (a : Result Tally Refusal). (card_panel a).number) (unsound_card ws s e);
+      final = λ s number block h. h.numbered ∙ ap (λ (a : Result ℕ Refusal). (final_panel a).number) (unsound_final ws s e);
+      armed = λ s number flag h. h.numbered ∙ ap (λ (a : Result Bool Refusal). (armed_panel a).number) (unsound_armed ws s e);
+      announce = λ s b number may h. h.numbered ∙ ap (λ (a : Result Bool Refusal). (announce_panel a).number) (sym (asked_unsound ws s b e));
+      split = λ bytes number first h. h.numbered ∙ ap (λ (a : Result ℕ Refusal). (split_panel a).number) (sym (split_unsound ws bytes e));
+      votes = λ s n number values h. h.numbered ∙ ap (λ (a : Result Cell Refusal). (votes_panel a).number) (unsound_votes ws s n e);
+      blocks = λ s number values h. h.numbered ∙ ap (λ (a : Result KeptBlocks Refusal). (blocks_panel a).number) (unsound_blocks ws s e);
+      marks = λ s number values h. h.numbered ∙ ap (λ (a : Result SlotMarks Refusal). (marks_panel a).number) (unsound_marks ws s e);
+      head = λ number values h. h.numbered ∙ ap (λ (a : Result RecordHead Refusal). (head_panel a).number) (head_unsound ws e);
       kept = λ s list number beside left h. sided ((face_certificates ws s list number beside left h).bad e).0;
-      weights = λ s b number values h. h.numbered ∙ ap (λ (a : WeightsAnswer). (weights_panel a).number) (unsound_weights ws s b e);
+      weights = λ s b number values h. h.numbered ∙ ap (λ (a : Result BlockWeights Refusal). (weights_panel a).number) (unsound_weights ws s b e);
       first = λ two list number beside left h. sided ((face_differ ws two list number beside left h).first e).0;
       second = λ one list number beside left t h. sided ((face_differ one ws list number beside left h).second t e).0;
       stands = λ list number beside left h. sided ((face_stands ws list number beside left h).bad e).0;

@@ -1,4 +1,5 @@
 -- Certificates from other firms, at the face. Assumes nothing.
+use Rattle.std.specs.Prelude.{⊤, Result, Ok, Err}
 use mathlib.Core.Path.{◌≡◌, refl, sym, ap, ◌∙◌}
 use mathlib.Core.Bool.{Bool, true, false, not}
 use mathlib.Core.List.{List}
@@ -9,8 +10,6 @@ use lib.Dec.{eqb}
 use borrow.Author.Tests.{le-ltb, eq-eqb}
 use Rattle.rulebook.specs.declared.CertificateKind.{CertificateKind}
 use Rattle.rulebook.specs.declared.Refusal.TheVariants as refusal
-use Rattle.rulebook.specs.declared.Verdict.{Verdict}
-use Rattle.rulebook.specs.declared.Verdict.TheVariants.{Fine, Refused}
 use Rattle.rulebook.specs.Certificates.{Found}
 use Rattle.rulebook.specs.Certificates as found
 use Rattle.rulebook.specs.PaperNumbers.{Panel, kind_in, refusal_number, verdict_number}
@@ -37,11 +36,12 @@ use Rattle.promises.proofs.Numbered.{refusal_numbered}
 use Rattle.promises.proofs.Shown.{take_shown}
 use Rattle.promises.proofs.ShownChecks.{certificate_check_shown}
 use Rattle.promises.proofs.Cards.{unsound_refused}
+use Rattle.rulebook.specs.declared.Refusal.{Refusal}
 
 -- ---- the checker's refusals
 
 -- 0, 7 and 8 are all that is due to a certificate that was accepted.
-kept_number : (a b : Bool) (n : ℕ) → n ≡ verdict_number (refuse_if a refusal.AlreadyKept (refuse_if b refusal.OtherStands Fine)) → ¬ (n ≡ 0) → ¬ (n ≡ 7) → n ≡ 8
+kept_number : (a b : Bool) (n : ℕ) → n ≡ verdict_number (refuse_if a refusal.AlreadyKept (refuse_if b refusal.OtherStands (Ok tt))) → ¬ (n ≡ 0) → ¬ (n ≡ 7) → n ≡ 8
 unfolding refuse_if verdict_number refusal_number
 kept_number true b n e z s = absurd (s e)
 kept_number false true n e z s = e
@@ -56,10 +56,10 @@ found_number l (found.Whole c next) n e z s =
 found_number l found.Early n e z s = absurd (z e)
 found_number l found.Malformed n e z s = absurd (z e)
 
-as_checked : (l : Ledger) (x : Found) (v : Verdict) (n m : ℕ) → n ≡ verdict_number (else_then v (kept_judged l x)) → m ≡ verdict_number v → AsChecked n m
+as_checked : (l : Ledger) (x : Found) (v : Result ⊤ Refusal) (n m : ℕ) → n ≡ verdict_number (else_then v (kept_judged l x)) → m ≡ verdict_number v → AsChecked n m
 unfolding else_then verdict_number
-as_checked l x Fine n m e f = record { refused = λ ne. absurd (ne f); accepted = λ _ z s. found_number l x n e z s }
-as_checked l x (Refused r) n m e f =
+as_checked l x (Ok tt) n m e f = record { refused = λ ne. absurd (ne f); accepted = λ _ z s. found_number l x n e z s }
+as_checked l x (Err r) n m e f =
     record { refused = λ _. e ∙ sym f; accepted = λ z _ _. absurd (omega (arith, refusal_numbered r, f, z)) }
 
 take_passed : (ws out packet : List ℕ) → sound_words ws ≡ true → outbox_words ≤ length out

@@ -1,4 +1,5 @@
 -- Each table reads and writes the kinds of its family alone. Assumes nothing.
+use Rattle.std.specs.Prelude.{Ok, Err}
 use mathlib.Core.Path.{◌≡◌, refl, sym, ap, ◌∙◌, subst}
 use mathlib.Core.Bool.{Bool, true, false}
 use mathlib.Core.List.{List}
@@ -10,13 +11,7 @@ use borrow.Author.Tests.{le-ltb, lt-ltb}
 use Rattle.rulebook.specs.Certificates.{Certificate, Found}
 use Rattle.rulebook.specs.Certificates as found
 use Rattle.rulebook.specs.declared.Accepted.{Accepted}
-use Rattle.rulebook.specs.declared.CheckAnswer.{CheckAnswer}
-use Rattle.rulebook.specs.declared.CheckAnswer.TheVariants as check
 use Rattle.rulebook.specs.declared.Refusal.TheVariants as refusal
-use Rattle.rulebook.specs.declared.Verdict.{Verdict}
-use Rattle.rulebook.specs.declared.Verdict.TheVariants.{Fine, Refused}
-use Rattle.rulebook.specs.declared.WriteAnswer.{WriteAnswer}
-use Rattle.rulebook.specs.declared.WriteAnswer.TheVariants as write
 use Rattle.rulebook.specs.Tools.{part}
 use Rattle.rulebook.specs.Weights.{is_large, family, stakes_fit}
 use Rattle.rulebook.specs.PaperNumbers.{certificate_kind, kind_in, number_in, refusal_number, write_panel, check_number, check_values}
@@ -70,18 +65,18 @@ old_kinds_stay count h =
 -- ---- the checkers
 
 -- A certificate that is fine is of the table's family.
-fine_kind : (stakes : List ℕ) (c : Certificate) → judge stakes c ≡ Fine → is_other_kind (kind_in (length stakes) c.kind) ≡ false
+fine_kind : (stakes : List ℕ) (c : Certificate) → judge stakes c ≡ Ok tt → is_other_kind (kind_in (length stakes) c.kind) ≡ false
 unfolding judge judge_kind
 fine_kind stakes c j = (refuse_fine (is_other_kind (kind_in (length stakes) c.kind)) refusal.BadKind _ j).0
 
 -- The kind that is told is the packet's.
-told_kind : (stakes : List ℕ) (c : Certificate) (a : Accepted) → judge stakes c ≡ Fine → accepted_of stakes c ≡ a
-    → get_or (check_values (length stakes) (check.Accepted a)) 0 0 ≡ c.kind
+told_kind : (stakes : List ℕ) (c : Certificate) (a : Accepted) → judge stakes c ≡ Ok tt → accepted_of stakes c ≡ a
+    → get_or (check_values (length stakes) (Ok a)) 0 0 ≡ c.kind
 unfolding check_values accepted_of
 told_kind stakes c a j e = ap (λ (x : Accepted). number_in (length stakes) x.kind) (sym e) ∙ number_back (length stakes) c.kind (fine_kind stakes c j)
 
-read_own : (stakes packet values : List ℕ) (a : Accepted) (c : Certificate) (n : ℕ) → values ≡ check_values (length stakes) (check.Accepted a)
-    → certificate_at packet 0 ≡ found.Whole c n → judge stakes c ≡ Fine → accepted_of stakes c ≡ a → ReadOwn stakes packet values
+read_own : (stakes packet values : List ℕ) (a : Accepted) (c : Certificate) (n : ℕ) → values ≡ check_values (length stakes) (Ok a)
+    → certificate_at packet 0 ≡ found.Whole c n → judge stakes c ≡ Ok tt → accepted_of stakes c ≡ a → ReadOwn stakes packet values
 read_own stakes packet values a c n v r j e =
     record {
       first = c;
@@ -102,18 +97,18 @@ face_proof_own stakes packet values missing h =
     let x = check_accepted (check_proof stakes packet) (sym h.numbered) in
     go x.0 (h.valued ∙ ap (check_values (length stakes)) x.1) (accepted_proof stakes packet x.0 x.1)
   where
-    go : (a : Accepted) → values ≡ check_values (length stakes) (check.Accepted a) → Proven stakes packet a → ReadOwn stakes packet values
+    go : (a : Accepted) → values ≡ check_values (length stakes) (Ok a) → Proven stakes packet a → ReadOwn stakes packet values
     go a v (one c r j k e) = read_own stakes packet values a c (length packet) v r j e
     go a v (two c d n r j k r2 j2 k2 s e) = read_own stakes packet values a c n v r j e
 
 -- Another family's certificate is judged 4.
-other_judged : (stakes : List ℕ) (c : Certificate) → is_other_kind (kind_in (length stakes) c.kind) ≡ true → judge stakes c ≡ Refused refusal.BadKind
+other_judged : (stakes : List ℕ) (c : Certificate) → is_other_kind (kind_in (length stakes) c.kind) ≡ true → judge stakes c ≡ Err refusal.BadKind
 unfolding judge judge_kind refuse_if
 other_judged stakes c o = rw o
 
 module _ (stakes packet : List ℕ) (c : Certificate) (next : ℕ) (fit : stakes_fit stakes (length stakes) ≡ true) (r : certificate_at packet 0 ≡ found.Whole c next)
     (other : ¬ OfTable (length stakes) c.kind) where
-  j : judge stakes c ≡ Refused refusal.BadKind
+  j : judge stakes c ≡ Err refusal.BadKind
   j = other_judged stakes c (not_of_table (length stakes) c.kind other)
 
   certificate_4 : check_number (check_certificate stakes packet) ≡ 4

@@ -1,4 +1,5 @@
 -- No certificate is reached or refused that was not before, and the figure beside 15 is the least that would do. Assumes nothing.
+use Rattle.std.specs.Prelude.{⊤, Result, Ok, Err}
 use mathlib.Core.Path.{◌≡◌, refl, sym, ap, ◌∙◌, subst}
 use mathlib.Core.Bool.{Bool, true, false, not, ◌&&◌, ◌||◌}
 use mathlib.Core.List.{List}
@@ -10,13 +11,9 @@ use Rattle.rulebook.specs.declared.Accepted.{Accepted}
 use Rattle.rulebook.specs.Certificates.{Certificate, Found}
 use Rattle.rulebook.specs.declared.CertificateKind.{CertificateKind}
 use Rattle.rulebook.specs.declared.CertificateKind.TheVariants as certificate
-use Rattle.rulebook.specs.declared.CheckAnswer.{CheckAnswer}
-use Rattle.rulebook.specs.declared.CheckAnswer.TheVariants as check
 use Rattle.rulebook.specs.Certificates as found
 use Rattle.rulebook.specs.declared.Refusal.{Refusal}
 use Rattle.rulebook.specs.declared.Refusal.TheVariants as refusal
-use Rattle.rulebook.specs.declared.Verdict.{Verdict}
-use Rattle.rulebook.specs.declared.Verdict.TheVariants.{Fine, Refused}
 use Rattle.rulebook.specs.Tools.{choose, whenever}
 use Rattle.rulebook.specs.Weights.{reaches, total_to, slot_ok, stakes_fit}
 use Rattle.rulebook.specs.PaperNumbers.{kind_in, number_in, refusal_number, refusal_missing, verdict_number, check_number, check_missing}
@@ -46,7 +43,7 @@ reached_as_before l k s b =
 
 -- ---- certificates judged
 
-number_then_lem : (t : Bool) (r : Refusal) (v : Verdict) → verdict_number (refuse_if t r v) ≡ choose t (refusal_number r) (verdict_number v)
+number_then_lem : (t : Bool) (r : Refusal) (v : Result ⊤ Refusal) → verdict_number (refuse_if t r v) ≡ choose t (refusal_number r) (verdict_number v)
 unfolding refuse_if choose verdict_number
 number_then_lem true r v = refl
 number_then_lem false r v = refl
@@ -63,7 +60,7 @@ judged_as_before stakes c =
     (number_then_lem (block_misfits k c.block) refusal.BadBlock _
     ∙ ap (choose (block_misfits k c.block) 5)
     (number_then_lem (bad_signers size k c) refusal.BadSigners _
-    ∙ ap (choose (bad_signers size k c) 14) (number_then_lem _ _ Fine))))
+    ∙ ap (choose (bad_signers size k c) 14) (number_then_lem _ _ (Ok tt)))))
 
 -- ---- the figure of one certificate
 
@@ -125,7 +122,7 @@ unfolding Other refusal_number
 proof_other e = absurd (omega (arith, e))
 
 -- 15 was given by a later test.
-later : (t : Bool) (r q : Refusal) (v : Verdict) → Other r → refuse_if t r v ≡ Refused q → refusal_number q ≡ 15 → v ≡ Refused q
+later : (t : Bool) (r q : Refusal) (v : Result ⊤ Refusal) → Other r → refuse_if t r v ≡ Err q → refusal_number q ≡ 15 → v ≡ Err q
 unfolding refuse_if Other
 later true r q v ne e f = let g : r ≡ q = cc in absurd (ne (ap refusal_number g ∙ f))
 later false r q v ne e f = e
@@ -133,7 +130,7 @@ later false r q v ne e f = e
 -- What is told of a certificate that is refused with 15.
 weight_light : (stakes : List ℕ) (k : CertificateKind) (c : Certificate) (t : Bool) (q : Refusal)
     → reaches (fifths_of k) (total_to stakes (length stakes)) (signed_weight stakes c) ≡ t
-    → refuse_if (not t) (refusal.TooLight (record { 0 = lacking stakes k c })) Fine ≡ Refused q
+    → refuse_if (not t) (refusal.TooLight (record { 0 = lacking stakes k c })) (Ok tt) ≡ Err q
     → (1 ≤ refusal_missing q) × Least (fifths_of k) (total_to stakes (length stakes)) (signed_weight stakes c) (refusal_missing q)
 unfolding refuse_if refusal_missing lacking
 weight_light stakes k c true q r e = let z : ◌≡◌ {A = ℕ} 0 1 = cc in absurd (omega arith)
@@ -148,7 +145,7 @@ weight_light stakes k c false q r e =
       record { enough = enough; no_less = λ y h. short_fact f t (w + y) (missing_least f t w y h) },
     )
 
-judge_light : (stakes : List ℕ) (c : Certificate) (q : Refusal) → judge stakes c ≡ Refused q → refusal_number q ≡ 15 → ShortBy stakes c (refusal_missing q)
+judge_light : (stakes : List ℕ) (c : Certificate) (q : Refusal) → judge stakes c ≡ Err q → refusal_number q ≡ 15 → ShortBy stakes c (refusal_missing q)
 unfolding judge judge_kind judge_weight
 judge_light stakes c q e f =
     let k = kind_in (length stakes) c.kind in
@@ -165,40 +162,40 @@ light_read : (stakes : List ℕ) (x : Found) (q : Refusal) → one_of stakes x �
 unfolding one_of Other judged
 light_read stakes (found.Whole c n) q e f = (c, n, refl, judge_light stakes c q (go (judge stakes c) e) f)
   where
-    go : (v : Verdict) → judged v c n ≡ bad q → v ≡ Refused q
-    go Fine d = let z : ◌≡◌ {A = ℕ} 0 1 = cc in absurd (omega arith)
-    go (Refused r) d = let g : r ≡ q = cc in ap Refused g
+    go : (v : Result ⊤ Refusal) → judged v c n ≡ bad q → v ≡ Err q
+    go (Ok tt) d = let z : ◌≡◌ {A = ℕ} 0 1 = cc in absurd (omega arith)
+    go (Err r) d = let g : r ≡ q = cc in ap Err g
 light_read stakes found.Early q e f = let g : refusal.BadLength ≡ q = cc in absurd (length_other (ap refusal_number g ∙ f))
 light_read stakes found.Malformed q e f = let g : refusal.BadNumber ≡ q = cc in absurd (number_other (ap refusal_number g ∙ f))
 
 -- ---- a check's answer
 
 -- An answer of number 15 is a refusal that is given so.
-Refuses : CheckAnswer → Refusal → Type 0
-Refuses a q = (a ≡ check.Refused q) × (refusal_number q ≡ 15)
+Refuses : Result Accepted Refusal → Refusal → Type 0
+Refuses a q = (a ≡ Err q) × (refusal_number q ≡ 15)
 
-told_zero_lem : (a : CheckAnswer) → ¬ (check_number a ≡ 15) → check_missing a ≡ 0
+told_zero_lem : (a : Result Accepted Refusal) → ¬ (check_number a ≡ 15) → check_missing a ≡ 0
 unfolding check_number check_missing
-told_zero_lem (check.Accepted x) ne = refl
-told_zero_lem (check.Refused r) ne = no_figure r ne
+told_zero_lem (Ok x) ne = refl
+told_zero_lem (Err r) ne = no_figure r ne
 
-given_later : (t : Bool) (r : Refusal) (f : Unit {0} → CheckAnswer) → Other r → check_number (whenever t f (check.Refused r)) ≡ 15
-    → whenever t f (check.Refused r) ≡ f tt
+given_later : (t : Bool) (r : Refusal) (f : Unit {0} → Result Accepted Refusal) → Other r → check_number (whenever t f (Err r)) ≡ 15
+    → whenever t f (Err r) ≡ f tt
 unfolding whenever check_number Other
 given_later true r f ne e = refl
 given_later false r f ne e = absurd (ne e)
 
-accepted_never : {X : Type 0} (x : Accepted) → check_number (check.Accepted x) ≡ 15 → X
+accepted_never : {X : Type 0} (x : Accepted) → check_number (Ok x) ≡ 15 → X
 unfolding check_number
 accepted_never x e = absurd (omega (arith, e))
 
 ended_never : {X : Type 0} (stakes packet : List ℕ) (c : Certificate) (n : ℕ) → check_number (ended stakes packet c n) ≡ 15 → X
 unfolding ended
 ended_never stakes packet c n e =
-    let g = given_later (not (ltb n (length packet))) refusal.BadLength (λ _. check.Accepted (accepted_of stakes c)) length_other e in
+    let g = given_later (not (ltb n (length packet))) refusal.BadLength (λ _. Ok (accepted_of stakes c)) length_other e in
     accepted_never (accepted_of stakes c) (ap check_number (sym g) ∙ e)
 
-refused_never : {X : Type 0} (r : Refusal) → Other r → check_number (check.Refused r) ≡ 15 → X
+refused_never : {X : Type 0} (r : Refusal) → Other r → check_number (Err r) ≡ 15 → X
 unfolding check_number Other
 refused_never r ne e = absurd (ne e)
 
@@ -228,9 +225,9 @@ first_light stakes packet certificate.Final c n e = refused_never refusal.NotAPr
 first_light stakes packet certificate.Other c n e = refused_never refusal.NotAProof proof_other e
 
 -- The figure of an answer that refuses.
-figure_is : (stakes : List ℕ) (c : Certificate) (a : CheckAnswer) (q : Refusal) → Refuses a q → ShortBy stakes c (refusal_missing q) → ShortBy stakes c (check_missing a)
+figure_is : (stakes : List ℕ) (c : Certificate) (a : Result Accepted Refusal) (q : Refusal) → Refuses a q → ShortBy stakes c (refusal_missing q) → ShortBy stakes c (check_missing a)
 unfolding Refuses check_missing
-figure_is stakes c a q r l = subst (λ (x : CheckAnswer). ShortBy stakes c (check_missing x)) (sym r.0) l
+figure_is stakes c a q r l = subst (λ (x : Result Accepted Refusal). ShortBy stakes c (check_missing x)) (sym r.0) l
 
 -- ---- one certificate
 
@@ -242,27 +239,27 @@ certificate_light stakes packet e =
     let s = single_light stakes packet (one_at stakes packet 0) (ap check_number (sym g) ∙ e) in
     let r = light_read stakes (certificate_at packet 0) s.0 s.1 s.2.1 in
     let l = figure_is stakes r.0 (single_of stakes packet (one_at stakes packet 0)) s.0 s.2 r.3 in
-    (r.0, first r.1 r.2, subst (λ (a : CheckAnswer). ShortBy stakes r.0 (check_missing a)) (sym g) l)
+    (r.0, first r.1 r.2, subst (λ (a : Result Accepted Refusal). ShortBy stakes r.0 (check_missing a)) (sym g) l)
 
 pub certificate_figure : CertificateFigure
 certificate_figure stakes packet a e =
-    subst (λ (x : CheckAnswer). FigureTold stakes (FirstOf packet) (check_number x) (check_missing x)) (sym e)
+    subst (λ (x : Result Accepted Refusal). FigureTold stakes (FirstOf packet) (check_number x) (check_missing x)) (sym e)
     (record { otherwise = told_zero_lem (check_certificate stakes packet); too_light = certificate_light stakes packet })
 
 -- ---- a proof
 
 -- A certificate that is good passed its tests and was read.
-good_read : (stakes : List ℕ) (x : Found) (c : Certificate) (n : ℕ) → one_of stakes x ≡ good c n → (x ≡ found.Whole c n) × (judge stakes c ≡ Fine)
+good_read : (stakes : List ℕ) (x : Found) (c : Certificate) (n : ℕ) → one_of stakes x ≡ good c n → (x ≡ found.Whole c n) × (judge stakes c ≡ Ok tt)
 unfolding one_of judged
 good_read stakes (found.Whole d m) c n e = go (judge stakes d) refl e
   where
-    go : (v : Verdict) → judge stakes d ≡ v → judged v d m ≡ good c n → (found.Whole d m ≡ found.Whole c n) × (judge stakes c ≡ Fine)
-    go Fine j q = let p : d ≡ c = cc in let r : m ≡ n = cc in ((λ i. found.Whole (p i) (r i)), subst (λ (x : Certificate). judge stakes x ≡ Fine) p j)
-    go (Refused r) j q = let z : ◌≡◌ {A = ℕ} 0 1 = cc in absurd (omega arith)
+    go : (v : Result ⊤ Refusal) → judge stakes d ≡ v → judged v d m ≡ good c n → (found.Whole d m ≡ found.Whole c n) × (judge stakes c ≡ Ok tt)
+    go (Ok tt) j q = let p : d ≡ c = cc in let r : m ≡ n = cc in ((λ i. found.Whole (p i) (r i)), subst (λ (x : Certificate). judge stakes x ≡ Ok tt) p j)
+    go (Err r) j q = let z : ◌≡◌ {A = ℕ} 0 1 = cc in absurd (omega arith)
 good_read stakes found.Early c n e = let z : ◌≡◌ {A = ℕ} 0 1 = cc in absurd (omega arith)
 good_read stakes found.Malformed c n e = let z : ◌≡◌ {A = ℕ} 0 1 = cc in absurd (omega arith)
 
-refused_number : (q : Refusal) → check_number (check.Refused q) ≡ 15 → refusal_number q ≡ 15
+refused_number : (q : Refusal) → check_number (Err q) ≡ 15 → refusal_number q ≡ 15
 unfolding check_number
 refused_number q e = e
 
@@ -277,7 +274,7 @@ read_light stakes packet (good d n) g e =
     (r.0, the_second d n r.1 h.0 h.1 r.2, figure_is stakes r.0 (first_in stakes packet (kind_in (length stakes) d.kind) d n) s.0 s.2 r.3)
 read_light stakes packet (bad q) g e =
     let r = light_read stakes (certificate_at packet 0) q g (refused_number q e) in
-    (r.0, the_first (first r.1 r.2), figure_is stakes r.0 (check.Refused q) q (refl, refused_number q e) r.3)
+    (r.0, the_first (first r.1 r.2), figure_is stakes r.0 (Err q) q (refl, refused_number q e) r.3)
 
 proof_light : (stakes packet : List ℕ) → check_number (check_proof stakes packet) ≡ 15
     → (c : Certificate) × OneOf stakes packet c × ShortBy stakes c (check_missing (check_proof stakes packet))
@@ -285,11 +282,11 @@ unfolding check_proof
 proof_light stakes packet e =
     let g = given_later (stakes_fit stakes (length stakes)) refusal.BadSizes (λ _. proof_of stakes packet (one_at stakes packet 0)) sizes_other e in
     let s = read_light stakes packet (one_at stakes packet 0) refl (ap check_number (sym g) ∙ e) in
-    (s.0, s.1, subst (λ (a : CheckAnswer). ShortBy stakes s.0 (check_missing a)) (sym g) s.2)
+    (s.0, s.1, subst (λ (a : Result Accepted Refusal). ShortBy stakes s.0 (check_missing a)) (sym g) s.2)
 
 pub proof_figure : ProofFigure
 proof_figure stakes packet a e =
-    subst (λ (x : CheckAnswer). FigureTold stakes (OneOf stakes packet) (check_number x) (check_missing x)) (sym e)
+    subst (λ (x : Result Accepted Refusal). FigureTold stakes (OneOf stakes packet) (check_number x) (check_missing x)) (sym e)
     (record { otherwise = told_zero_lem (check_proof stakes packet); too_light = proof_light stakes packet })
 
 -- ---- the same at the face

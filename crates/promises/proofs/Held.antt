@@ -1,4 +1,5 @@
 -- What is asked for is written exactly when it is held. Assumes nothing.
+use Rattle.std.specs.Prelude.{⊤, Result, Ok, Err}
 use mathlib.Core.Path.{◌≡◌, refl, sym, ap, ◌∙◌}
 use mathlib.Core.Bool.{Bool, true, false, not}
 use mathlib.Core.List.{List}
@@ -9,10 +10,6 @@ use borrow.Author.Tests.{eq-eqb, ltb-false, not-true, not-false}
 use Rattle.rulebook.specs.declared.CertificateKind.{CertificateKind}
 use Rattle.rulebook.specs.declared.Refusal.{Refusal}
 use Rattle.rulebook.specs.declared.Refusal.TheVariants as refusal
-use Rattle.rulebook.specs.declared.Verdict.{Verdict}
-use Rattle.rulebook.specs.declared.Verdict.TheVariants.{Fine, Refused}
-use Rattle.rulebook.specs.declared.WriteAnswer.{WriteAnswer}
-use Rattle.rulebook.specs.declared.WriteAnswer.TheVariants as write
 use Rattle.rulebook.specs.Weights.{slot_ok}
 use Rattle.rulebook.specs.Ledger.{Ledger, none}
 use Rattle.rulebook.specs.Pool.{held}
@@ -29,40 +26,40 @@ use Rattle.promises.specs.Exactly.{CertificateAsked, ProofAsked, WrittenExactly,
 
 -- ---- a verdict and its answer
 
-fine_written : (v : Verdict) (bytes : List ℕ) → Fine ≡ v → (wrote_on v bytes).answer ≡ write.Written (length bytes)
+fine_written : (v : Result ⊤ Refusal) (bytes : List ℕ) → Ok tt ≡ v → (wrote_on v bytes).answer ≡ Ok (length bytes)
 unfolding wrote_on
 fine_written v bytes e = rw (← e)
 
-held_not : (v : Verdict) (bytes : List ℕ) → Refused refusal.NotHeld ≡ v → (wrote_on v bytes).answer ≡ write.Refused refusal.NotHeld
+held_not : (v : Result ⊤ Refusal) (bytes : List ℕ) → Err refusal.NotHeld ≡ v → (wrote_on v bytes).answer ≡ Err refusal.NotHeld
 unfolding wrote_on
 held_not v bytes e = rw (← e)
 
-written_fine : (v : Verdict) (bytes : List ℕ) (n : ℕ) → (wrote_on v bytes).answer ≡ write.Written n → v ≡ Fine
+written_fine : (v : Result ⊤ Refusal) (bytes : List ℕ) (n : ℕ) → (wrote_on v bytes).answer ≡ Ok n → v ≡ Ok tt
 unfolding wrote_on
-written_fine Fine bytes n e = refl
-written_fine (Refused r) bytes n e = let z : ◌≡◌ {A = ℕ} 0 1 = cc in absurd (omega arith)
+written_fine (Ok tt) bytes n e = refl
+written_fine (Err r) bytes n e = let z : ◌≡◌ {A = ℕ} 0 1 = cc in absurd (omega arith)
 
-not_held : (v : Verdict) (bytes : List ℕ) → (wrote_on v bytes).answer ≡ write.Refused refusal.NotHeld → v ≡ Refused refusal.NotHeld
+not_held : (v : Result ⊤ Refusal) (bytes : List ℕ) → (wrote_on v bytes).answer ≡ Err refusal.NotHeld → v ≡ Err refusal.NotHeld
 unfolding wrote_on
-not_held Fine bytes e = let z : ◌≡◌ {A = ℕ} 0 1 = cc in absurd (omega arith)
-not_held (Refused r) bytes e = cc
+not_held (Ok tt) bytes e = let z : ◌≡◌ {A = ℕ} 0 1 = cc in absurd (omega arith)
+not_held (Err r) bytes e = cc
 
 -- 17 is neither.
-unsound_written : {X : Type 0} (n : ℕ) → unsound.answer ≡ write.Written n → X
+unsound_written : {X : Type 0} (n : ℕ) → unsound.answer ≡ Ok n → X
 unfolding unsound
 unsound_written n e = let z : ◌≡◌ {A = ℕ} 0 1 = cc in absurd (omega arith)
 
-unsound_held : {X : Type 0} → unsound.answer ≡ write.Refused refusal.NotHeld → X
+unsound_held : {X : Type 0} → unsound.answer ≡ Err refusal.NotHeld → X
 unfolding unsound
 unsound_held e = let z : ◌≡◌ {A = ℕ} 0 1 = cc in absurd (omega arith)
 
 -- 18 was given by the last test, so the others passed.
-later : (t : Bool) (r : Refusal) (v : Verdict) → ¬ (r ≡ refusal.NotHeld) → refuse_if t r v ≡ Refused refusal.NotHeld → (t ≡ false) × (v ≡ Refused refusal.NotHeld)
+later : (t : Bool) (r : Refusal) (v : Result ⊤ Refusal) → ¬ (r ≡ refusal.NotHeld) → refuse_if t r v ≡ Err refusal.NotHeld → (t ≡ false) × (v ≡ Err refusal.NotHeld)
 unfolding refuse_if
 later true r v ne e = let q : r ≡ refusal.NotHeld = cc in absurd (ne q)
 later false r v ne e = (refl, e)
 
-last : (t : Bool) → refuse_if t refusal.NotHeld Fine ≡ Refused refusal.NotHeld → t ≡ true
+last : (t : Bool) → refuse_if t refusal.NotHeld (Ok tt) ≡ Err refusal.NotHeld → t ≡ true
 unfolding refuse_if
 last true e = refl
 last false e = let z : ◌≡◌ {A = ℕ} 0 1 = cc in absurd (omega arith)
@@ -82,11 +79,11 @@ other_block e = let z : ◌≡◌ {A = ℕ} 0 1 = cc in absurd (omega arith)
 -- ---- either writer: 17, then a verdict that is fine exactly when the question fits and what is asked for is there, and 18 exactly when
 -- the question fits and it is not
 
-module _ (ws bytes : List ℕ) (w : Wrote) (v : Verdict) (fits : Type 0) (there : Bool) (on-sound : sound_words ws ≡ true → w ≡ wrote_on v bytes)
-    (on_unsound : sound_words ws ≡ false → w ≡ unsound) (sound : fits → sound_words ws ≡ true) (passed : fits → there ≡ true → Fine ≡ v)
-    (fine : sound_words ws ≡ true → v ≡ Fine → fits × (there ≡ true)) (refused : fits → there ≡ false → Refused refusal.NotHeld ≡ v)
-    (absent : sound_words ws ≡ true → v ≡ Refused refusal.NotHeld → fits × (there ≡ false)) where
-  exactly : (answer : WriteAnswer) → answer ≡ w.answer → WrittenExactly fits there answer
+module _ (ws bytes : List ℕ) (w : Wrote) (v : Result ⊤ Refusal) (fits : Type 0) (there : Bool) (on-sound : sound_words ws ≡ true → w ≡ wrote_on v bytes)
+    (on_unsound : sound_words ws ≡ false → w ≡ unsound) (sound : fits → sound_words ws ≡ true) (passed : fits → there ≡ true → Ok tt ≡ v)
+    (fine : sound_words ws ≡ true → v ≡ Ok tt → fits × (there ≡ true)) (refused : fits → there ≡ false → Err refusal.NotHeld ≡ v)
+    (absent : sound_words ws ≡ true → v ≡ Err refusal.NotHeld → fits × (there ≡ false)) where
+  exactly : (answer : Result ℕ Refusal) → answer ≡ w.answer → WrittenExactly fits there answer
   exactly answer h =
       let says : sound_words ws ≡ true → answer ≡ (wrote_on v bytes).answer = λ e. h ∙ ap (λ (x : Wrote). x.answer) (on-sound e) in
       let says_17 : sound_words ws ≡ false → answer ≡ unsound.answer = λ e. h ∙ ap (λ (x : Wrote). x.answer) (on_unsound e) in
@@ -102,12 +99,12 @@ module _ (ws bytes : List ℕ) (w : Wrote) (v : Verdict) (fits : Type 0) (there 
 -- ---- a certificate
 
 module _ (ws buffer : List ℕ) (k : CertificateKind) (s b : ℕ) (so : sound_words ws ≡ true) where
-  certificate_there : certificate_verdict (ledger_of ws) (length buffer) k s b ≡ Fine → CertificateAsked ws buffer k s b × (held (ledger_of ws) k s b ≡ true)
+  certificate_there : certificate_verdict (ledger_of ws) (length buffer) k s b ≡ Ok tt → CertificateAsked ws buffer k s b × (held (ledger_of ws) k s b ≡ true)
   certificate_there e =
       let f = certificate_fine (ledger_of ws) (length buffer) k s b e in
       (record { sound = so; room = f.room; kind = f.kind; slot = f.slot; block = f.block }, f.there)
 
-  certificate_absent : certificate_verdict (ledger_of ws) (length buffer) k s b ≡ Refused refusal.NotHeld
+  certificate_absent : certificate_verdict (ledger_of ws) (length buffer) k s b ≡ Err refusal.NotHeld
       → CertificateAsked ws buffer k s b × (held (ledger_of ws) k s b ≡ false)
   unfolding certificate_verdict
   certificate_absent e =
@@ -139,12 +136,12 @@ certificate_exactly ws buffer kind s b answer after h =
 -- ---- a proof
 
 module _ (ws buffer : List ℕ) (s b : ℕ) (so : sound_words ws ≡ true) where
-  proof_there : proof_verdict (ledger_of ws) (length buffer) s b ≡ Fine → ProofAsked ws buffer s b × (is_final (ledger_of ws) s b ≡ true)
+  proof_there : proof_verdict (ledger_of ws) (length buffer) s b ≡ Ok tt → ProofAsked ws buffer s b × (is_final (ledger_of ws) s b ≡ true)
   proof_there e =
       let f = proof_fine (ledger_of ws) (length buffer) s b e in
       (record { sound = so; room = f.room; slot = f.slot; block = f.block }, f.final)
 
-  proof_absent : proof_verdict (ledger_of ws) (length buffer) s b ≡ Refused refusal.NotHeld → ProofAsked ws buffer s b × (is_final (ledger_of ws) s b ≡ false)
+  proof_absent : proof_verdict (ledger_of ws) (length buffer) s b ≡ Err refusal.NotHeld → ProofAsked ws buffer s b × (is_final (ledger_of ws) s b ≡ false)
   unfolding proof_verdict
   proof_absent e =
       let p = later _ _ _ other_room e in

@@ -1,47 +1,39 @@
 -- What a number on the panel says of the answer. Assumes nothing.
+use Rattle.std.specs.Prelude.{⊤, Result, Ok, Err}
 use mathlib.Core.Path.{◌≡◌, refl}
 use Prim.Native.Nat.{ℕ, ◌≤◌}
 use native.Mathlib.Omega.{arith}
 use Rattle.rulebook.specs.declared.Accepted.{Accepted}
-use Rattle.rulebook.specs.declared.CheckAnswer.{CheckAnswer}
-use Rattle.rulebook.specs.declared.CheckAnswer.TheVariants as check
-use Rattle.rulebook.specs.declared.ReadAnswer.{ReadAnswer}
-use Rattle.rulebook.specs.declared.ReadAnswer.TheVariants as read
 use Rattle.rulebook.specs.declared.Refusal.{Refusal}
 use Rattle.rulebook.specs.declared.Refusal.TheVariants as refusal
-use Rattle.rulebook.specs.declared.StartAnswer.{StartAnswer}
-use Rattle.rulebook.specs.declared.StartAnswer.TheVariants as start
-use Rattle.rulebook.specs.declared.StepAnswer.{StepAnswer}
-use Rattle.rulebook.specs.declared.StepAnswer.TheVariants as step
-use Rattle.rulebook.specs.declared.WriteAnswer.{WriteAnswer}
-use Rattle.rulebook.specs.declared.WriteAnswer.TheVariants as write
 use Rattle.rulebook.specs.PaperNumbers.{refusal_number, start_panel, step_panel, write_panel, read_panel, check_number}
+use Rattle.rulebook.specs.declared.Vote.{Vote}
 
 -- A number that is not 0 is a refusal's.
-pub start_refusal : (a : StartAnswer) → ¬ ((start_panel a).number ≡ 0) → (r : Refusal) × (a ≡ start.Refused r)
+pub start_refusal : (a : Result ⊤ Refusal) → ¬ ((start_panel a).number ≡ 0) → (r : Refusal) × (a ≡ Err r)
 unfolding start_panel
-start_refusal start.Started h = absurd (h refl)
-start_refusal (start.Refused r) h = (r, refl)
+start_refusal (Ok tt) h = absurd (h refl)
+start_refusal (Err r) h = (r, refl)
 
-pub step_refusal : (a : StepAnswer) → ¬ ((step_panel a).number ≡ 0) → (r : Refusal) × (a ≡ step.Refused r)
+pub step_refusal : (a : Result ℕ Refusal) → ¬ ((step_panel a).number ≡ 0) → (r : Refusal) × (a ≡ Err r)
 unfolding step_panel
-step_refusal (step.Done n) h = absurd (h refl)
-step_refusal (step.Refused r) h = (r, refl)
+step_refusal (Ok n) h = absurd (h refl)
+step_refusal (Err r) h = (r, refl)
 
-pub write_refusal : (a : WriteAnswer) → ¬ ((write_panel a).number ≡ 0) → (r : Refusal) × (a ≡ write.Refused r)
+pub write_refusal : (a : Result ℕ Refusal) → ¬ ((write_panel a).number ≡ 0) → (r : Refusal) × (a ≡ Err r)
 unfolding write_panel
-write_refusal (write.Written n) h = absurd (h refl)
-write_refusal (write.Refused r) h = (r, refl)
+write_refusal (Ok n) h = absurd (h refl)
+write_refusal (Err r) h = (r, refl)
 
-pub read_refusal : (a : ReadAnswer) → ¬ ((read_panel a).number ≡ 0) → (r : Refusal) × (a ≡ read.Refused r)
+pub read_refusal : (a : Result Vote Refusal) → ¬ ((read_panel a).number ≡ 0) → (r : Refusal) × (a ≡ Err r)
 unfolding read_panel
-read_refusal (read.Read v) h = absurd (h refl)
-read_refusal (read.Refused r) h = (r, refl)
+read_refusal (Ok v) h = absurd (h refl)
+read_refusal (Err r) h = (r, refl)
 
-pub check_refusal : (a : CheckAnswer) → ¬ (check_number a ≡ 0) → (r : Refusal) × (a ≡ check.Refused r)
+pub check_refusal : (a : Result Accepted Refusal) → ¬ (check_number a ≡ 0) → (r : Refusal) × (a ≡ Err r)
 unfolding check_number
-check_refusal (check.Accepted a) h = absurd (h refl)
-check_refusal (check.Refused r) h = (r, refl)
+check_refusal (Ok a) h = absurd (h refl)
+check_refusal (Err r) h = (r, refl)
 
 -- A refusal's number is not 0, so 0 is an acceptance.
 pub refusal_numbered : (r : Refusal) → 1 ≤ refusal_number r
@@ -65,17 +57,17 @@ refusal_numbered refusal.NotAProof = omega arith
 refusal_numbered refusal.BadRecord = omega arith
 refusal_numbered refusal.NotHeld = omega arith
 
-pub start_done : (a : StartAnswer) → (start_panel a).number ≡ 0 → start.Started ≡ a
+pub start_done : (a : Result ⊤ Refusal) → (start_panel a).number ≡ 0 → Ok tt ≡ a
 unfolding start_panel
-start_done start.Started e = refl
-start_done (start.Refused r) e = absurd (omega (arith, refusal_numbered r))
+start_done (Ok tt) e = refl
+start_done (Err r) e = absurd (omega (arith, refusal_numbered r))
 
-pub check_accepted : (a : CheckAnswer) → check_number a ≡ 0 → (x : Accepted) × (a ≡ check.Accepted x)
+pub check_accepted : (a : Result Accepted Refusal) → check_number a ≡ 0 → (x : Accepted) × (a ≡ Ok x)
 unfolding check_number
-check_accepted (check.Accepted x) e = (x, refl)
-check_accepted (check.Refused r) e = absurd (omega (arith, refusal_numbered r))
+check_accepted (Ok x) e = (x, refl)
+check_accepted (Err r) e = absurd (omega (arith, refusal_numbered r))
 
-pub write_done : (a : WriteAnswer) → (write_panel a).number ≡ 0 → (n : ℕ) × (a ≡ write.Written n)
+pub write_done : (a : Result ℕ Refusal) → (write_panel a).number ≡ 0 → (n : ℕ) × (a ≡ Ok n)
 unfolding write_panel
-write_done (write.Written n) e = (n, refl)
-write_done (write.Refused r) e = absurd (omega (arith, refusal_numbered r))
+write_done (Ok n) e = (n, refl)
+write_done (Err r) e = absurd (omega (arith, refusal_numbered r))

@@ -1,4 +1,5 @@
 -- Proofs in pieces, in the paper's numbers and at the face. Assumes nothing.
+use Rattle.std.specs.Prelude.{⊤, Result, Ok, Err}
 use mathlib.Core.Path.{◌≡◌, refl, sym, ap, ap₂, ◌∙◌}
 use mathlib.Core.Bool.{Bool, true, false}
 use mathlib.Core.List.{List, [], ◌∷◌, ◌++◌, map, append_assoc, append-nil}
@@ -12,12 +13,8 @@ use Rattle.rulebook.specs.Certificates.{Certificate, Found}
 use Rattle.rulebook.specs.Certificates as found
 use Rattle.rulebook.specs.declared.CertificateKind.{CertificateKind}
 use Rattle.rulebook.specs.declared.CertificateKind.TheVariants as certificate
-use Rattle.rulebook.specs.declared.CheckAnswer.{CheckAnswer}
-use Rattle.rulebook.specs.declared.CheckAnswer.TheVariants as check
 use Rattle.rulebook.specs.declared.Refusal.{Refusal}
 use Rattle.rulebook.specs.declared.Refusal.TheVariants as refusal
-use Rattle.rulebook.specs.declared.Verdict.{Verdict}
-use Rattle.rulebook.specs.declared.Verdict.TheVariants.{Fine, Refused}
 use Rattle.rulebook.specs.PaperNumbers.{Panel, verdict_number, check_number, check_values, check_missing, check_panel, refusal_number}
 use Rattle.rulebook.specs.Weights.{stakes_fit}
 use Rattle.rulebook.specs.Ledger.{none}
@@ -25,8 +22,6 @@ use Rattle.rulebook.specs.Inputs.{refuse_if}
 use Rattle.rulebook.specs.Packets.{certificate_at}
 use Rattle.rulebook.specs.Checker.{judge_weight, judge_kind, judge, check_proof}
 use Rattle.rule_laws.proofs.ToolLaws.{given_on, by_test}
-use Rattle.pieces.specs.declared.PieceAnswer.{PieceAnswer}
-use Rattle.pieces.specs.declared.PieceAnswer.TheVariants as answer
 use Rattle.pieces.specs.Pieces.{Taken, nothing, since, after_piece, piece_answer, end_answer, piece_panel, Asked, piece, end, after_call, after_calls, Piece, calls, packet}
 use Rattle.pieces.specs.State.{mark, nodes, table, front, is_ready, is_whole, piece_leaves, end_leaves, PieceOf, EndOf, words_of, bytes_of}
 use Rattle.pieces.specs.Promises.{zero_words, zero_bytes}
@@ -39,59 +34,60 @@ use Rattle.promises.specs.Panels.{beside_it, shown, else_then, whole_then, nothi
 use Rattle.promises.specs.Pieces.{piece_judged, PieceShown, end_judged, EndShown, FacePieceRefused, EndLeaves, FaceEndRefused, Reply, FaceMeets, as_piece, as_end, FaceCalls, no_more, called, check_reply, count_in, reply_to, replies_to, FaceCallsAnswer, more, FaceCutsAnywhere}
 use Rattle.promises.proofs.ShownChecks.{refusal_shown, proof_check_shown}
 use Rattle.promises.proofs.Refused.{face_check_refused}
+use Rattle.rulebook.specs.declared.Accepted.{Accepted}
 
 -- ---- a piece's number
 
 module _ (ws bs stakes : List ℕ) where
-  unready_judged : is_ready ws bs ≡ false → piece_judged ws bs stakes ≡ Refused refusal.BadRecord
+  unready_judged : is_ready ws bs ≡ false → piece_judged ws bs stakes ≡ Err refusal.BadRecord
   unfolding piece_judged refuse_if
   unready_judged e = rw e refl
 
-  unfit_judged : is_ready ws bs ≡ true → none (mark ws) ≡ true → stakes_fit stakes (length stakes) ≡ false → piece_judged ws bs stakes ≡ Refused refusal.BadSizes
+  unfit_judged : is_ready ws bs ≡ true → none (mark ws) ≡ true → stakes_fit stakes (length stakes) ≡ false → piece_judged ws bs stakes ≡ Err refusal.BadSizes
   unfolding piece_judged refuse_if
   unfit_judged e t f = rw (e, t, f) refl
 
-  first_judged : is_ready ws bs ≡ true → none (mark ws) ≡ true → stakes_fit stakes (length stakes) ≡ true → piece_judged ws bs stakes ≡ Fine
+  first_judged : is_ready ws bs ≡ true → none (mark ws) ≡ true → stakes_fit stakes (length stakes) ≡ true → piece_judged ws bs stakes ≡ Ok tt
   unfolding piece_judged refuse_if
   first_judged e t f = rw (e, t, f) refl
 
-  later_judged : is_ready ws bs ≡ true → none (mark ws) ≡ false → piece_judged ws bs stakes ≡ Fine
+  later_judged : is_ready ws bs ≡ true → none (mark ws) ≡ false → piece_judged ws bs stakes ≡ Ok tt
   unfolding piece_judged refuse_if
   later_judged e t = rw (e, t) refl
 
 -- What a verdict shows of the answer that it gives.
-more_panel : piece_panel answer.More ≡ shown Fine []
+more_panel : piece_panel (Ok tt) ≡ shown (Ok tt) []
 unfolding piece_panel shown beside_it verdict_number
 more_panel = refl
 
-refused_panel : (r : Refusal) → piece_panel (answer.Refused r) ≡ shown (Refused r) []
+refused_panel : (r : Refusal) → piece_panel (Err r) ≡ shown (Err r) []
 unfolding piece_panel shown beside_it verdict_number
 refused_panel r = refl
 
-module _ (ws bs stakes bytes : List ℕ) (r : PieceAnswer) (ws' bs' : List ℕ) (h : PieceOf ws bs stakes bytes r ws' bs') where
-  piece_way : {left kept : List ℕ} (x : PieceAnswer) (v : Verdict) → PieceOf ws bs stakes bytes x left kept → piece_panel x ≡ shown v [] → piece_judged ws bs stakes ≡ v
+module _ (ws bs stakes bytes : List ℕ) (r : Result ⊤ Refusal) (ws' bs' : List ℕ) (h : PieceOf ws bs stakes bytes r ws' bs') where
+  piece_way : {left kept : List ℕ} (x : Result ⊤ Refusal) (v : Result ⊤ Refusal) → PieceOf ws bs stakes bytes x left kept → piece_panel x ≡ shown v [] → piece_judged ws bs stakes ≡ v
       → piece_panel r ≡ shown (piece_judged ws bs stakes) []
   piece_way {left} {kept} x v m p j =
-      ap piece_panel (piece_one ws bs stakes bytes r x ws' left bs' kept h m).0 ∙ p ∙ ap (λ (y : Verdict). shown y []) (sym j)
+      ap piece_panel (piece_one ws bs stakes bytes r x ws' left bs' kept h m).0 ∙ p ∙ ap (λ (y : Result ⊤ Refusal). shown y []) (sym j)
 
 pub piece_shown : PieceShown
 piece_shown ws bs stakes bytes r ws' bs' h =
     by_test (is_ready ws bs)
     (λ e. by_test (eqb (mark ws) 0)
     (λ t. by_test (stakes_fit stakes (length stakes))
-    (λ f. piece_way ws bs stakes bytes r ws' bs' h answer.More Fine (piece_first ws bs stakes bytes e (eqb-true (mark ws) 0 t) f refl (record { words = refl; front = refl })) more_panel (first_judged ws bs stakes e t f))
-    (λ f. piece_way ws bs stakes bytes r ws' bs' h (answer.Refused refusal.BadSizes) (Refused refusal.BadSizes) (piece_unfit ws bs stakes bytes e (eqb-true (mark ws) 0 t) f) (refused_panel refusal.BadSizes) (unfit_judged ws bs stakes e t f)))
-    (λ t. piece_way ws bs stakes bytes r ws' bs' h answer.More Fine (piece_more ws bs stakes bytes e (eqb-false (mark ws) 0 t) (record { words = refl; front = refl })) more_panel (later_judged ws bs stakes e t)))
-    (λ e. piece_way ws bs stakes bytes r ws' bs' h (answer.Refused refusal.BadRecord) (Refused refusal.BadRecord) (piece_unready ws bs stakes bytes e) (refused_panel refusal.BadRecord) (unready_judged ws bs stakes e))
+    (λ f. piece_way ws bs stakes bytes r ws' bs' h (Ok tt) (Ok tt) (piece_first ws bs stakes bytes e (eqb-true (mark ws) 0 t) f refl (record { words = refl; front = refl })) more_panel (first_judged ws bs stakes e t f))
+    (λ f. piece_way ws bs stakes bytes r ws' bs' h (Err refusal.BadSizes) (Err refusal.BadSizes) (piece_unfit ws bs stakes bytes e (eqb-true (mark ws) 0 t) f) (refused_panel refusal.BadSizes) (unfit_judged ws bs stakes e t f)))
+    (λ t. piece_way ws bs stakes bytes r ws' bs' h (Ok tt) (Ok tt) (piece_more ws bs stakes bytes e (eqb-false (mark ws) 0 t) (record { words = refl; front = refl })) more_panel (later_judged ws bs stakes e t)))
+    (λ e. piece_way ws bs stakes bytes r ws' bs' h (Err refusal.BadRecord) (Err refusal.BadRecord) (piece_unready ws bs stakes bytes e) (refused_panel refusal.BadRecord) (unready_judged ws bs stakes e))
 
 -- ---- the end's number and values
 
 module _ (ws bs : List ℕ) where
-  broken_judged : is_whole ws bs ≡ false → end_judged ws bs ≡ Refused refusal.BadRecord
+  broken_judged : is_whole ws bs ≡ false → end_judged ws bs ≡ Err refusal.BadRecord
   unfolding end_judged refuse_if
   broken_judged e = rw e refl
 
-  nothing_judged : is_whole ws bs ≡ true → none (mark ws) ≡ true → end_judged ws bs ≡ Refused refusal.BadLength
+  nothing_judged : is_whole ws bs ≡ true → none (mark ws) ≡ true → end_judged ws bs ≡ Err refusal.BadLength
   unfolding end_judged refuse_if
   nothing_judged e t = rw (e, t) refl
 
@@ -106,14 +102,14 @@ module _ (ws bs : List ℕ) where
       sym (length-take-le (nodes ws) (drop 2 ws) (omega (arith, length-drop 2 ws, ready_words ws bs (whole_ready ws bs e))))
 
   -- Zeros, whatever was read.
-  zeros_shown : (r : Refusal) → check_panel (nodes ws) (check.Refused r) ≡ shown (Refused r) (told_of (table ws) (certificate_at (front ws bs) 0))
+  zeros_shown : (r : Refusal) → check_panel (nodes ws) (Err r) ≡ shown (Err r) (told_of (table ws) (certificate_at (front ws bs) 0))
   unfolding check_values
   zeros_shown r = refusal_shown (table ws) (certificate_at (front ws bs) 0) r
 
   -- The three ways of an end.
-  end_ways : {X : Type 0} (r : CheckAnswer) (ws' bs' : List ℕ) → EndOf ws bs r ws' bs'
-      → (is_whole ws bs ≡ false → r ≡ check.Refused refusal.BadRecord → X)
-      → (is_whole ws bs ≡ true → none (mark ws) ≡ true → r ≡ check.Refused refusal.BadLength → X)
+  end_ways : {X : Type 0} (r : Result Accepted Refusal) (ws' bs' : List ℕ) → EndOf ws bs r ws' bs'
+      → (is_whole ws bs ≡ false → r ≡ Err refusal.BadRecord → X)
+      → (is_whole ws bs ≡ true → none (mark ws) ≡ true → r ≡ Err refusal.BadLength → X)
       → (is_whole ws bs ≡ true → none (mark ws) ≡ false → r ≡ check_proof (table ws) (front ws bs) → X) → X
   end_ways r ws' bs' h broken none-taken taken =
       by_test (is_whole ws bs)
@@ -124,7 +120,7 @@ module _ (ws bs : List ℕ) where
 
 pub end_shown : EndShown
 end_shown ws bs r ws' bs' h =
-    let told : Verdict → Panel = (λ v. shown v (told_of (table ws) (certificate_at (front ws bs) 0))) in
+    let told : Result ⊤ Refusal → Panel = (λ v. shown v (told_of (table ws) (certificate_at (front ws bs) 0))) in
     end_ways ws bs r ws' bs' h
     (λ e q. ap (check_panel (nodes ws)) q ∙ zeros_shown ws bs refusal.BadRecord ∙ ap told (sym (broken_judged ws bs e)))
     (λ e t q. ap (check_panel (nodes ws)) q ∙ zeros_shown ws bs refusal.BadLength ∙ ap told (sym (nothing_judged ws bs e t)))
@@ -134,22 +130,22 @@ end_shown ws bs r ws' bs' h =
 
 -- ---- a check's number is never 17
 
-abbrev Low : Verdict → Type 0
+abbrev Low : Result ⊤ Refusal → Type 0
 Low v = verdict_number v ≤ 16
 
-fine_low : Low Fine
+fine_low : Low (Ok tt)
 unfolding verdict_number
 fine_low = omega arith
 
-refuse_low : (t : Bool) (r : Refusal) (v : Verdict) → refusal_number r ≤ 16 → Low v → Low (refuse_if t r v)
+refuse_low : (t : Bool) (r : Refusal) (v : Result ⊤ Refusal) → refusal_number r ≤ 16 → Low v → Low (refuse_if t r v)
 unfolding refuse_if verdict_number
 refuse_low true r v h g = h
 refuse_low false r v h g = g
 
-else_low : (v w : Verdict) → Low v → Low w → Low (else_then v w)
+else_low : (v w : Result ⊤ Refusal) → Low v → Low w → Low (else_then v w)
 unfolding else_then
-else_low Fine w g h = h
-else_low (Refused r) w g h = g
+else_low (Ok tt) w g h = h
+else_low (Err r) w g h = g
 
 judge_low : (stakes : List ℕ) (c : Certificate) → Low (judge stakes c)
 unfolding judge judge_kind judge_weight refusal_number
@@ -157,7 +153,7 @@ judge_low stakes c =
     refuse_low _ _ _ (omega arith)
     (refuse_low _ _ _ (omega arith) (refuse_low _ _ _ (omega arith) (refuse_low _ _ _ (omega arith) (refuse_low _ _ _ (omega arith) fine_low))))
 
-whole_low : (stakes : List ℕ) (x : Found) (f : Certificate → ℕ → Verdict) → ((c : Certificate) (n : ℕ) → Low (f c n)) → Low (whole_then stakes x f)
+whole_low : (stakes : List ℕ) (x : Found) (f : Certificate → ℕ → Result ⊤ Refusal) → ((c : Certificate) (n : ℕ) → Low (f c n)) → Low (whole_then stakes x f)
 unfolding whole_then verdict_number refusal_number
 whole_low stakes (found.Whole c n) f h = else_low (judge stakes c) (f c n) (judge_low stakes c) (h c n)
 whole_low stakes found.Early f h = omega arith
@@ -167,7 +163,7 @@ after_low : (bytes : List ℕ) (n : ℕ) → Low (nothing_after bytes n)
 unfolding nothing_after refusal_number
 after_low bytes n = refuse_low _ _ _ (omega arith) fine_low
 
-first_low : (k : CertificateKind) (v w : Verdict) → Low v → Low w → Low (first_then k v w)
+first_low : (k : CertificateKind) (v w : Result ⊤ Refusal) → Low v → Low w → Low (first_then k v w)
 unfolding first_then verdict_number refusal_number
 first_low certificate.FastFinal v w g h = g
 first_low certificate.Notar v w g h = h
@@ -196,10 +192,10 @@ check_low stakes bytes =
 
 -- ---- what the face leaves
 
-piece_refusal : (a : PieceAnswer) → ¬ ((piece_panel a).number ≡ 0) → (r : Refusal) × (a ≡ answer.Refused r)
+piece_refusal : (a : Result ⊤ Refusal) → ¬ ((piece_panel a).number ≡ 0) → (r : Refusal) × (a ≡ Err r)
 unfolding piece_panel
-piece_refusal answer.More h = absurd (h refl)
-piece_refusal (answer.Refused r) h = (r, refl)
+piece_refusal (Ok tt) h = absurd (h refl)
+piece_refusal (Err r) h = (r, refl)
 
 pub face_piece_refused : FacePieceRefused
 face_piece_refused ws bs stakes bytes number ws' bs' h ne =
@@ -207,11 +203,11 @@ face_piece_refused ws bs stakes bytes number ws' bs' h ne =
     piece_refused_lem ws bs stakes bytes x.0 ws' bs' (record { answered = sym x.1; words = h.words; front = h.front })
 
 -- The number is 17 exactly where the state is refused.
-broken_number : check_number (check.Refused refusal.BadRecord) ≡ 17
+broken_number : check_number (Err refusal.BadRecord) ≡ 17
 unfolding check_number refusal_number
 broken_number = refl
 
-nothing_number : check_number (check.Refused refusal.BadLength) ≡ 12
+nothing_number : check_number (Err refusal.BadLength) ≡ 12
 unfolding check_number refusal_number
 nothing_number = refl
 
@@ -219,7 +215,7 @@ pub face_end_refused : FaceEndRefused
 face_end_refused ws bs number values missing ws' bs' h =
     let o : EndOf ws bs (end_leaves ws bs).answer ws' bs' = record { answered = refl; words = h.words; front = h.front } in
     let a = end_anew ws bs (end_leaves ws bs).answer ws' bs' o in
-    let numbered : (r : CheckAnswer) → (end_leaves ws bs).answer ≡ r → number ≡ check_number r = (λ r q. h.checked.numbered ∙ ap check_number q) in
+    let numbered : (r : Result Accepted Refusal) → (end_leaves ws bs).answer ≡ r → number ≡ check_number r = (λ r q. h.checked.numbered ∙ ap check_number q) in
     record {
       found = λ n. end_ways ws bs (end_leaves ws bs).answer ws' bs' o
           (λ e q. let f = a.1 e in (f.1, f.2))
@@ -252,7 +248,7 @@ unfolding reply_to after_call
 gives t ws bs a r ws' bs' f e g (as_piece {stakes} {bytes} h) =
     let i = piece_says t ws bs stakes bytes (piece_leaves ws bs stakes bytes).answer ws' bs' f e g (record { answered = refl; words = h.words; front = h.front }) in
     record {
-      reply_is = ap (λ (n : ℕ). record { number = n; values = []; missing = 0 }) (h.numbered ∙ ap (λ (x : PieceAnswer). (piece_panel x).number) i.0);
+      reply_is = ap (λ (n : ℕ). record { number = n; values = []; missing = 0 }) (h.numbered ∙ ap (λ (x : Result ⊤ Refusal). (piece_panel x).number) i.0);
       words_are = i.1;
       bytes_are = i.2;
     }
@@ -299,8 +295,8 @@ all_replies : (stakes first : List ℕ) (later : List Piece) → stakes_fit stak
     → replies_to nothing (piece stakes first ∷ (calls later ++ (end ∷ []))) ≡ more ∷ (map (λ (p : Piece). more) later ++ (check_reply (length stakes) (check_proof stakes (first ++ packet later)) ∷ []))
 unfolding replies_to reply_to after_call piece_answer after_piece piece_panel
 all_replies stakes first later e =
-    ap₂ (λ (r : PieceAnswer) (t : Taken). record { number = (piece_panel r).number; values = []; missing = 0 } ∷ replies_to t (calls later ++ (end ∷ [])))
-    (given_on (stakes_fit stakes (length stakes)) (answer.Refused refusal.BadSizes) (λ _. answer.More) e)
+    ap₂ (λ (r : Result ⊤ Refusal) (t : Taken). record { number = (piece_panel r).number; values = []; missing = 0 } ∷ replies_to t (calls later ++ (end ∷ [])))
+    (given_on (stakes_fit stakes (length stakes)) (Err refusal.BadSizes) (λ _. (Ok tt)) e)
     (given_on (stakes_fit stakes (length stakes)) nothing (λ _. since stakes first) e)
     ∙ ap (λ (xs : List Reply). more ∷ xs) (later_replies stakes first later)
 

@@ -1,4 +1,5 @@
 -- What a host reads of a record, and the text of a number, on the contracts. Assumes nothing.
+use Rattle.std.specs.Prelude.{⊤, Result, Ok, Err}
 use mathlib.Core.Path.{◌≡◌, refl, sym, ap, ◌∙◌}
 use mathlib.Core.Bool.{Bool, true, false}
 use mathlib.Core.List.{List, [], ◌∷◌}
@@ -8,14 +9,8 @@ use lib.ListN.{length, get_or}
 use lib.Dec.{leb, ltb, eqb}
 use borrow.Author.Tests.{leb-true, leb-false, eqb-true, eqb-false}
 use Rattle.rulebook.specs.declared.Block.{Block}
-use Rattle.rulebook.specs.declared.CheckAnswer.{CheckAnswer}
-use Rattle.rulebook.specs.declared.CheckAnswer.TheVariants as check
 use Rattle.rulebook.specs.declared.Refusal.{Refusal}
 use Rattle.rulebook.specs.declared.Refusal.TheVariants as refusal
-use Rattle.rulebook.specs.declared.Verdict.{Verdict}
-use Rattle.rulebook.specs.declared.Verdict.TheVariants.{Fine, Refused}
-use Rattle.rulebook.specs.declared.WriteAnswer.{WriteAnswer}
-use Rattle.rulebook.specs.declared.WriteAnswer.TheVariants as write
 use Rattle.rulebook.specs.declared.Who.TheVariants as who
 use Rattle.rulebook.specs.PaperNumbers.{Panel, refusal_number, verdict_number, write_panel, check_number}
 use Rattle.rulebook.specs.Weights.{slot_ok, d_weights}
@@ -30,29 +25,11 @@ use Rattle.rule_laws.proofs.ToolLaws.{by_test}
 use Rattle.record.specs.Layout.{ledger_of}
 use Rattle.soundness.specs.Sound.{sound_words}
 use Rattle.mail.specs.Policy.{may_announce}
-use Rattle.announcing.specs.declared.AnnounceAnswer.{AnnounceAnswer}
-use Rattle.announcing.specs.declared.AnnounceAnswer.TheVariants as announce
 use Rattle.announcing.specs.Asked.{judged, announced_on, announce_panel}
 use Rattle.announcing.proofs.Laws.{asked_unsound, asked_sound}
-use Rattle.vouched_packets.specs.declared.SplitAnswer.{SplitAnswer}
-use Rattle.vouched_packets.specs.declared.SplitAnswer.TheVariants as split
 use Rattle.vouched_packets.specs.Asked.{first_end}
 use Rattle.vouched_packets.specs.Split.{split_by, split_panel}
 use Rattle.vouched_packets.proofs.Splitting.{split_unsound, split_sound}
-use Rattle.readers.specs.declared.FinalAnswer.{FinalAnswer}
-use Rattle.readers.specs.declared.FinalAnswer.TheVariants as final
-use Rattle.readers.specs.declared.ArmedAnswer.{ArmedAnswer}
-use Rattle.readers.specs.declared.ArmedAnswer.TheVariants as armed
-use Rattle.readers.specs.declared.VotesAnswer.{VotesAnswer}
-use Rattle.readers.specs.declared.VotesAnswer.TheVariants as votes
-use Rattle.readers.specs.declared.BlocksAnswer.{BlocksAnswer}
-use Rattle.readers.specs.declared.BlocksAnswer.TheVariants as blocks
-use Rattle.readers.specs.declared.MarksAnswer.{MarksAnswer}
-use Rattle.readers.specs.declared.MarksAnswer.TheVariants as marks
-use Rattle.readers.specs.declared.HeadAnswer.{HeadAnswer}
-use Rattle.readers.specs.declared.HeadAnswer.TheVariants as head
-use Rattle.readers.specs.declared.WeightsAnswer.{WeightsAnswer}
-use Rattle.readers.specs.declared.WeightsAnswer.TheVariants as weights
 use Rattle.readers.specs.Asked.{final_on, armed_on, votes_on, blocks_on, marks_on, head_on, final_panel, armed_panel, votes_panel, blocks_panel, marks_panel, head_panel}
 use Rattle.readers.specs.Weighed.{missing_d, weights_kept, weights_on, weight_values, weights_panel}
 use Rattle.readers.proofs.Ways.{slot_unsound, slot_none, slot_asked, votes_none, votes_there, head_unsound, head_asked, weights_none, weights_there}
@@ -69,47 +46,53 @@ use Rattle.promises.specs.Differs.{shown_as}
 use Rattle.promises.proofs.Numbered.{refusal_numbered}
 use Rattle.promises.proofs.ShownChecks.{proof_check_shown}
 use Rattle.promises.specs.Readers.{FinalShown, ArmedShown, AnnounceShown, SplitShown, VotesShown, BlocksShown, MarksShown, HeadShown, WeightsShown, FaceWeightsMissing, kept_of, KeptTold, CertificatesShown, FaceCertificates, TextShown, FaceFinalRefused, FaceArmedRefused, FaceAnnounceRefused, FaceSplitRefused, FaceVotesRefused, FaceBlocksRefused, FaceMarksRefused, FaceHeadRefused, FaceWeightsRefused, FaceCertificatesRefused, FaceTextRefused}
+use Rattle.rulebook.specs.declared.Accepted.{Accepted}
+use Rattle.readers.specs.declared.BlockWeights.{BlockWeights}
+use Rattle.rulebook.specs.declared.Cell.{Cell}
+use Rattle.readers.specs.declared.KeptBlocks.{KeptBlocks}
+use Rattle.readers.specs.declared.RecordHead.{RecordHead}
+use Rattle.readers.specs.declared.SlotMarks.{SlotMarks}
 
 -- ---- what is answered
 
 -- 17 before all else.
-pub unsound_final : (ws : List ℕ) (s : ℕ) → sound_words ws ≡ false → final_on ws s ≡ final.Refused refusal.BadRecord
+pub unsound_final : (ws : List ℕ) (s : ℕ) → sound_words ws ≡ false → final_on ws s ≡ Err refusal.BadRecord
 unfolding final_on
-unsound_final ws s e = slot_unsound final.Refused ws s _ e
+unsound_final ws s e = slot_unsound Err ws s _ e
 
-pub unsound_armed : (ws : List ℕ) (s : ℕ) → sound_words ws ≡ false → armed_on ws s ≡ armed.Refused refusal.BadRecord
+pub unsound_armed : (ws : List ℕ) (s : ℕ) → sound_words ws ≡ false → armed_on ws s ≡ Err refusal.BadRecord
 unfolding armed_on
-unsound_armed ws s e = slot_unsound armed.Refused ws s _ e
+unsound_armed ws s e = slot_unsound Err ws s _ e
 
-pub unsound_votes : (ws : List ℕ) (s n : ℕ) → sound_words ws ≡ false → votes_on ws s n ≡ votes.Refused refusal.BadRecord
+pub unsound_votes : (ws : List ℕ) (s n : ℕ) → sound_words ws ≡ false → votes_on ws s n ≡ Err refusal.BadRecord
 unfolding votes_on
-unsound_votes ws s n e = slot_unsound votes.Refused ws s _ e
+unsound_votes ws s n e = slot_unsound Err ws s _ e
 
-pub unsound_blocks : (ws : List ℕ) (s : ℕ) → sound_words ws ≡ false → blocks_on ws s ≡ blocks.Refused refusal.BadRecord
+pub unsound_blocks : (ws : List ℕ) (s : ℕ) → sound_words ws ≡ false → blocks_on ws s ≡ Err refusal.BadRecord
 unfolding blocks_on
-unsound_blocks ws s e = slot_unsound blocks.Refused ws s _ e
+unsound_blocks ws s e = slot_unsound Err ws s _ e
 
-pub unsound_marks : (ws : List ℕ) (s : ℕ) → sound_words ws ≡ false → marks_on ws s ≡ marks.Refused refusal.BadRecord
+pub unsound_marks : (ws : List ℕ) (s : ℕ) → sound_words ws ≡ false → marks_on ws s ≡ Err refusal.BadRecord
 unfolding marks_on
-unsound_marks ws s e = slot_unsound marks.Refused ws s _ e
+unsound_marks ws s e = slot_unsound Err ws s _ e
 
 pub final_shown : FinalShown
 unfolding shown sound_first refuse_if beside_it final_on final_panel verdict_number refusal_number
 final_shown ws s a e =
     by_test (sound_words ws)
     (λ t. by_test (slot_ok s)
-    (λ u. rw (e ∙ slot_asked final.Refused ws s _ t u, t, u))
-    (λ u. rw (e ∙ slot_none final.Refused ws s _ t u, t, u)))
-    (λ t. rw (e ∙ slot_unsound final.Refused ws s _ t, t))
+    (λ u. rw (e ∙ slot_asked Err ws s _ t u, t, u))
+    (λ u. rw (e ∙ slot_none Err ws s _ t u, t, u)))
+    (λ t. rw (e ∙ slot_unsound Err ws s _ t, t))
 
 pub armed_shown_lem : ArmedShown
 unfolding shown sound_first refuse_if beside_it armed_on armed_panel verdict_number refusal_number
 armed_shown_lem ws s a e =
     by_test (sound_words ws)
     (λ t. by_test (slot_ok s)
-    (λ u. rw (e ∙ slot_asked armed.Refused ws s _ t u, t, u))
-    (λ u. rw (e ∙ slot_none armed.Refused ws s _ t u, t, u)))
-    (λ t. rw (e ∙ slot_unsound armed.Refused ws s _ t, t))
+    (λ u. rw (e ∙ slot_asked Err ws s _ t u, t, u))
+    (λ u. rw (e ∙ slot_none Err ws s _ t u, t, u)))
+    (λ t. rw (e ∙ slot_unsound Err ws s _ t, t))
 
 pub announce_shown : AnnounceShown
 unfolding shown sound_first refuse_if beside_it judged announce_panel verdict_number refusal_number
@@ -118,18 +101,18 @@ announce_shown ws s b a e =
     (λ t. go t (block_verdict (ledger_of ws) s b) refl)
     (λ t. rw (e ∙ sym (asked_unsound ws s b t), t))
   where
-    go : sound_words ws ≡ true → (v : Verdict) → block_verdict (ledger_of ws) s b ≡ v
+    go : sound_words ws ≡ true → (v : Result ⊤ Refusal) → block_verdict (ledger_of ws) s b ≡ v
         → announce_panel a ≡ shown (sound_first ws (block_verdict (ledger_of ws) s b)) (part (may_announce (ledger_of ws) s b.number) 1 ∷ [])
-    go t Fine p = rw (e ∙ sym (asked_sound ws s b t), t, p)
-    go t (Refused r) p = rw (e ∙ sym (asked_sound ws s b t), t, p)
+    go t (Ok tt) p = rw (e ∙ sym (asked_sound ws s b t), t, p)
+    go t (Err r) p = rw (e ∙ sym (asked_sound ws s b t), t, p)
 
 -- What the proof checker is shown to say of a packet is what the splitter answers of it.
-split_checked : (packet : List ℕ) (x : CheckAnswer) (v : Verdict) → check_number x ≡ verdict_number v → split_panel (split_by packet x) ≡ shown v (first_end packet ∷ [])
+split_checked : (packet : List ℕ) (x : Result Accepted Refusal) (v : Result ⊤ Refusal) → check_number x ≡ verdict_number v → split_panel (split_by packet x) ≡ shown v (first_end packet ∷ [])
 unfolding shown beside_it split_by split_panel check_number verdict_number
-split_checked packet (check.Accepted a) Fine e = refl
-split_checked packet (check.Accepted a) (Refused r) e = absurd (omega (arith, refusal_numbered r, e))
-split_checked packet (check.Refused r) Fine e = absurd (omega (arith, refusal_numbered r, e))
-split_checked packet (check.Refused r) (Refused q) e = ap (λ (n : ℕ). record { number = n; values = 0 ∷ [] }) e
+split_checked packet (Ok a) (Ok tt) e = refl
+split_checked packet (Ok a) (Err r) e = absurd (omega (arith, refusal_numbered r, e))
+split_checked packet (Err r) (Ok tt) e = absurd (omega (arith, refusal_numbered r, e))
+split_checked packet (Err r) (Err q) e = ap (λ (n : ℕ). record { number = n; values = 0 ∷ [] }) e
 
 proof_number : (stakes packet : List ℕ) → check_number (check_proof stakes packet) ≡ verdict_number (proof_checked stakes packet)
 unfolding shown
@@ -148,26 +131,26 @@ unfolding shown sound_first refuse_if beside_it blocks_on blocks_panel verdict_n
 blocks_shown ws s a e =
     by_test (sound_words ws)
     (λ t. by_test (slot_ok s)
-    (λ u. rw (e ∙ slot_asked blocks.Refused ws s _ t u, t, u))
-    (λ u. rw (e ∙ slot_none blocks.Refused ws s _ t u, t, u)))
-    (λ t. rw (e ∙ slot_unsound blocks.Refused ws s _ t, t))
+    (λ u. rw (e ∙ slot_asked Err ws s _ t u, t, u))
+    (λ u. rw (e ∙ slot_none Err ws s _ t u, t, u)))
+    (λ t. rw (e ∙ slot_unsound Err ws s _ t, t))
 
 pub marks_shown : MarksShown
 unfolding shown sound_first refuse_if beside_it marks_on marks_panel verdict_number refusal_number
 marks_shown ws s a e =
     by_test (sound_words ws)
     (λ t. by_test (slot_ok s)
-    (λ u. rw (e ∙ slot_asked marks.Refused ws s _ t u, t, u))
-    (λ u. rw (e ∙ slot_none marks.Refused ws s _ t u, t, u)))
-    (λ t. rw (e ∙ slot_unsound marks.Refused ws s _ t, t))
+    (λ u. rw (e ∙ slot_asked Err ws s _ t u, t, u))
+    (λ u. rw (e ∙ slot_none Err ws s _ t u, t, u)))
+    (λ t. rw (e ∙ slot_unsound Err ws s _ t, t))
 
 pub head_shown : HeadShown
 unfolding shown sound_first refuse_if beside_it head_panel verdict_number refusal_number
 head_shown ws a e = by_test (sound_words ws) (λ t. rw (e ∙ head_asked ws t, t)) (λ t. rw (e ∙ head_unsound ws t, t))
 
-slotless_votes : (ws : List ℕ) (s n : ℕ) → sound_words ws ≡ true → slot_ok s ≡ false → votes_on ws s n ≡ votes.Refused refusal.BadSlot
+slotless_votes : (ws : List ℕ) (s n : ℕ) → sound_words ws ≡ true → slot_ok s ≡ false → votes_on ws s n ≡ Err refusal.BadSlot
 unfolding votes_on
-slotless_votes ws s n e q = slot_none votes.Refused ws s _ e q
+slotless_votes ws s n e q = slot_none Err ws s _ e q
 
 pub votes_shown : VotesShown
 unfolding shown sound_first refuse_if beside_it votes_panel verdict_number refusal_number
@@ -180,13 +163,13 @@ votes_shown ws s n a e =
     (λ u. rw (e ∙ slotless_votes ws s n t u, t, u)))
     (λ t. rw (e ∙ unsound_votes ws s n t, t))
 
-pub unsound_weights : (ws : List ℕ) (s b : ℕ) → sound_words ws ≡ false → weights_on ws s b ≡ weights.Refused refusal.BadRecord
+pub unsound_weights : (ws : List ℕ) (s b : ℕ) → sound_words ws ≡ false → weights_on ws s b ≡ Err refusal.BadRecord
 unfolding weights_on
-unsound_weights ws s b e = slot_unsound weights.Refused ws s _ e
+unsound_weights ws s b e = slot_unsound Err ws s _ e
 
-slotless_weights : (ws : List ℕ) (s b : ℕ) → sound_words ws ≡ true → slot_ok s ≡ false → weights_on ws s b ≡ weights.Refused refusal.BadSlot
+slotless_weights : (ws : List ℕ) (s b : ℕ) → sound_words ws ≡ true → slot_ok s ≡ false → weights_on ws s b ≡ Err refusal.BadSlot
 unfolding weights_on
-slotless_weights ws s b e q = slot_none weights.Refused ws s _ e q
+slotless_weights ws s b e q = slot_none Err ws s _ e q
 
 pub weights_shown : WeightsShown
 unfolding shown sound_first refuse_if beside_it weights_panel verdict_number refusal_number
@@ -208,12 +191,12 @@ missing_told ws s b values h =
     (λ t. by_test (slot_ok s)
     (λ u. by_test (none b)
     (λ v. refused refusal.BadBlock (weights_none ws s t u b (eqb-true b 0 v)) (λ q. omega (arith, q)))
-    (λ v. ap (λ (x : List ℕ). get_or x 3 0) (h.valued ∙ ap (λ (a : WeightsAnswer). (weights_panel a).values) (weights_there ws s t u b (eqb-false b 0 v)))))
+    (λ v. ap (λ (x : List ℕ). get_or x 3 0) (h.valued ∙ ap (λ (a : Result BlockWeights Refusal). (weights_panel a).values) (weights_there ws s t u b (eqb-false b 0 v)))))
     (λ u. refused refusal.BadSlot (slotless_weights ws s b t u) (λ q. omega (arith, q))))
     (λ t. refused refusal.BadRecord (unsound_weights ws s b t) (λ q. omega (arith, q)))
   where
-    refused : {X : Type 0} (r : Refusal) → weights_on ws s b ≡ weights.Refused r → (0 ≡ refusal_number r → ⊥) → X
-    refused r e n = absurd (n (h.numbered ∙ ap (λ (a : WeightsAnswer). (weights_panel a).number) e))
+    refused : {X : Type 0} (r : Refusal) → weights_on ws s b ≡ Err r → (0 ≡ refusal_number r → ⊥) → X
+    refused r e n = absurd (n (h.numbered ∙ ap (λ (a : Result BlockWeights Refusal). (weights_panel a).number) e))
 
 pub face_weights_missing : FaceWeightsMissing
 unfolding fallback_weights
@@ -254,11 +237,11 @@ face_certificates ws s list number beside left d =
 
 module _ (room n : ℕ) where
   -- A buffer that is too short, and any other.
-  text_off : ltb room text_room ≡ true → text_on room n ≡ record { answer = write.Refused refusal.NoRoom; bytes = [] }
+  text_off : ltb room text_room ≡ true → text_on room n ≡ record { answer = Err refusal.NoRoom; bytes = [] }
   unfolding text_on refuse_if wrote_on
   text_off t = rw t refl
 
-  text_on_lem : ltb room text_room ≡ false → text_on room n ≡ record { answer = write.Written (length (refusal_text n)); bytes = refusal_text n }
+  text_on_lem : ltb room text_room ≡ false → text_on room n ≡ record { answer = Ok (length (refusal_text n)); bytes = refusal_text n }
   unfolding text_on refuse_if wrote_on
   text_on_lem t = rw t refl
 
@@ -271,50 +254,50 @@ text_shown buffer n a after h =
 
 -- ---- refusals
 
-final_refusal : (a : FinalAnswer) → ¬ ((final_panel a).number ≡ 0) → (final_panel a).values ≡ 0 ∷ []
+final_refusal : (a : Result ℕ Refusal) → ¬ ((final_panel a).number ≡ 0) → (final_panel a).values ≡ 0 ∷ []
 unfolding final_panel
-final_refusal (final.Block b) h = absurd (h refl)
-final_refusal (final.Refused r) h = refl
+final_refusal (Ok b) h = absurd (h refl)
+final_refusal (Err r) h = refl
 
-armed_refusal : (a : ArmedAnswer) → ¬ ((armed_panel a).number ≡ 0) → (armed_panel a).values ≡ 0 ∷ []
+armed_refusal : (a : Result Bool Refusal) → ¬ ((armed_panel a).number ≡ 0) → (armed_panel a).values ≡ 0 ∷ []
 unfolding armed_panel
-armed_refusal (armed.Armed b) h = absurd (h refl)
-armed_refusal (armed.Refused r) h = refl
+armed_refusal (Ok b) h = absurd (h refl)
+armed_refusal (Err r) h = refl
 
-votes_refusal : (a : VotesAnswer) → ¬ ((votes_panel a).number ≡ 0) → (votes_panel a).values ≡ 0 ∷ 0 ∷ 0 ∷ 0 ∷ 0 ∷ 0 ∷ 0 ∷ []
+votes_refusal : (a : Result Cell Refusal) → ¬ ((votes_panel a).number ≡ 0) → (votes_panel a).values ≡ 0 ∷ 0 ∷ 0 ∷ 0 ∷ 0 ∷ 0 ∷ 0 ∷ []
 unfolding votes_panel
-votes_refusal (votes.Votes c) h = absurd (h refl)
-votes_refusal (votes.Refused r) h = refl
+votes_refusal (Ok c) h = absurd (h refl)
+votes_refusal (Err r) h = refl
 
-blocks_refusal : (a : BlocksAnswer) → ¬ ((blocks_panel a).number ≡ 0) → (blocks_panel a).values ≡ 0 ∷ 0 ∷ 0 ∷ 0 ∷ 0 ∷ 0 ∷ 0 ∷ 0 ∷ 0 ∷ 0 ∷ 0 ∷ 0 ∷ []
+blocks_refusal : (a : Result KeptBlocks Refusal) → ¬ ((blocks_panel a).number ≡ 0) → (blocks_panel a).values ≡ 0 ∷ 0 ∷ 0 ∷ 0 ∷ 0 ∷ 0 ∷ 0 ∷ 0 ∷ 0 ∷ 0 ∷ 0 ∷ 0 ∷ []
 unfolding blocks_panel
-blocks_refusal (blocks.Blocks k) h = absurd (h refl)
-blocks_refusal (blocks.Refused r) h = refl
+blocks_refusal (Ok k) h = absurd (h refl)
+blocks_refusal (Err r) h = refl
 
-marks_refusal : (a : MarksAnswer) → ¬ ((marks_panel a).number ≡ 0) → (marks_panel a).values ≡ 0 ∷ 0 ∷ []
+marks_refusal : (a : Result SlotMarks Refusal) → ¬ ((marks_panel a).number ≡ 0) → (marks_panel a).values ≡ 0 ∷ 0 ∷ []
 unfolding marks_panel
-marks_refusal (marks.Marks m) h = absurd (h refl)
-marks_refusal (marks.Refused r) h = refl
+marks_refusal (Ok m) h = absurd (h refl)
+marks_refusal (Err r) h = refl
 
-head_refusal : (a : HeadAnswer) → ¬ ((head_panel a).number ≡ 0) → (head_panel a).values ≡ 0 ∷ 0 ∷ 0 ∷ 0 ∷ []
+head_refusal : (a : Result RecordHead Refusal) → ¬ ((head_panel a).number ≡ 0) → (head_panel a).values ≡ 0 ∷ 0 ∷ 0 ∷ 0 ∷ []
 unfolding head_panel
-head_refusal (head.Head x) h = absurd (h refl)
-head_refusal (head.Refused r) h = refl
+head_refusal (Ok x) h = absurd (h refl)
+head_refusal (Err r) h = refl
 
-weights_refusal : (a : WeightsAnswer) → ¬ ((weights_panel a).number ≡ 0) → (weights_panel a).values ≡ 0 ∷ 0 ∷ 0 ∷ 0 ∷ []
+weights_refusal : (a : Result BlockWeights Refusal) → ¬ ((weights_panel a).number ≡ 0) → (weights_panel a).values ≡ 0 ∷ 0 ∷ 0 ∷ 0 ∷ []
 unfolding weights_panel
-weights_refusal (weights.Weights w) h = absurd (h refl)
-weights_refusal (weights.Refused r) h = refl
+weights_refusal (Ok w) h = absurd (h refl)
+weights_refusal (Err r) h = refl
 
-announce_refusal : (a : AnnounceAnswer) → ¬ ((announce_panel a).number ≡ 0) → (announce_panel a).values ≡ 0 ∷ []
+announce_refusal : (a : Result Bool Refusal) → ¬ ((announce_panel a).number ≡ 0) → (announce_panel a).values ≡ 0 ∷ []
 unfolding announce_panel
-announce_refusal (announce.Now x) h = absurd (h refl)
-announce_refusal (announce.Refused r) h = refl
+announce_refusal (Ok x) h = absurd (h refl)
+announce_refusal (Err r) h = refl
 
-split_refusal : (a : SplitAnswer) → ¬ ((split_panel a).number ≡ 0) → (split_panel a).values ≡ 0 ∷ []
+split_refusal : (a : Result ℕ Refusal) → ¬ ((split_panel a).number ≡ 0) → (split_panel a).values ≡ 0 ∷ []
 unfolding split_panel
-split_refusal (split.First n) h = absurd (h refl)
-split_refusal (split.Refused r) h = refl
+split_refusal (Ok n) h = absurd (h refl)
+split_refusal (Err r) h = refl
 
 -- The one value beside a number.
 only : {v w : ℕ} {values : List ℕ} → v ∷ [] ≡ values → values ≡ w ∷ [] → v ≡ w

@@ -1,4 +1,5 @@
 -- A refusal leaves all lent memory as found. Assumes nothing.
+use Rattle.std.specs.Prelude.{⊤, Result, Ok, Err}
 use mathlib.Core.Path.{◌≡◌, refl, sym, ap, ◌∙◌}
 use mathlib.Core.Bool.{true, false, ◌&&◌}
 use mathlib.Core.List.{List, [], ◌∷◌, ◌++◌}
@@ -6,18 +7,9 @@ use Prim.Native.Nat.{ℕ, ◌*◌, ◌%◌}
 use native.Mathlib.Omega.{arith}
 use lib.ListN.{length, drop}
 use lib.Dec.{eqb, leb}
-use Rattle.rulebook.specs.declared.CheckAnswer.{CheckAnswer}
 use Rattle.rulebook.specs.declared.Input.{Input}
-use Rattle.rulebook.specs.declared.ReadAnswer.{ReadAnswer}
 use Rattle.rulebook.specs.declared.Refusal.{Refusal}
 use Rattle.rulebook.specs.declared.Refusal.TheVariants as refusal
-use Rattle.rulebook.specs.declared.StartAnswer.TheVariants as start
-use Rattle.rulebook.specs.declared.StepAnswer.{StepAnswer}
-use Rattle.rulebook.specs.declared.StepAnswer.TheVariants as step-answer
-use Rattle.rulebook.specs.declared.Verdict.{Verdict}
-use Rattle.rulebook.specs.declared.Verdict.TheVariants.{Fine, Refused}
-use Rattle.rulebook.specs.declared.WriteAnswer.{WriteAnswer}
-use Rattle.rulebook.specs.declared.WriteAnswer.TheVariants as write
 use Rattle.rulebook.specs.Ledger.{Ledger}
 use Rattle.rulebook.specs.PaperNumbers.{step_panel, write_panel, read_panel, check_values}
 use Rattle.rulebook.specs.Inputs.{Fed, verdict, fed_with, refused_with, fed_on, feed}
@@ -41,13 +33,14 @@ use Rattle.writers.specs.Writing.{unsound, kind_on, certificate_on, proof_on}
 use Rattle.answers.specs.Face.{Beside}
 use Rattle.promises.specs.Refusals.{StartRefused, WatchRefused, StepRefused, TakeRefused, TrayRefused, CertificateRefused, ProofRefused, MessageRefused, FaceStartRefused, FaceWatchRefused, FaceStepRefused, FaceTakeRefused, FaceTrayRefused, FaceCertificateRefused, FaceProofRefused, FaceMessageRefused, FaceReadRefused, FaceCheckRefused}
 use Rattle.promises.proofs.Numbered.{start_refusal, step_refusal, write_refusal, read_refusal, check_refusal}
+use Rattle.rulebook.specs.declared.Vote.{Vote}
 
 -- ---- start
 
-left_found : (v : Verdict) (ws stakes : List ℕ) (own genesis : ℕ) (r : Refusal) → start_answer v ≡ start.Refused r → start_left v ws stakes own genesis ≡ ws
+left_found : (v : Result ⊤ Refusal) (ws stakes : List ℕ) (own genesis : ℕ) (r : Refusal) → start_answer v ≡ Err r → start_left v ws stakes own genesis ≡ ws
 unfolding start_answer start_left
-left_found Fine ws stakes own genesis r e = let z : ◌≡◌ {A = ℕ} 0 1 = cc in absurd (omega arith)
-left_found (Refused x) ws stakes own genesis r e = refl
+left_found (Ok tt) ws stakes own genesis r e = let z : ◌≡◌ {A = ℕ} 0 1 = cc in absurd (omega arith)
+left_found (Err x) ws stakes own genesis r e = refl
 
 pub start_refused : StartRefused
 start_refused ws stakes own genesis r left h =
@@ -61,16 +54,16 @@ watch_refused ws stakes genesis r left h =
 
 -- A refusal keeps the ledger and makes no record.
 abbrev pub Kept : Ledger → Fed → Type 0
-Kept l f = (r : Refusal) → f.answer ≡ step-answer.Refused r → (f.ledger ≡ l) × (f.records ≡ [])
+Kept l f = (r : Refusal) → f.answer ≡ Err r → (f.ledger ≡ l) × (f.records ≡ [])
 
 refused_kept : (l : Ledger) (x : Refusal) → Kept l (refused_with l x)
 unfolding refused_with
 refused_kept l x r e = (refl, refl)
 
-pub fed_kept : (l : Ledger) (i : Input) (v : Verdict) → Kept l (fed_on v l i)
+pub fed_kept : (l : Ledger) (i : Input) (v : Result ⊤ Refusal) → Kept l (fed_on v l i)
 unfolding fed_on fed_with
-fed_kept l i Fine r e = let z : ◌≡◌ {A = ℕ} 0 1 = cc in absurd (omega arith)
-fed_kept l i (Refused x) r e = refused_kept l x r e
+fed_kept l i (Ok tt) r e = let z : ◌≡◌ {A = ℕ} 0 1 = cc in absurd (omega arith)
+fed_kept l i (Err x) r e = refused_kept l x r e
 
 step_kept : (l : Ledger) (room : ℕ) (i : Input) → Kept l (step l room i)
 unfolding step feed
@@ -85,7 +78,7 @@ nothing_told rs out e = rw e
 
 -- A refusal on words: those that spell no ledger stay, and so do those of a ledger that is kept.
 leaves_found : (ws out : List ℕ) (f : Fed) (a : Leaves) (r : Refusal) → (is_spelled ws ≡ true → a ≡ as_fed f out)
-    → (is_spelled ws ≡ false → a ≡ as_found refusal.BadRecord ws out) → Kept (ledger_of ws) f → step-answer.Refused r ≡ a.answer → (a.words ≡ ws) × (a.outbox ≡ out)
+    → (is_spelled ws ≡ false → a ≡ as_found refusal.BadRecord ws out) → Kept (ledger_of ws) f → Err r ≡ a.answer → (a.words ≡ ws) × (a.outbox ≡ out)
 leaves_found ws out f a r fed found kept e =
     by_test (is_spelled ws)
     (λ t.
@@ -116,7 +109,7 @@ take_refused ws out packet r ws' left h =
 
 -- A refused tray keeps the ledger, makes no record and answers no vote.
 abbrev TrayKept : Ledger → Tray → Type 0
-TrayKept l t = (r : Refusal) → t.answer ≡ step-answer.Refused r → t ≡ tray_refused l r
+TrayKept l t = (r : Refusal) → t.answer ≡ Err r → t ≡ tray_refused l r
 
 tray_refusal : (l : Ledger) (x : Refusal) → TrayKept l (tray_refused l x)
 unfolding tray_refused
@@ -156,12 +149,12 @@ tray_refused_lem ws out votes places r ws' left answers h =
 
 -- A refusal writes nothing.
 abbrev Unwritten : Wrote → Type 0
-Unwritten w = (r : Refusal) → w.answer ≡ write.Refused r → w.bytes ≡ []
+Unwritten w = (r : Refusal) → w.answer ≡ Err r → w.bytes ≡ []
 
-wrote_unwritten : (v : Verdict) (bytes : List ℕ) → Unwritten (wrote_on v bytes)
+wrote_unwritten : (v : Result ⊤ Refusal) (bytes : List ℕ) → Unwritten (wrote_on v bytes)
 unfolding wrote_on
-wrote_unwritten Fine bytes r e = let z : ◌≡◌ {A = ℕ} 0 1 = cc in absurd (omega arith)
-wrote_unwritten (Refused x) bytes r e = refl
+wrote_unwritten (Ok tt) bytes r e = let z : ◌≡◌ {A = ℕ} 0 1 = cc in absurd (omega arith)
+wrote_unwritten (Err x) bytes r e = refl
 
 unsound_unwritten : Unwritten unsound
 unfolding unsound
@@ -184,7 +177,7 @@ over_nothing : (bytes buffer : List ℕ) → bytes ≡ [] → over bytes buffer 
 unfolding over
 over_nothing bytes buffer e = rw e
 
-unwritten : (w : Wrote) (buffer : List ℕ) (r : Refusal) (after : List ℕ) → Unwritten w → Writes w buffer (write.Refused r) after → after ≡ buffer
+unwritten : (w : Wrote) (buffer : List ℕ) (r : Refusal) (after : List ℕ) → Unwritten w → Writes w buffer (Err r) after → after ≡ buffer
 unwritten w buffer r after u h = h.bytes ∙ over_nothing w.bytes buffer (u r (sym h.answered))
 
 pub certificate_refused : CertificateRefused
@@ -211,13 +204,13 @@ face_watch_refused ws stakes genesis number left h ne =
     watch_refused ws stakes genesis x.0 left (record { answered = sym x.1; words = h.words })
 
 -- The one value beside a refusal is 0.
-step_none : (a : StepAnswer) (made : ℕ) (r : Refusal) → a ≡ step-answer.Refused r → Beside made (step_panel a).values → made ≡ 0
+step_none : (a : Result ℕ Refusal) (made : ℕ) (r : Refusal) → a ≡ Err r → Beside made (step_panel a).values → made ≡ 0
 unfolding step_panel
-step_none a made r e b = let q : made ∷ [] ≡ 0 ∷ [] = b ∙ ap (λ (x : StepAnswer). (step_panel x).values) e in cc
+step_none a made r e b = let q : made ∷ [] ≡ 0 ∷ [] = b ∙ ap (λ (x : Result ℕ Refusal). (step_panel x).values) e in cc
 
-write_none : (a : WriteAnswer) (written : ℕ) (r : Refusal) → a ≡ write.Refused r → Beside written (write_panel a).values → written ≡ 0
+write_none : (a : Result ℕ Refusal) (written : ℕ) (r : Refusal) → a ≡ Err r → Beside written (write_panel a).values → written ≡ 0
 unfolding write_panel
-write_none a written r e b = let q : written ∷ [] ≡ 0 ∷ [] = b ∙ ap (λ (x : WriteAnswer). (write_panel x).values) e in cc
+write_none a written r e b = let q : written ∷ [] ≡ 0 ∷ [] = b ∙ ap (λ (x : Result ℕ Refusal). (write_panel x).values) e in cc
 
 pub face_step_refused : FaceStepRefused
 face_step_refused ws out i number made ws' left h ne =
@@ -266,7 +259,7 @@ pub face_read_refused : FaceReadRefused
 unfolding read_panel
 face_read_refused answer number values h ne =
     let x = read_refusal answer (λ e. ne (h.numbered ∙ e)) in
-    h.valued ∙ ap (λ (a : ReadAnswer). (read_panel a).values) x.1
+    h.valued ∙ ap (λ (a : Result Vote Refusal). (read_panel a).values) x.1
 
 pub face_check_refused : FaceCheckRefused
 unfolding check_values

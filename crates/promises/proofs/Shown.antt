@@ -1,4 +1,5 @@
 -- What the panel shows of the answers of start, step, take, tray and the writers. Assumes nothing.
+use Rattle.std.specs.Prelude.{⊤, Result, Ok, Err}
 use mathlib.Core.Path.{◌≡◌, refl, sym, ap, ◌∙◌}
 use mathlib.Core.Bool.{Bool, true, false, not, ◌&&◌}
 use mathlib.Core.List.{List, [], ◌∷◌}
@@ -14,8 +15,6 @@ use Rattle.rulebook.specs.declared.Place.{Place}
 use Rattle.rulebook.specs.declared.Place.TheVariants as place
 use Rattle.rulebook.specs.declared.Refusal.{Refusal}
 use Rattle.rulebook.specs.declared.Refusal.TheVariants as refusal
-use Rattle.rulebook.specs.declared.Verdict.{Verdict}
-use Rattle.rulebook.specs.declared.Verdict.TheVariants.{Fine, Refused}
 use Rattle.rulebook.specs.declared.Vote.{Vote}
 use Rattle.rulebook.specs.Tools.{whenever}
 use Rattle.rulebook.specs.PaperNumbers.{Panel, kind_in, verdict_number, place_number, start_panel, step_panel, write_panel, refusal_number}
@@ -46,10 +45,10 @@ use Rattle.promises.specs.Panels.{beside_it, shown, sound_first, step_judged, Vo
 
 -- ---- start
 
-verdict_started : (v : Verdict) → start_panel (start_answer v) ≡ shown v []
+verdict_started : (v : Result ⊤ Refusal) → start_panel (start_answer v) ≡ shown v []
 unfolding start_panel start_answer shown beside_it verdict_number
-verdict_started Fine = refl
-verdict_started (Refused r) = refl
+verdict_started (Ok tt) = refl
+verdict_started (Err r) = refl
 
 pub start_shown : StartShown
 start_shown ws stakes own genesis a left h = ap start_panel h.answered ∙ verdict_started (start_judged ws stakes own genesis)
@@ -59,10 +58,10 @@ watch_shown ws stakes genesis a left h = ap start_panel h.answered ∙ verdict_s
 
 -- ---- step
 
-fed_shown : (l : Ledger) (i : Input) (v : Verdict) → step_panel (fed_on v l i).answer ≡ shown v (length (fed_on v l i).records ∷ [])
+fed_shown : (l : Ledger) (i : Input) (v : Result ⊤ Refusal) → step_panel (fed_on v l i).answer ≡ shown v (length (fed_on v l i).records ∷ [])
 unfolding step_panel fed_on fed_with refused_with shown beside_it verdict_number
-fed_shown l i Fine = ap (λ (n : ℕ). record { number = 0; values = n ∷ [] }) (sym (length-reverse (run (intake l i)).records))
-fed_shown l i (Refused r) = refl
+fed_shown l i (Ok tt) = ap (λ (n : ℕ). record { number = 0; values = n ∷ [] }) (sym (length-reverse (run (intake l i)).records))
+fed_shown l i (Err r) = refl
 
 -- An outbox that is too small, by either test.
 room_tested : (room : ℕ) → not (leb outbox_words room) ≡ ltb room outbox_words
@@ -71,7 +70,7 @@ room_tested room =
     (λ t. ap not (le-leb outbox_words room (ltb-false room outbox_words t)) ∙ sym t)
 
 -- 17, 9, and then what is due to what is given: an input or a packet.
-first_shown : (a b c : Bool) (ws out : List ℕ) (l : Ledger) (rest : Fed) (v : Verdict) (n : ℕ) → (b ≡ true → step_panel rest.answer ≡ shown v (n ∷ []))
+first_shown : (a b c : Bool) (ws out : List ℕ) (l : Ledger) (rest : Fed) (v : Result ⊤ Refusal) (n : ℕ) → (b ≡ true → step_panel rest.answer ≡ shown v (n ∷ []))
     → step_panel (whenever a (λ _. as_fed (whenever b (λ _. whenever c (λ _. rest) (refused_with l refusal.NoRoom)) (refused_with l refusal.BadRecord)) out) (as_found refusal.BadRecord ws out)).answer
     ≡ shown (refuse_if (not (a && b)) refusal.BadRecord (refuse_if (not c) refusal.NoRoom v)) (n ∷ [])
 unfolding whenever refuse_if refused_with step_panel shown beside_it verdict_number
@@ -84,7 +83,7 @@ module _ (ws out : List ℕ) where
   abbrev ledger : Ledger
   ledger = ledger_of ws
 
-  abbrev judged_first : Verdict → Bool → Verdict
+  abbrev judged_first : Result ⊤ Refusal → Bool → Result ⊤ Refusal
   judged_first v t = sound_first ws (refuse_if t refusal.NoRoom v)
 
   leaves_shown : (i : Input) → step_panel (step_leaves ws out i).answer ≡ shown (step_judged ws out i) (length (feed ledger i).records ∷ [])
@@ -129,27 +128,27 @@ place_shown ws out v a ws' left p h =
 
 module _ (l : Ledger) (packet : List ℕ) where
   module _ (c : Certificate) where
-    abbrev kept : Verdict
+    abbrev kept : Result ⊤ Refusal
     kept = kept_verdict (certificates_at l c.slot) (kind_in l.count c.kind) c.block
 
-    kept_shown_lem : (v : Verdict) → step_panel (taken_on v l c).answer ≡ shown v (length (taken_on v l c).records ∷ [])
+    kept_shown_lem : (v : Result ⊤ Refusal) → step_panel (taken_on v l c).answer ≡ shown v (length (taken_on v l c).records ∷ [])
     unfolding step_panel taken_on fed_with refused_with shown beside_it verdict_number
-    kept_shown_lem Fine = ap (λ (n : ℕ). record { number = 0; values = n ∷ [] }) (sym (length-reverse (run (state_of (keep_certificate l c) [])).records))
-    kept_shown_lem (Refused r) = refl
+    kept_shown_lem (Ok tt) = ap (λ (n : ℕ). record { number = 0; values = n ∷ [] }) (sym (length-reverse (run (state_of (keep_certificate l c) [])).records))
+    kept_shown_lem (Err r) = refl
 
     after_shown : (t : Bool)
         → step_panel (whenever (not t) (λ _. taken l c) (refused_with l refusal.BadLength)).answer
-        ≡ shown (else_then (refuse_if t refusal.BadLength Fine) kept) (length (whenever (not t) (λ _. taken l c) (refused_with l refusal.BadLength)).records ∷ [])
+        ≡ shown (else_then (refuse_if t refusal.BadLength (Ok tt)) kept) (length (whenever (not t) (λ _. taken l c) (refused_with l refusal.BadLength)).records ∷ [])
     unfolding whenever refuse_if refused_with step_panel shown beside_it verdict_number else_then taken
     after_shown true = refl
     after_shown false = kept_shown_lem kept
 
-    judged_shown : (n : ℕ) (v : Verdict)
+    judged_shown : (n : ℕ) (v : Result ⊤ Refusal)
         → step_panel (taken_from l packet (judged v c n)).answer
         ≡ shown (else_then (else_then v (nothing_after packet n)) kept) (length (taken_from l packet (judged v c n)).records ∷ [])
     unfolding taken_from judged else_then nothing_after refused_with step_panel shown beside_it verdict_number
-    judged_shown n Fine = after_shown (ltb n (length packet))
-    judged_shown n (Refused r) = refl
+    judged_shown n (Ok tt) = after_shown (ltb n (length packet))
+    judged_shown n (Err r) = refl
 
   found_shown : (x : Found)
       → step_panel (taken_from l packet (one_of (table_of l) x)).answer
@@ -182,17 +181,17 @@ take_shown ws out packet a ws' left h = ap step_panel h.answered ∙ take_leaves
 -- ---- the tray
 
 -- A test of a tray, and what is found after it.
-test_shown : (b : Bool) (l : Ledger) (r : Refusal) (n : ℕ) (f : Unit {0} → Tray) (v : Verdict) → step_panel (f tt).answer ≡ shown v (n ∷ [])
+test_shown : (b : Bool) (l : Ledger) (r : Refusal) (n : ℕ) (f : Unit {0} → Tray) (v : Result ⊤ Refusal) → step_panel (f tt).answer ≡ shown v (n ∷ [])
     → step_panel (whenever b f (tray_refused l r)).answer ≡ shown (refuse_if (not b) r v) (n ∷ [])
 unfolding whenever refuse_if tray_refused step_panel shown beside_it verdict_number
 test_shown true l r n f v e = e
 test_shown false l r n f v e = refl
 
 -- 9, then 12, of a run of votes.
-abbrev room_then_part : List ℕ → List ℕ → List ℕ → Verdict
+abbrev room_then_part : List ℕ → List ℕ → List ℕ → Result ⊤ Refusal
 room_then_part out votes places =
     refuse_if (not (leb outbox_words (length out) && leb (whole_votes votes) (length places))) refusal.NoRoom
-    (refuse_if (not (eqb (length votes % 4) 0)) refusal.BadLength Fine)
+    (refuse_if (not (eqb (length votes % 4) 0)) refusal.BadLength (Ok tt))
 
 tray_tested : (l : Ledger) (out votes places : List ℕ)
     → step_panel (tray l (length out) (length places) votes).answer
@@ -201,8 +200,8 @@ unfolding tray tray_served step_panel shown beside_it verdict_number
 tray_tested l out votes places =
     let n : ℕ = length (serve l (votes_in votes)).records in
     test_shown (well_formed l) l refusal.BadRecord n _ (room_then_part out votes places)
-    (test_shown (leb outbox_words (length out) && leb (whole_votes votes) (length places)) l refusal.NoRoom n _ (refuse_if (not (eqb (length votes % 4) 0)) refusal.BadLength Fine)
-    (test_shown (eqb (length votes % 4) 0) l refusal.BadLength n _ Fine refl))
+    (test_shown (leb outbox_words (length out) && leb (whole_votes votes) (length places)) l refusal.NoRoom n _ (refuse_if (not (eqb (length votes % 4) 0)) refusal.BadLength (Ok tt))
+    (test_shown (eqb (length votes % 4) 0) l refusal.BadLength n _ (Ok tt) refl))
 
 tray_leaves_shown : (ws out votes places : List ℕ)
     → step_panel (tray_leaves ws out votes places).answer ≡ shown (tray_judged ws out votes places) (length (serve (ledger_of ws) (votes_in votes)).records ∷ [])
@@ -219,17 +218,17 @@ tray_shown ws out votes places a ws' left answers h = ap step_panel h.answered �
 
 -- ---- the writers
 
-pub wrote_shown : (v : Verdict) (bytes : List ℕ) → write_panel (wrote_on v bytes).answer ≡ shown v (length bytes ∷ [])
+pub wrote_shown : (v : Result ⊤ Refusal) (bytes : List ℕ) → write_panel (wrote_on v bytes).answer ≡ shown v (length bytes ∷ [])
 unfolding write_panel wrote_on shown beside_it verdict_number
-wrote_shown Fine bytes = refl
-wrote_shown (Refused r) bytes = refl
+wrote_shown (Ok tt) bytes = refl
+wrote_shown (Err r) bytes = refl
 
-unsound_shown : (n : ℕ) → write_panel unsound.answer ≡ shown (Refused refusal.BadRecord) (n ∷ [])
+unsound_shown : (n : ℕ) → write_panel unsound.answer ≡ shown (Err refusal.BadRecord) (n ∷ [])
 unfolding write_panel unsound shown beside_it verdict_number
 unsound_shown n = refl
 
 -- A writer on words: 17 first, then what it does on their ledger.
-on_words : (ws : List ℕ) (w : Wrote) (v : Verdict) (bytes : List ℕ) → (sound_words ws ≡ true → w ≡ wrote_on v bytes) → (sound_words ws ≡ false → w ≡ unsound)
+on_words : (ws : List ℕ) (w : Wrote) (v : Result ⊤ Refusal) (bytes : List ℕ) → (sound_words ws ≡ true → w ≡ wrote_on v bytes) → (sound_words ws ≡ false → w ≡ unsound)
     → write_panel w.answer ≡ shown (sound_first ws v) (length bytes ∷ [])
 unfolding sound_first refuse_if
 on_words ws w v bytes f g =

@@ -1,4 +1,5 @@
 -- Watchers at the face. Assumes nothing.
+use Rattle.std.specs.Prelude.{⊤, Result, Ok, Err}
 use mathlib.Core.Path.{◌≡◌, refl, sym, ap, ◌∙◌}
 use mathlib.Core.Bool.{Bool, true, false, not, ◌&&◌}
 use mathlib.Core.List.{List, [], ◌∷◌, ◌++◌, append-nil}
@@ -14,10 +15,6 @@ use Rattle.rulebook.specs.declared.Place.TheVariants as place
 use Rattle.rulebook.specs.declared.Refusal.{Refusal}
 use Rattle.rulebook.specs.declared.Refusal.TheVariants as refusal
 use Rattle.rulebook.specs.declared.Slot.{Slot}
-use Rattle.rulebook.specs.declared.StartAnswer.TheVariants as start
-use Rattle.rulebook.specs.declared.StepAnswer.{StepAnswer}
-use Rattle.rulebook.specs.declared.Verdict.{Verdict}
-use Rattle.rulebook.specs.declared.Verdict.TheVariants.{Fine, Refused}
 use Rattle.rulebook.specs.declared.Vote.{Vote}
 use Rattle.rulebook.specs.Tools.{whenever}
 use Rattle.rulebook.specs.PaperNumbers.{Panel, kind_in, refusal_number, verdict_number, step_panel}
@@ -61,18 +58,18 @@ unfolding is_watcher fresh
 watches_fresh stakes genesis = eq-eqb (length stakes) (length stakes) refl
 
 -- Where a start is answered 0, the words are a fresh ledger's.
-left_watches : (v : Verdict) (ws stakes : List ℕ) (genesis : ℕ) (left : List ℕ) → start.Started ≡ start_answer v → left ≡ start_left v ws stakes (length stakes) genesis
-    → (v ≡ Fine → Sound (fresh stakes (length stakes) genesis)) → is_watcher (ledger_of left) ≡ true
+left_watches : (v : Result ⊤ Refusal) (ws stakes : List ℕ) (genesis : ℕ) (left : List ℕ) → Ok tt ≡ start_answer v → left ≡ start_left v ws stakes (length stakes) genesis
+    → (v ≡ Ok tt → Sound (fresh stakes (length stakes) genesis)) → is_watcher (ledger_of left) ≡ true
 unfolding start_answer start_left
-left_watches Fine ws stakes genesis left e w h =
+left_watches (Ok tt) ws stakes genesis left e w h =
     ap (λ (x : List ℕ). is_watcher (ledger_of x)) w ∙ ap is_watcher (spelled_back (fresh stakes (length stakes) genesis) (h refl)) ∙ watches_fresh stakes genesis
-left_watches (Refused r) ws stakes genesis left e w h = let z : ◌≡◌ {A = ℕ} 0 1 = cc in absurd (omega arith)
+left_watches (Err r) ws stakes genesis left e w h = let z : ◌≡◌ {A = ℕ} 0 1 = cc in absurd (omega arith)
 
 pub face_watches : FaceWatches
 unfolding watch_judged
 face_watches ws stakes genesis left h =
     let v = watch_judged ws stakes genesis in
-    let e : start.Started ≡ start_answer v = start_done (start_answer v) (sym h.numbered) in
+    let e : Ok tt ≡ start_answer v = start_done (start_answer v) (sym h.numbered) in
     record {
       sound = watch_leaves_sound ws stakes genesis left (record { answered = e; words = h.words });
       watcher = left_watches v ws stakes genesis left e h.words
@@ -97,7 +94,7 @@ face_timeout_four ws out slot number made ws' left w h =
 -- ---- "A watcher has no own number, so 6 is never given."
 
 -- A test before which 6 is not due.
-refuse_not_six : (b : Bool) (r : Refusal) (v : Verdict) → ¬ (refusal_number r ≡ 6) → ¬ (verdict_number v ≡ 6) → ¬ (verdict_number (refuse_if b r v) ≡ 6)
+refuse_not_six : (b : Bool) (r : Refusal) (v : Result ⊤ Refusal) → ¬ (refusal_number r ≡ 6) → ¬ (verdict_number v ≡ 6) → ¬ (verdict_number (refuse_if b r v) ≡ 6)
 unfolding refuse_if verdict_number
 refuse_not_six true r v h k = h
 refuse_not_six false r v h k = k
@@ -109,7 +106,7 @@ place_not_six place.Same e = omega (arith, e)
 place_not_six place.Taken e = omega (arith, e)
 
 -- A number that is in the table is not the one after the last.
-named_not_six : (count own n : ℕ) (v : Verdict) → own ≡ count → ¬ (verdict_number v ≡ 6)
+named_not_six : (count own n : ℕ) (v : Result ⊤ Refusal) → own ≡ count → ¬ (verdict_number v ≡ 6)
     → ¬ (verdict_number (refuse_if (leb count n) refusal.BadNode (refuse_if (eqb n own) refusal.OwnName v)) ≡ 6)
 unfolding refuse_if verdict_number refusal_number
 named_not_six count own n v e k =
@@ -159,7 +156,7 @@ spelled_silent n (r ∷ rs) rest e (suc j) h =
     ap (λ (i : ℕ). let k = get_or front i 0 in leb 1 k && leb k 5) at ∙ spelled_silent n rs rest (none_told (tells_vote r) _ (as_votes n rs) e).1 j (omega (arith, h))
 
 -- What a call leaves in an outbox tells of no vote, as far as its own count of records goes.
-abbrev NeverVotes : StepAnswer → List Record → Type 0
+abbrev NeverVotes : Result ℕ Refusal → List Record → Type 0
 NeverVotes a rs = (rest : List ℕ) (made : ℕ) → Beside made (step_panel a).values → NoVoteTold made (spelled rs ++ rest)
 
 abbrev Unvoting : Fed → Type 0
@@ -181,15 +178,15 @@ module _ (l : Ledger) (s : Sound l) (w : is_watcher l ≡ true) where
   unfolding life
   served_none c = ap (as_votes 0) (sym (append-nil (served l c).records)) ∙ life_silent 0 (c ∷ []) l s w
 
-  fed_on_unvoting : (v : Verdict) (i : Input) → as_votes 0 (fed_on v l i).records ≡ [] → Unvoting (fed_on v l i)
+  fed_on_unvoting : (v : Result ⊤ Refusal) (i : Input) → as_votes 0 (fed_on v l i).records ≡ [] → Unvoting (fed_on v l i)
   unfolding fed_on
-  fed_on_unvoting Fine i e = fed_unvoting 0 _ e
-  fed_on_unvoting (Refused r) i e = refused_unvoting l r
+  fed_on_unvoting (Ok tt) i e = fed_unvoting 0 _ e
+  fed_on_unvoting (Err r) i e = refused_unvoting l r
 
-  taken_on_unvoting : (v : Verdict) (c : Certificate) → as_votes 0 (taken_on v l c).records ≡ [] → Unvoting (taken_on v l c)
+  taken_on_unvoting : (v : Result ⊤ Refusal) (c : Certificate) → as_votes 0 (taken_on v l c).records ≡ [] → Unvoting (taken_on v l c)
   unfolding taken_on
-  taken_on_unvoting Fine c e = fed_unvoting 0 _ e
-  taken_on_unvoting (Refused r) c e = refused_unvoting l r
+  taken_on_unvoting (Ok tt) c e = fed_unvoting 0 _ e
+  taken_on_unvoting (Err r) c e = refused_unvoting l r
 
   step_unvoting : (room : ℕ) (i : Input) → Unvoting (step l room i)
   unfolding step feed served

@@ -1,9 +1,8 @@
 -- The tally card, over the contracts: what the question for it is answered, on the panel and at the face; a card that disagrees with the
 -- recount is 17 wherever a node's record is lent; a refusal leaves every card as found.
-use Rattle.std.specs.Prelude.{◌≡◌, true, not, List, [], ◌∷◌, ℕ, ◌≤◌, length}
+use Rattle.std.specs.Prelude.{◌≡◌, true, not, List, [], ◌∷◌, ℕ, ◌≤◌, length, Result, Ok}
 use Rattle.rulebook.specs.declared.Input.{Input}
 use Rattle.rulebook.specs.declared.Refusal.TheVariants as refusal
-use Rattle.rulebook.specs.declared.Verdict.TheVariants.{Fine}
 use Rattle.rulebook.specs.PaperNumbers.{Panel, step_panel}
 use Rattle.rulebook.specs.Weights.{last_slot, slot_ok}
 use Rattle.rulebook.specs.Ledger.{Ledger, row_at}
@@ -13,7 +12,6 @@ use Rattle.record.specs.Layout.{ledger_of}
 use Rattle.soundness.specs.Sound.{sound_words}
 use Rattle.lines.specs.Answers.{answer_line, five_values, check_line}
 use Rattle.writers.specs.Writing.{certificate_on, proof_on}
-use Rattle.cards.specs.declared.CardAnswer.{CardAnswer}
 use Rattle.cards.specs.Asked.{card_on, card_values, card_panel}
 use Rattle.rulebook.specs.declared.Block.{Block}
 use Rattle.announcing.specs.Asked.{announced_on}
@@ -28,19 +26,21 @@ use Rattle.same_parents.specs.Parents.{parents_on}
 use Rattle.answers.specs.Face.{Stepped, Taken, Trayed, Wrote, CardRead, FinalRead, ArmedRead, AnnounceRead, SplitRead, VotesRead, BlocksRead, MarksRead, HeadRead, WeightsRead, Compared, LinesRead, CertificatesRead}
 use Rattle.promises.specs.Panels.{shown, sound_first}
 use Rattle.promises.specs.Printed.{Sends}
+use Rattle.rulebook.specs.declared.Refusal.{Refusal}
+use Rattle.rulebook.specs.declared.Tally.{Tally}
 
 -- ---- what is answered
 
 -- 17, then 3; else the five numbers of a recount of the slot's stored votes, zeros beside a refusal.
 abbrev pub CardShown : Type 0
 CardShown =
-    (ws : List ℕ) (s : ℕ) (a : CardAnswer) → a ≡ card_on ws s
-    → card_panel a ≡ shown (sound_first ws (refuse_if (not (slot_ok s)) refusal.BadSlot Fine)) (card_values (recount (ledger_of ws) s))
+    (ws : List ℕ) (s : ℕ) (a : Result Tally Refusal) → a ≡ card_on ws s
+    → card_panel a ≡ shown (sound_first ws (refuse_if (not (slot_ok s)) refusal.BadSlot (Ok tt))) (card_values (recount (ledger_of ws) s))
 
 -- qr_card: five zeros beside a number that is not 0; it is lent nothing else that it could change.
 abbrev pub FaceCardRefused : Type 0
 FaceCardRefused =
-    (answer : CardAnswer) (number : ℕ) (values : List ℕ) → CardRead answer number values → ¬ (number ≡ 0) → values ≡ 0 ∷ 0 ∷ 0 ∷ 0 ∷ 0 ∷ []
+    (answer : Result Tally Refusal) (number : ℕ) (values : List ℕ) → CardRead answer number values → ¬ (number ≡ 0) → values ≡ 0 ∷ 0 ∷ 0 ∷ 0 ∷ 0 ∷ []
 
 -- "0 SKIP FINAL SKIPCERT BLOCK WEIGHT", or the number alone.
 unfoldable pub card_line : Panel → List ℕ

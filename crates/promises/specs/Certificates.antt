@@ -1,6 +1,5 @@
 -- Certificates from other firms, at the face: the checker's refusals, and 17 for what a record may not keep.
-use Rattle.std.specs.Prelude.{◌≡◌, true, List, ℕ, ◌≤◌, ◌<◌, length}
-use Rattle.rulebook.specs.declared.Verdict.TheVariants.{Fine}
+use Rattle.std.specs.Prelude.{◌≡◌, true, List, ℕ, ◌≤◌, ◌<◌, length, Ok}
 use Rattle.rulebook.specs.Certificates.{Certificate}
 use Rattle.rulebook.specs.Weights.{slot_ok}
 use Rattle.rulebook.specs.Ledger.{Ledger, table_of, kept_at, is_kept}
@@ -33,7 +32,7 @@ certificate_in l s i = masked_by l (place_kind i) s (kept_at l s i).block (kept_
 
 -- A kept certificate that the checker's tests refuse with the record's stakes, or one that repeats kind, slot and block of an earlier place.
 pub data BadlyKept (l : Ledger) : Type 0 where
-  refused_one : (s i : ℕ) → slot_ok s ≡ true → is_kept (kept_at l s i) ≡ true → ¬ (judge (table_of l) (certificate_in l s i) ≡ Fine) → BadlyKept l
+  refused_one : (s i : ℕ) → slot_ok s ≡ true → is_kept (kept_at l s i) ≡ true → ¬ (judge (table_of l) (certificate_in l s i) ≡ Ok tt) → BadlyKept l
   repeated : (s i j : ℕ) → slot_ok s ≡ true → i < j → is_kept (kept_at l s j) ≡ true → place_kind i ≡ place_kind j
       → (kept_at l s i).block ≡ (kept_at l s j).block → BadlyKept l
 

@@ -1,9 +1,8 @@
 -- "Tables of up to 64 nodes write and read only the old kinds; larger tables only the new, and the other family is 4": at the face.
-use Rattle.std.specs.Prelude.{◌≡◌, true, List, ℕ, ◌≤◌, ◌<◌, length, get_or}
+use Rattle.std.specs.Prelude.{◌≡◌, true, List, ℕ, ◌≤◌, ◌<◌, length, get_or, Result}
 use Rattle.rulebook.specs.Certificates.{Certificate}
 use Rattle.rulebook.specs.Certificates as found
 use Rattle.rulebook.specs.declared.CertificateKind.{CertificateKind}
-use Rattle.rulebook.specs.declared.CheckAnswer.{CheckAnswer}
 use Rattle.rulebook.specs.Weights.{stakes_fit}
 use Rattle.rulebook.specs.PaperNumbers.{certificate_kind, certificate_number, kind_in, number_in}
 use Rattle.rulebook.specs.Packets.{certificate_at}
@@ -13,6 +12,8 @@ use Rattle.record.specs.Layout.{ledger_of}
 use Rattle.soundness.specs.Sound.{sound_words}
 use Rattle.writers.specs.Writing.{certificate_on}
 use Rattle.answers.specs.Face.{Wrote, Checked}
+use Rattle.rulebook.specs.declared.Accepted.{Accepted}
+use Rattle.rulebook.specs.declared.Refusal.{Refusal}
 
 -- A kind's number is of the family of a table of so many nodes.
 pub record OfTable (count kind : ℕ) : Type 0 where
@@ -28,12 +29,12 @@ pub record ReadOwn (stakes packet values : List ℕ) : Type 0 where
   pub told : get_or values 0 0 ≡ first.kind
 
 -- "read only": a check that answers 0.
-abbrev pub ReadsOwn : (List ℕ → List ℕ → CheckAnswer) → Type 0
+abbrev pub ReadsOwn : (List ℕ → List ℕ → Result Accepted Refusal) → Type 0
 ReadsOwn check =
     (stakes packet values : List ℕ) (missing : ℕ) → Checked (length stakes) (check stakes packet) 0 values missing → ReadOwn stakes packet values
 
 -- "the other family is 4": once the table fits and the numbers are read.
-abbrev pub RefusesOther : (List ℕ → List ℕ → CheckAnswer) → Type 0
+abbrev pub RefusesOther : (List ℕ → List ℕ → Result Accepted Refusal) → Type 0
 RefusesOther check =
     (stakes packet : List ℕ) (c : Certificate) (next number : ℕ) (values : List ℕ) (missing : ℕ) → stakes_fit stakes (length stakes) ≡ true
     → certificate_at packet 0 ≡ found.Whole c next → ¬ OfTable (length stakes) c.kind

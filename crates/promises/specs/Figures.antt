@@ -1,10 +1,8 @@
 -- "No certificate is held or refused that was not before": of the stored votes; and what stands beside 15, over the contracts.
-use Rattle.std.specs.Prelude.{◌≡◌, not, ◌||◌, List, ℕ, ◌+◌, ◌*◌, ◌≤◌, ◌<◌, length, eqb, leb}
+use Rattle.std.specs.Prelude.{◌≡◌, not, ◌||◌, List, ℕ, ◌+◌, ◌*◌, ◌≤◌, ◌<◌, length, eqb, leb, Result, Ok}
 use Rattle.rulebook.specs.Certificates.{Certificate}
 use Rattle.rulebook.specs.declared.CertificateKind.{CertificateKind}
-use Rattle.rulebook.specs.declared.CheckAnswer.{CheckAnswer}
 use Rattle.rulebook.specs.Certificates as found
-use Rattle.rulebook.specs.declared.Verdict.TheVariants.{Fine}
 use Rattle.rulebook.specs.Tools.{choose}
 use Rattle.rulebook.specs.Weights.{total_to, slot_ok}
 use Rattle.rulebook.specs.PaperNumbers.{kind_in, verdict_number, check_number, check_missing}
@@ -13,6 +11,8 @@ use Rattle.rulebook.specs.Pool.{weigh, signers_of, fifths_of, reached, kept_as, 
 use Rattle.rulebook.specs.Packets.{certificate_at}
 use Rattle.rulebook.specs.Checker.{is_other_kind, block_misfits, bad_signers, signed_weight, judge, check_certificate, check_proof}
 use Rattle.answers.specs.Face.{Checked}
+use Rattle.rulebook.specs.declared.Accepted.{Accepted}
+use Rattle.rulebook.specs.declared.Refusal.{Refusal}
 
 -- x is the least further weight with which w would reach k fifths of t.
 pub record Least (k t w x : ℕ) : Type 0 where
@@ -51,7 +51,7 @@ pub data FirstOf (packet : List ℕ) (c : Certificate) : Type 0 where
 
 pub data OneOf (stakes packet : List ℕ) (c : Certificate) : Type 0 where
   the_first : FirstOf packet c → OneOf stakes packet c
-  the_second : (d : Certificate) (next end : ℕ) → certificate_at packet 0 ≡ found.Whole d next → judge stakes d ≡ Fine → certificate_at packet next ≡ found.Whole c end
+  the_second : (d : Certificate) (next end : ℕ) → certificate_at packet 0 ≡ found.Whole d next → judge stakes d ≡ Ok tt → certificate_at packet next ≡ found.Whole c end
       → OneOf stakes packet c
 
 -- A certificate's weight is below its kind's threshold, and x is what is missing.
@@ -68,12 +68,12 @@ pub record FigureTold (stakes : List ℕ) (Judged : Certificate → Type 0) (num
 -- The checkers' code, over its contract.
 abbrev pub CertificateFigure : Type 0
 CertificateFigure =
-    (stakes packet : List ℕ) (a : CheckAnswer) → a ≡ check_certificate stakes packet
+    (stakes packet : List ℕ) (a : Result Accepted Refusal) → a ≡ check_certificate stakes packet
     → FigureTold stakes (FirstOf packet) (check_number a) (check_missing a)
 
 abbrev pub ProofFigure : Type 0
 ProofFigure =
-    (stakes packet : List ℕ) (a : CheckAnswer) → a ≡ check_proof stakes packet
+    (stakes packet : List ℕ) (a : Result Accepted Refusal) → a ≡ check_proof stakes packet
     → FigureTold stakes (OneOf stakes packet) (check_number a) (check_missing a)
 
 -- qr_check_certificate, qr_check_proof.

@@ -1,45 +1,43 @@
 -- Proofs in pieces, in the paper's numbers and at the face: what each call shows and leaves, and what a run of calls of the face answers.
-use Rattle.std.specs.Prelude.{◌≡◌, true, not, ◌&&◌, List, [], ◌∷◌, ◌++◌, map, ℕ, length}
-use Rattle.rulebook.specs.declared.CheckAnswer.{CheckAnswer}
+use Rattle.std.specs.Prelude.{◌≡◌, true, not, ◌&&◌, List, [], ◌∷◌, ◌++◌, map, ℕ, length, ⊤, Result, Ok}
 use Rattle.rulebook.specs.declared.Refusal.TheVariants as refusal
-use Rattle.rulebook.specs.declared.Verdict.{Verdict}
-use Rattle.rulebook.specs.declared.Verdict.TheVariants.{Fine}
 use Rattle.rulebook.specs.PaperNumbers.{check_number, check_values, check_missing, check_panel}
 use Rattle.rulebook.specs.Weights.{stakes_fit}
 use Rattle.rulebook.specs.Ledger.{none}
 use Rattle.rulebook.specs.Inputs.{refuse_if}
 use Rattle.rulebook.specs.Packets.{certificate_at}
 use Rattle.rulebook.specs.Checker.{check_proof}
-use Rattle.pieces.specs.declared.PieceAnswer.{PieceAnswer}
 use Rattle.pieces.specs.Pieces.{Taken, nothing, since, piece_answer, end_answer, piece_panel, Asked, piece, end, after_call, after_calls, Piece, calls, packet}
 use Rattle.pieces.specs.State.{mark, nodes, table, front, is_ready, is_whole, PieceOf, EndOf, words_of, bytes_of}
 use Rattle.pieces.specs.Promises.{zero_words, zero_bytes}
 use Rattle.answers.specs.Face.{Checked, Pieced, Ended}
 use Rattle.promises.specs.Panels.{shown, proof_checked, told_of}
+use Rattle.rulebook.specs.declared.Accepted.{Accepted}
+use Rattle.rulebook.specs.declared.Refusal.{Refusal}
 
 -- ---- numbers and values
 
 -- 17; then 1 for the first piece's table; a later table is not looked at.
-unfoldable pub piece_judged : List ℕ → List ℕ → List ℕ → Verdict
+unfoldable pub piece_judged : List ℕ → List ℕ → List ℕ → Result ⊤ Refusal
 piece_judged ws bs stakes =
     refuse_if (not (is_ready ws bs)) refusal.BadRecord
-    (refuse_if (none (mark ws) && not (stakes_fit stakes (length stakes))) refusal.BadSizes Fine)
+    (refuse_if (none (mark ws) && not (stakes_fit stakes (length stakes))) refusal.BadSizes (Ok tt))
 
 -- A piece has no values beside its number.
 abbrev pub PieceShown : Type 0
 PieceShown =
-    (ws bs stakes bytes : List ℕ) (r : PieceAnswer) (ws' bs' : List ℕ) → PieceOf ws bs stakes bytes r ws' bs'
+    (ws bs stakes bytes : List ℕ) (r : Result ⊤ Refusal) (ws' bs' : List ℕ) → PieceOf ws bs stakes bytes r ws' bs'
     → piece_panel r ≡ shown (piece_judged ws bs stakes) []
 
 -- 17; 12 with no piece taken before; then what is due to a proof, in its order.
-unfoldable pub end_judged : List ℕ → List ℕ → Verdict
+unfoldable pub end_judged : List ℕ → List ℕ → Result ⊤ Refusal
 end_judged ws bs =
     refuse_if (not (is_whole ws bs)) refusal.BadRecord (refuse_if (none (mark ws)) refusal.BadLength (proof_checked (table ws) (front ws bs)))
 
 -- The end has the values of the packet's first certificate, or zeros.
 abbrev pub EndShown : Type 0
 EndShown =
-    (ws bs : List ℕ) (r : CheckAnswer) (ws' bs' : List ℕ) → EndOf ws bs r ws' bs'
+    (ws bs : List ℕ) (r : Result Accepted Refusal) (ws' bs' : List ℕ) → EndOf ws bs r ws' bs'
     → check_panel (nodes ws) r ≡ shown (end_judged ws bs) (told_of (table ws) (certificate_at (front ws bs) 0))
 
 -- ---- what the face leaves
@@ -84,7 +82,7 @@ pub data FaceCalls : List ℕ → List ℕ → List Asked → List Reply → Lis
       → FaceCalls between kept asks replies ws' bs' → FaceCalls ws bs (a ∷ asks) (r ∷ replies) ws' bs'
 
 -- The paper's numbers of a check's answer, under a table of so many nodes.
-abbrev pub check_reply : ℕ → CheckAnswer → Reply
+abbrev pub check_reply : ℕ → Result Accepted Refusal → Reply
 check_reply count a = record { number = check_number a; values = check_values count a; missing = check_missing a }
 
 -- How many nodes the table has that was taken.

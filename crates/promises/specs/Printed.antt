@@ -1,9 +1,7 @@
 -- What the panel prints is the answer: where a maker of lines put the number and the values that the face's contract allows into a page
 -- and left room there, the bytes up to its end, which are what is sent, are the line for that answer.
-use Rattle.std.specs.Prelude.{◌≡◌, List, [], ◌∷◌, ℕ, ◌<◌, length, take}
-use Rattle.rulebook.specs.declared.CheckAnswer.{CheckAnswer}
+use Rattle.std.specs.Prelude.{◌≡◌, List, [], ◌∷◌, ℕ, ◌<◌, length, take, Result}
 use Rattle.rulebook.specs.declared.Input.{Input}
-use Rattle.rulebook.specs.declared.ReadAnswer.{ReadAnswer}
 use Rattle.rulebook.specs.PaperNumbers.{start_panel, step_panel, write_panel, read_panel, check_panel, check_missing}
 use Rattle.rulebook.specs.Writers as written
 use Rattle.lines.specs.Put.{Put}
@@ -14,6 +12,9 @@ use Rattle.taking.specs.Taking.{take_leaves}
 use Rattle.tray_rules.specs.Trays.{whole_votes}
 use Rattle.trays.specs.Lent.{tray_leaves}
 use Rattle.answers.specs.Face.{Started, Watched, Stepped, Taken, Trayed, Wrote, MessageRead, Checked}
+use Rattle.rulebook.specs.declared.Accepted.{Accepted}
+use Rattle.rulebook.specs.declared.Refusal.{Refusal}
+use Rattle.rulebook.specs.declared.Vote.{Vote}
 
 -- A page in which one text was put, and the other is what is sent of it.
 abbrev pub Sends : List ℕ → List ℕ → Type 0
@@ -59,11 +60,11 @@ PacketPrinted =
 -- unpack.
 abbrev pub MessagePrinted : Type 0
 MessagePrinted =
-    (answer : ReadAnswer) (number : ℕ) (values : List ℕ) → MessageRead answer number values
+    (answer : Result Vote Refusal) (number : ℕ) (values : List ℕ) → MessageRead answer number values
     → Sends (message_line (record { number = number; values = values })) (message_line (read_panel answer))
 
 -- check and checkproof.
 abbrev pub CheckPrinted : Type 0
 CheckPrinted =
-    (count : ℕ) (answer : CheckAnswer) (number : ℕ) (values : List ℕ) (missing : ℕ) → Checked count answer number values missing
+    (count : ℕ) (answer : Result Accepted Refusal) (number : ℕ) (values : List ℕ) (missing : ℕ) → Checked count answer number values missing
     → Sends (check_line (record { number = number; values = values }) missing) (check_line (check_panel count answer) (check_missing answer))

@@ -1,15 +1,10 @@
 -- "A refusal leaves the node, the outbox and every lent buffer unchanged": for each public operation and each function of the face. What is
 -- lent without `mut` (start's stakes, a writer's record, a checker's stakes and packet) no operation can change: for the two checkers there is
 -- nothing else.
-use Rattle.std.specs.Prelude.{◌≡◌, List, [], ◌∷◌, ℕ, length}
-use Rattle.rulebook.specs.declared.CheckAnswer.{CheckAnswer}
+use Rattle.std.specs.Prelude.{◌≡◌, List, [], ◌∷◌, ℕ, length, Result, Err}
 use Rattle.rulebook.specs.declared.Input.{Input}
-use Rattle.rulebook.specs.declared.ReadAnswer.{ReadAnswer}
 use Rattle.rulebook.specs.declared.Refusal.{Refusal}
-use Rattle.rulebook.specs.declared.StartAnswer.TheVariants as start
-use Rattle.rulebook.specs.declared.StepAnswer.TheVariants as step
 use Rattle.rulebook.specs.declared.Vote.{Vote}
-use Rattle.rulebook.specs.declared.WriteAnswer.TheVariants as write
 use Rattle.rulebook.specs.Writers.{Writes}
 use Rattle.rulebook.specs.Messages.{write_vote}
 use Rattle.starts.specs.Starting.{StartOf, WatchOf}
@@ -18,52 +13,53 @@ use Rattle.taking.specs.Taking.{TakeOf}
 use Rattle.trays.specs.Lent.{TrayOf}
 use Rattle.writers.specs.Writing.{certificate_on, proof_on}
 use Rattle.answers.specs.Face.{Started, Watched, Stepped, Taken, Trayed, Wrote, MessageRead, Checked}
+use Rattle.rulebook.specs.declared.Accepted.{Accepted}
 
 -- ---- the public operations
 
 -- A refused start leaves the record as found.
 abbrev pub StartRefused : Type 0
 StartRefused =
-    (ws stakes : List ℕ) (own genesis : ℕ) (r : Refusal) (left : List ℕ) → StartOf ws stakes own genesis (start.Refused r) left → left ≡ ws
+    (ws stakes : List ℕ) (own genesis : ℕ) (r : Refusal) (left : List ℕ) → StartOf ws stakes own genesis (Err r) left → left ≡ ws
 
 -- A refused start of a watcher likewise.
 abbrev pub WatchRefused : Type 0
 WatchRefused =
-    (ws stakes : List ℕ) (genesis : ℕ) (r : Refusal) (left : List ℕ) → WatchOf ws stakes genesis (start.Refused r) left → left ≡ ws
+    (ws stakes : List ℕ) (genesis : ℕ) (r : Refusal) (left : List ℕ) → WatchOf ws stakes genesis (Err r) left → left ≡ ws
 
 -- A refused vote, block, timeout or look leaves the record and the outbox as found.
 abbrev pub StepRefused : Type 0
 StepRefused =
-    (ws out : List ℕ) (i : Input) (r : Refusal) (ws' left : List ℕ) → StepOf ws out i (step.Refused r) ws' left → (ws' ≡ ws) × (left ≡ out)
+    (ws out : List ℕ) (i : Input) (r : Refusal) (ws' left : List ℕ) → StepOf ws out i (Err r) ws' left → (ws' ≡ ws) × (left ≡ out)
 
 -- A refused certificate from another firm leaves the record and the outbox as found.
 abbrev pub TakeRefused : Type 0
 TakeRefused =
-    (ws out packet : List ℕ) (r : Refusal) (ws' left : List ℕ) → TakeOf ws out packet (step.Refused r) ws' left → (ws' ≡ ws) × (left ≡ out)
+    (ws out packet : List ℕ) (r : Refusal) (ws' left : List ℕ) → TakeOf ws out packet (Err r) ws' left → (ws' ≡ ws) × (left ≡ out)
 
 -- A refused tray leaves the record, the outbox and the answer buffer as found.
 abbrev pub TrayRefused : Type 0
 TrayRefused =
-    (ws out votes places : List ℕ) (r : Refusal) (ws' left answers : List ℕ) → TrayOf ws out votes places (step.Refused r) ws' left answers
+    (ws out votes places : List ℕ) (r : Refusal) (ws' left answers : List ℕ) → TrayOf ws out votes places (Err r) ws' left answers
     → (ws' ≡ ws) × (left ≡ out) × (answers ≡ places)
 
 -- A refused certificate leaves the buffer as found.
 abbrev pub CertificateRefused : Type 0
 CertificateRefused =
     (ws buffer : List ℕ) (kind s b : ℕ) (r : Refusal) (after : List ℕ)
-    → Writes (certificate_on ws (length buffer) kind s b) buffer (write.Refused r) after → after ≡ buffer
+    → Writes (certificate_on ws (length buffer) kind s b) buffer (Err r) after → after ≡ buffer
 
 -- A refused proof likewise.
 abbrev pub ProofRefused : Type 0
 ProofRefused =
     (ws buffer : List ℕ) (s b : ℕ) (r : Refusal) (after : List ℕ)
-    → Writes (proof_on ws (length buffer) s b) buffer (write.Refused r) after → after ≡ buffer
+    → Writes (proof_on ws (length buffer) s b) buffer (Err r) after → after ≡ buffer
 
 -- A refused vote message likewise; the reader of messages is lent nothing that it could change.
 abbrev pub MessageRefused : Type 0
 MessageRefused =
     (count : ℕ) (v : Vote) (buffer : List ℕ) (r : Refusal) (after : List ℕ)
-    → Writes (write_vote count (length buffer) v) buffer (write.Refused r) after → after ≡ buffer
+    → Writes (write_vote count (length buffer) v) buffer (Err r) after → after ≡ buffer
 
 -- ---- the face: a number that is not 0, and zeros in the places lent for the values beside it
 
@@ -116,10 +112,10 @@ FaceMessageRefused =
 -- qr_read_vote: four zeros.
 abbrev pub FaceReadRefused : Type 0
 FaceReadRefused =
-    (answer : ReadAnswer) (number : ℕ) (values : List ℕ) → MessageRead answer number values → ¬ (number ≡ 0) → values ≡ 0 ∷ 0 ∷ 0 ∷ 0 ∷ []
+    (answer : Result Vote Refusal) (number : ℕ) (values : List ℕ) → MessageRead answer number values → ¬ (number ≡ 0) → values ≡ 0 ∷ 0 ∷ 0 ∷ 0 ∷ []
 
 -- qr_check_certificate, qr_check_proof: five zeros.
 abbrev pub FaceCheckRefused : Type 0
 FaceCheckRefused =
-    (count : ℕ) (answer : CheckAnswer) (number : ℕ) (values : List ℕ) (missing : ℕ) → Checked count answer number values missing → ¬ (number ≡ 0)
+    (count : ℕ) (answer : Result Accepted Refusal) (number : ℕ) (values : List ℕ) (missing : ℕ) → Checked count answer number values missing → ¬ (number ≡ 0)
     → values ≡ 0 ∷ 0 ∷ 0 ∷ 0 ∷ 0 ∷ []

@@ -1,9 +1,8 @@
 -- Which votes a firm's record lacks, of another record and of a packet, and which blocks two records keep with two parents, on the operations'
 -- contracts and at the face: the number and the value beside it, and what is left in the list.
-use Rattle.std.specs.Prelude.{◌≡◌, true, false, List, ℕ, ◌*◌, ◌≤◌, ◌<◌, length}
+use Rattle.std.specs.Prelude.{◌≡◌, true, false, List, ℕ, ◌*◌, ◌≤◌, ◌<◌, length, Ok, Err}
 use Rattle.rulebook.specs.declared.Accepted.{Accepted}
 use Rattle.rulebook.specs.declared.Refusal.{Refusal}
-use Rattle.rulebook.specs.declared.CheckAnswer.TheVariants as check
 use Rattle.rulebook.specs.PaperNumbers.{Panel, refusal_number}
 use Rattle.rulebook.specs.Writers.{over}
 use Rattle.rulebook.specs.Ledger.{is_watcher, table_of}
@@ -84,8 +83,8 @@ pub record FaceOneParent : Type 0 where
 -- A bad record is 17; then what the checker says of the packet under the record's stakes, with 0 beside; a refusal leaves the list as found.
 pub record PacketTold (ws packet list : List ℕ) (p : Panel) (left : List ℕ) : Type 0 where
   pub bad : sound_words ws ≡ false → (p ≡ shown_as 17 0) × (left ≡ list)
-  pub refused : sound_words ws ≡ true → (r : Refusal) → check_packet (table_of (ledger_of ws)) packet ≡ check.Refused r → (p ≡ shown_as (refusal_number r) 0) × (left ≡ list)
-  pub lines : sound_words ws ≡ true → (a : Accepted) → check_packet (table_of (ledger_of ws)) packet ≡ check.Accepted a → Listed (length (packet_lacks (ledger_of ws) packet)) (spell_lines (packet_lacks (ledger_of ws) packet)) list p left
+  pub refused : sound_words ws ≡ true → (r : Refusal) → check_packet (table_of (ledger_of ws)) packet ≡ Err r → (p ≡ shown_as (refusal_number r) 0) × (left ≡ list)
+  pub lines : sound_words ws ≡ true → (a : Accepted) → check_packet (table_of (ledger_of ws)) packet ≡ Ok a → Listed (length (packet_lacks (ledger_of ws) packet)) (spell_lines (packet_lacks (ledger_of ws) packet)) list p left
 
 -- On the contract.
 abbrev pub PacketShown : Type 0

@@ -1,12 +1,9 @@
 -- Watchers at the face: what one is refused with, and that it never votes.
-use Rattle.std.specs.Prelude.{◌≡◌, true, false, List, ℕ, ◌+◌, ◌*◌, ◌<◌, length, get_or, ltb}
+use Rattle.std.specs.Prelude.{◌≡◌, true, false, List, ℕ, ◌+◌, ◌*◌, ◌<◌, length, get_or, ltb, ⊤, Result, Err}
 use Rattle.rulebook.specs.declared.Input.{Input}
 use Rattle.rulebook.specs.declared.Input.TheVariants as input
 use Rattle.rulebook.specs.declared.Refusal.TheVariants as refusal
 use Rattle.rulebook.specs.declared.Slot.{Slot}
-use Rattle.rulebook.specs.declared.StepAnswer.{StepAnswer}
-use Rattle.rulebook.specs.declared.Verdict.{Verdict}
-use Rattle.rulebook.specs.declared.Verdict.TheVariants.{Refused}
 use Rattle.rulebook.specs.declared.Vote.{Vote}
 use Rattle.rulebook.specs.PaperNumbers.{verdict_number, step_panel}
 use Rattle.rulebook.specs.Ledger.{is_watcher}
@@ -19,6 +16,7 @@ use Rattle.node.specs.Stepping.{StepOf}
 use Rattle.watchers.specs.Watching.{tells_vote}
 use Rattle.answers.specs.Face.{vote_input, timeout_input, Watched, Stepped, Taken, Trayed}
 use Rattle.promises.specs.Panels.{sound_first}
+use Rattle.rulebook.specs.declared.Refusal.{Refusal}
 
 -- The words are a watcher's record.
 pub record Watches (ws : List ℕ) : Type 0 where
@@ -32,12 +30,12 @@ FaceWatches = (ws stakes : List ℕ) (genesis : ℕ) (left : List ℕ) → Watch
 -- ---- "Timeouts are refused with 4, right after 17 and 9."
 
 -- 17, 9, and then 4 whatever else is asked for.
-unfoldable pub four_at_once : List ℕ → List ℕ → Verdict
-four_at_once ws out = sound_first ws (refuse_if (ltb (length out) outbox_words) refusal.NoRoom (Refused refusal.BadKind))
+unfoldable pub four_at_once : List ℕ → List ℕ → Result ⊤ Refusal
+four_at_once ws out = sound_first ws (refuse_if (ltb (length out) outbox_words) refusal.NoRoom (Err refusal.BadKind))
 
 abbrev pub WatcherTimeoutFour : Type 0
 WatcherTimeoutFour =
-    (ws out : List ℕ) (s : Slot) (a : StepAnswer) (ws' left : List ℕ) → is_watcher (ledger_of ws) ≡ true → StepOf ws out (input.Timeout s) a ws' left
+    (ws out : List ℕ) (s : Slot) (a : Result ℕ Refusal) (ws' left : List ℕ) → is_watcher (ledger_of ws) ≡ true → StepOf ws out (input.Timeout s) a ws' left
     → (step_panel a).number ≡ verdict_number (four_at_once ws out)
 
 -- qr_timeout.
@@ -50,7 +48,7 @@ FaceTimeoutFour =
 
 abbrev pub NeverSix : Type 0
 NeverSix =
-    (ws out : List ℕ) (v : Vote) (a : StepAnswer) (ws' left : List ℕ) → is_watcher (ledger_of ws) ≡ true → StepOf ws out (input.Vote v) a ws' left
+    (ws out : List ℕ) (v : Vote) (a : Result ℕ Refusal) (ws' left : List ℕ) → is_watcher (ledger_of ws) ≡ true → StepOf ws out (input.Vote v) a ws' left
     → ¬ ((step_panel a).number ≡ 6)
 
 -- qr_vote.

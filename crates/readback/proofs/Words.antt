@@ -1,4 +1,5 @@
 -- Reading back on a node's words and lent bytes. Assumes nothing.
+use Rattle.std.specs.Prelude.{⊤, Result, Ok, Err}
 use mathlib.Core.Path.{◌≡◌, refl, sym, ap, ◌∙◌}
 use mathlib.Core.Bool.{Bool, true, false}
 use mathlib.Core.List.{List, [], ◌++◌}
@@ -8,13 +9,7 @@ use lib.ListN.{length, take, drop, length-append}
 use lib.Seq.{take-append_seam}
 use Rattle.rulebook.specs.declared.Accepted.{Accepted}
 use Rattle.rulebook.specs.declared.CertificateKind.{CertificateKind}
-use Rattle.rulebook.specs.declared.CheckAnswer.{CheckAnswer}
-use Rattle.rulebook.specs.declared.CheckAnswer.TheVariants as check
 use Rattle.rulebook.specs.declared.Refusal.{Refusal}
-use Rattle.rulebook.specs.declared.Verdict.{Verdict}
-use Rattle.rulebook.specs.declared.Verdict.TheVariants.{Fine, Refused}
-use Rattle.rulebook.specs.declared.WriteAnswer.{WriteAnswer}
-use Rattle.rulebook.specs.declared.WriteAnswer.TheVariants as write
 use Rattle.rulebook.specs.Ledger.{Ledger}
 use Rattle.rulebook.specs.Packets.{certificate_bytes}
 use Rattle.rulebook.specs.Checker.{check_certificate, check_proof}
@@ -33,15 +28,15 @@ use Rattle.readback.specs.ReadBack.{read_as, ReadsBack}
 -- ---- a writer's refusal, and the bytes that it wrote
 
 -- Words that are not sound are not written of.
-not_unsound : {X : Type 0} (wrote : Wrote) (n : ℕ) → wrote ≡ unsound → wrote.answer ≡ write.Written n → X
+not_unsound : {X : Type 0} (wrote : Wrote) (n : ℕ) → wrote ≡ unsound → wrote.answer ≡ Ok n → X
 unfolding unsound
 not_unsound wrote n e f = let z : ◌≡◌ {A = ℕ} 0 1 = cc in absurd (omega arith)
 
 -- As many bytes were written as are answered.
-wrote_length : (v : Verdict) (bytes : List ℕ) (n : ℕ) → (wrote_on v bytes).answer ≡ write.Written n → n ≡ length (wrote_on v bytes).bytes
+wrote_length : (v : Result ⊤ Refusal) (bytes : List ℕ) (n : ℕ) → (wrote_on v bytes).answer ≡ Ok n → n ≡ length (wrote_on v bytes).bytes
 unfolding wrote_on
-wrote_length Fine bytes n e = cc
-wrote_length (Refused r) bytes n e = let z : ◌≡◌ {A = ℕ} 0 1 = cc in absurd (omega arith)
+wrote_length (Ok tt) bytes n e = cc
+wrote_length (Err r) bytes n e = let z : ◌≡◌ {A = ℕ} 0 1 = cc in absurd (omega arith)
 
 -- The bytes that a writer laid are a packet of their own.
 pub packet_is : (bytes buffer after : List ℕ) (n : ℕ) → after ≡ over bytes buffer → n ≡ length bytes → take (n - 0) after ≡ bytes
@@ -55,24 +50,24 @@ unfolding over
 packet_inside bytes buffer after n e f = omega (arith, ap length e, length-append bytes (drop (length bytes) buffer))
 
 -- A refusal is handed on.
-pub refused_back : {wrote : Wrote} (told : Accepted) {buffer after : List ℕ} {a : WriteAnswer} (r : Refusal) → Writes wrote buffer a after
-    → a ≡ write.Refused r → ReadsBack wrote told buffer (check.Refused r) after
+pub refused_back : {wrote : Wrote} (told : Accepted) {buffer after : List ℕ} {a : Result ℕ Refusal} (r : Refusal) → Writes wrote buffer a after
+    → a ≡ Err r → ReadsBack wrote told buffer (Err r) after
 unfolding read_as
 refused_back {wrote} told r w e =
-    let f : wrote.answer ≡ write.Refused r = sym w.answered ∙ e in
+    let f : wrote.answer ≡ Err r = sym w.answered ∙ e in
     record { answered = rw f; bytes = w.bytes }
 
 -- An acceptance is the true one.
-accepted_back : {wrote : Wrote} (told : Accepted) {buffer after : List ℕ} {a : WriteAnswer} {r : CheckAnswer} (n : ℕ) → Writes wrote buffer a after
-    → a ≡ write.Written n → r ≡ check.Accepted told → ReadsBack wrote told buffer r after
+accepted_back : {wrote : Wrote} (told : Accepted) {buffer after : List ℕ} {a : Result ℕ Refusal} {r : Result Accepted Refusal} (n : ℕ) → Writes wrote buffer a after
+    → a ≡ Ok n → r ≡ Ok told → ReadsBack wrote told buffer r after
 unfolding read_as
 accepted_back {wrote} told n w e g =
-    let f : wrote.answer ≡ write.Written n = sym w.answered ∙ e in
+    let f : wrote.answer ≡ Ok n = sym w.answered ∙ e in
     record { answered = g ∙ rw f; bytes = w.bytes }
 
 -- ---- certificates
 
-module _ (ws : List ℕ) (room kind s b n : ℕ) (e : (certificate_on ws room kind s b).answer ≡ write.Written n) where
+module _ (ws : List ℕ) (room kind s b n : ℕ) (e : (certificate_on ws room kind s b).answer ≡ Ok n) where
   abbrev k : CertificateKind
   k = kind_on ws kind
 
@@ -84,7 +79,7 @@ module _ (ws : List ℕ) (room kind s b n : ℕ) (e : (certificate_on ws room ki
   unfolding certificate_on
   on_is = given_on (sound_words ws) unsound (λ _. write_certificate (ledger_of ws) room k s b) certificate_sound
 
-  answer_is : (write_certificate (ledger_of ws) room k s b).answer ≡ write.Written n
+  answer_is : (write_certificate (ledger_of ws) room k s b).answer ≡ Ok n
   answer_is = ap (λ (w : Wrote). w.answer) (sym on_is) ∙ e
 
   pub certificate_length : n ≡ length (certificate_on ws room kind s b).bytes
@@ -94,21 +89,21 @@ module _ (ws : List ℕ) (room kind s b n : ℕ) (e : (certificate_on ws room ki
       ∙ ap (λ (w : Wrote). length w.bytes) (sym on_is)
 
   pub certificate_accepted : b < 2 ^ 64
-      → check_certificate (take (ledger_of ws).count (ledger_of ws).stakes) (certificate_on ws room kind s b).bytes ≡ check.Accepted (accepted_for (ledger_of ws) k s b)
+      → check_certificate (take (ledger_of ws).count (ledger_of ws).stakes) (certificate_on ws room kind s b).bytes ≡ Ok (accepted_for (ledger_of ws) k s b)
   certificate_accepted h =
       ap (λ (w : Wrote). check_certificate (take (ledger_of ws).count (ledger_of ws).stakes) w.bytes) on_is
       ∙ (packet-back (ledger_of ws) (take (ledger_of ws).count (ledger_of ws).stakes)
       (table_of_record (ledger_of ws) (sound_formed ws certificate_sound)) room k s b n h answer_is).1
 
 -- It ends inside the buffer.
-pub certificate_inside : (ws buffer : List ℕ) (kind s b n : ℕ) {after : List ℕ} {a : WriteAnswer}
-    → Writes (certificate_on ws (length buffer) kind s b) buffer a after → a ≡ write.Written n → n ≤ length after
+pub certificate_inside : (ws buffer : List ℕ) (kind s b n : ℕ) {after : List ℕ} {a : Result ℕ Refusal}
+    → Writes (certificate_on ws (length buffer) kind s b) buffer a after → a ≡ Ok n → n ≤ length after
 certificate_inside ws buffer kind s b n {after} w e =
     packet_inside (certificate_on ws (length buffer) kind s b).bytes buffer after n w.bytes (certificate_length ws (length buffer) kind s b n (sym w.answered ∙ e))
 
 -- What was written is read back.
-pub certificate_back : (ws buffer : List ℕ) (kind s b n : ℕ) {after stakes packet : List ℕ} {a : WriteAnswer} {r : CheckAnswer} → b < 2 ^ 64
-    → Writes (certificate_on ws (length buffer) kind s b) buffer a after → a ≡ write.Written n → stakes ≡ take (ledger_of ws).count (ledger_of ws).stakes → packet ≡ take (n - 0) after
+pub certificate_back : (ws buffer : List ℕ) (kind s b n : ℕ) {after stakes packet : List ℕ} {a : Result ℕ Refusal} {r : Result Accepted Refusal} → b < 2 ^ 64
+    → Writes (certificate_on ws (length buffer) kind s b) buffer a after → a ≡ Ok n → stakes ≡ take (ledger_of ws).count (ledger_of ws).stakes → packet ≡ take (n - 0) after
     → r ≡ check_certificate stakes packet → ReadsBack (certificate_on ws (length buffer) kind s b) (accepted_for (ledger_of ws) (kind_on ws kind) s b) buffer r after
 certificate_back ws buffer kind s b n {after} h w e st pk g =
     let f = sym w.answered ∙ e in
@@ -117,7 +112,7 @@ certificate_back ws buffer kind s b n {after} h w e st pk g =
 
 -- ---- proofs
 
-module _ (ws : List ℕ) (room s b n : ℕ) (e : (proof_on ws room s b).answer ≡ write.Written n) where
+module _ (ws : List ℕ) (room s b n : ℕ) (e : (proof_on ws room s b).answer ≡ Ok n) where
   pub proof_sound : sound_words ws ≡ true
   proof_sound = by_test (sound_words ws) (λ t. t) (λ t. not_unsound (proof_on ws room s b) n (proof_unsound ws room s b t) e)
 
@@ -125,7 +120,7 @@ module _ (ws : List ℕ) (room s b n : ℕ) (e : (proof_on ws room s b).answer �
   unfolding proof_on
   proof_on_is = given_on (sound_words ws) unsound (λ _. write_proof (ledger_of ws) room s b) proof_sound
 
-  proof_answer_is : (write_proof (ledger_of ws) room s b).answer ≡ write.Written n
+  proof_answer_is : (write_proof (ledger_of ws) room s b).answer ≡ Ok n
   proof_answer_is = ap (λ (w : Wrote). w.answer) (sym proof_on_is) ∙ e
 
   pub proof_length : n ≡ length (proof_on ws room s b).bytes
@@ -135,21 +130,21 @@ module _ (ws : List ℕ) (room s b n : ℕ) (e : (proof_on ws room s b).answer �
       ∙ ap (λ (w : Wrote). length w.bytes) (sym proof_on_is)
 
   pub proof_accepted : b < 2 ^ 64
-      → check_proof (take (ledger_of ws).count (ledger_of ws).stakes) (proof_on ws room s b).bytes ≡ check.Accepted (accepted_for (ledger_of ws) (proof_kind (ledger_of ws) s b) s b)
+      → check_proof (take (ledger_of ws).count (ledger_of ws).stakes) (proof_on ws room s b).bytes ≡ Ok (accepted_for (ledger_of ws) (proof_kind (ledger_of ws) s b) s b)
   proof_accepted h =
       ap (λ (w : Wrote). check_proof (take (ledger_of ws).count (ledger_of ws).stakes) w.bytes) proof_on_is
       ∙ (packets-back (ledger_of ws) (take (ledger_of ws).count (ledger_of ws).stakes)
       (table_of_record (ledger_of ws) (sound_formed ws proof_sound)) room s b n h proof_answer_is).1
 
 -- It ends inside the buffer.
-pub proof_inside : (ws buffer : List ℕ) (s b n : ℕ) {after : List ℕ} {a : WriteAnswer}
-    → Writes (proof_on ws (length buffer) s b) buffer a after → a ≡ write.Written n → n ≤ length after
+pub proof_inside : (ws buffer : List ℕ) (s b n : ℕ) {after : List ℕ} {a : Result ℕ Refusal}
+    → Writes (proof_on ws (length buffer) s b) buffer a after → a ≡ Ok n → n ≤ length after
 proof_inside ws buffer s b n {after} w e =
     packet_inside (proof_on ws (length buffer) s b).bytes buffer after n w.bytes (proof_length ws (length buffer) s b n (sym w.answered ∙ e))
 
 -- What was written is read back.
-pub proof_back : (ws buffer : List ℕ) (s b n : ℕ) {after stakes packet : List ℕ} {a : WriteAnswer} {r : CheckAnswer} → b < 2 ^ 64
-    → Writes (proof_on ws (length buffer) s b) buffer a after → a ≡ write.Written n → stakes ≡ take (ledger_of ws).count (ledger_of ws).stakes → packet ≡ take (n - 0) after
+pub proof_back : (ws buffer : List ℕ) (s b n : ℕ) {after stakes packet : List ℕ} {a : Result ℕ Refusal} {r : Result Accepted Refusal} → b < 2 ^ 64
+    → Writes (proof_on ws (length buffer) s b) buffer a after → a ≡ Ok n → stakes ≡ take (ledger_of ws).count (ledger_of ws).stakes → packet ≡ take (n - 0) after
     → r ≡ check_proof stakes packet → ReadsBack (proof_on ws (length buffer) s b) (accepted_for (ledger_of ws) (proof_kind (ledger_of ws) s b) s b) buffer r after
 proof_back ws buffer s b n {after} h w e st pk g =
     let f = sym w.answered ∙ e in
@@ -157,6 +152,6 @@ proof_back ws buffer s b n {after} h w e st pk g =
     accepted_back (accepted_for (ledger_of ws) (proof_kind (ledger_of ws) s b) s b) n w e (g ∙ (λ i. check_proof (st i) (p i)) ∙ proof_accepted ws (length buffer) s b n f h)
 
 -- The contract leaves nothing open: two results that it allows are equal.
-pub reads_back_one : (wrote : Wrote) (told : Accepted) (buffer : List ℕ) (a b : CheckAnswer) (x y : List ℕ) → ReadsBack wrote told buffer a x
+pub reads_back_one : (wrote : Wrote) (told : Accepted) (buffer : List ℕ) (a b : Result Accepted Refusal) (x y : List ℕ) → ReadsBack wrote told buffer a x
     → ReadsBack wrote told buffer b y → (a ≡ b) × (x ≡ y)
 reads_back_one wrote told buffer a b x y p q = (p.answered ∙ sym q.answered, p.bytes ∙ sym q.bytes)

@@ -1,18 +1,15 @@
 -- What the checker says of what a writer wrote, given the same stakes.
-use Rattle.std.specs.Prelude.{◌≡◌, List, ℕ}
+use Rattle.std.specs.Prelude.{◌≡◌, List, ℕ, Result, Ok, Err}
 use Rattle.rulebook.specs.declared.Accepted.{Accepted}
-use Rattle.rulebook.specs.declared.CheckAnswer.{CheckAnswer}
-use Rattle.rulebook.specs.declared.CheckAnswer.TheVariants as check
-use Rattle.rulebook.specs.declared.WriteAnswer.{WriteAnswer}
-use Rattle.rulebook.specs.declared.WriteAnswer.TheVariants as write
 use Rattle.rulebook.specs.Writers.{Wrote, over}
+use Rattle.rulebook.specs.declared.Refusal.{Refusal}
 
 -- The writer's refusal, or the acceptance.
-unfoldable pub read_as : WriteAnswer → Accepted → CheckAnswer
-read_as (write.Written n) a = check.Accepted a
-read_as (write.Refused r) a = check.Refused r
+unfoldable pub read_as : Result ℕ Refusal → Accepted → Result Accepted Refusal
+read_as (Ok n) a = Ok a
+read_as (Err r) a = Err r
 
 -- What is answered, and the buffer afterwards: what the writer left.
-pub record ReadsBack (wrote : Wrote) (told : Accepted) (buffer : List ℕ) (answer : CheckAnswer) (after : List ℕ) : Type 0 where
+pub record ReadsBack (wrote : Wrote) (told : Accepted) (buffer : List ℕ) (answer : Result Accepted Refusal) (after : List ℕ) : Type 0 where
   pub answered : answer ≡ read_as wrote.answer told
   pub bytes : after ≡ over wrote.bytes buffer

@@ -1,4 +1,5 @@
 -- The ways through a host's questions: 17, 3, for a node's votes 2, and what is asked. Assumes nothing.
+use Rattle.std.specs.Prelude.{Ok, Err}
 use mathlib.Core.Path.{◌≡◌, sym, ap, ◌∙◌}
 use mathlib.Core.Bool.{Bool, true, false, not}
 use mathlib.Core.List.{List}
@@ -23,13 +24,10 @@ use Rattle.pool.specs.Weighing.{Carded}
 use Rattle.pool.proofs.HeldLaws.{weigh_light}
 use Rattle.soundness.specs.Sound.{sound_words}
 use Rattle.soundness.proofs.Laws.{sound_long, sound_placed, sound_cards, sound_tabled}
-use Rattle.readers.specs.declared.VotesAnswer.TheVariants as votes
 use Rattle.readers.specs.declared.KeptBlocks.{KeptBlocks}
 use Rattle.readers.specs.declared.SlotMarks.{SlotMarks}
 use Rattle.readers.specs.declared.RecordHead.{RecordHead}
-use Rattle.readers.specs.declared.HeadAnswer.TheVariants as head
 use Rattle.readers.specs.Asked.{on_slot, votes_on, blocks_kept, marks_kept, head_kept, head_on}
-use Rattle.readers.specs.declared.WeightsAnswer.TheVariants as weights
 use Rattle.readers.specs.Weighed.{missing_d, Light, weights_kept, weights_on}
 
 -- One of the slots 1 to 16.
@@ -71,17 +69,17 @@ module _ (ws : List ℕ) (s : ℕ) (e : sound_words ws ≡ true) (q : slot_ok s 
 
   -- ---- a question about a node's votes in it
   module _ (n : ℕ) where
-    pub votes_none : not_in_table (ledger_of ws).count n ≡ true → votes_on ws s n ≡ votes.Refused refusal.BadNode
+    pub votes_none : not_in_table (ledger_of ws).count n ≡ true → votes_on ws s n ≡ Err refusal.BadNode
     unfolding votes_on
     votes_none t =
-        slot_asked votes.Refused ws s _ e q
-        ∙ given_off (not (not_in_table (ledger_of ws).count n)) (votes.Refused refusal.BadNode) _ (ap not t)
+        slot_asked Err ws s _ e q
+        ∙ given_off (not (not_in_table (ledger_of ws).count n)) (Err refusal.BadNode) _ (ap not t)
 
-    pub votes_there : not_in_table (ledger_of ws).count n ≡ false → votes_on ws s n ≡ votes.Votes (cell_at (ledger_of ws) s n)
+    pub votes_there : not_in_table (ledger_of ws).count n ≡ false → votes_on ws s n ≡ Ok (cell_at (ledger_of ws) s n)
     unfolding votes_on
     votes_there t =
-        slot_asked votes.Refused ws s _ e q
-        ∙ given_on (not (not_in_table (ledger_of ws).count n)) (votes.Refused refusal.BadNode) _ (ap not t)
+        slot_asked Err ws s _ e q
+        ∙ given_on (not (not_in_table (ledger_of ws).count n)) (Err refusal.BadNode) _ (ap not t)
 
     pub votes_placed : not_in_table (ledger_of ws).count n ≡ false → Placed ws s n
     votes_placed t =
@@ -123,13 +121,13 @@ module _ (ws : List ℕ) where
   unfolding head_kept
   head_four o n t g a b c d = λ j. record { own = record { 0 = a j }; nodes = b j; stake = record { 0 = c j }; genesis = d j }
 
-  pub head_unsound : sound_words ws ≡ false → head_on ws ≡ head.Refused refusal.BadRecord
+  pub head_unsound : sound_words ws ≡ false → head_on ws ≡ Err refusal.BadRecord
   unfolding head_on
-  head_unsound e = given_off (sound_words ws) (head.Refused refusal.BadRecord) _ e
+  head_unsound e = given_off (sound_words ws) (Err refusal.BadRecord) _ e
 
-  pub head_asked : sound_words ws ≡ true → head_on ws ≡ head.Head (head_kept ws)
+  pub head_asked : sound_words ws ≡ true → head_on ws ≡ Ok (head_kept ws)
   unfolding head_on
-  head_asked e = given_on (sound_words ws) (head.Refused refusal.BadRecord) _ e
+  head_asked e = given_on (sound_words ws) (Err refusal.BadRecord) _ e
 
 -- ---- a block's weights
 
@@ -161,12 +159,12 @@ module _ (ws : List ℕ) (s : ℕ) where
       λ j. record { notar = record { 0 = p j }; fallback = record { 0 = q j }; skip = record { 0 = r j }; missing = record { 0 = whole j } }
 
   module _ (e : sound_words ws ≡ true) (q : slot_ok s ≡ true) (b : ℕ) where
-    pub weights_none : b ≡ 0 → weights_on ws s b ≡ weights.Refused refusal.BadBlock
+    pub weights_none : b ≡ 0 → weights_on ws s b ≡ Err refusal.BadBlock
     unfolding weights_on
     weights_none z =
-        slot_asked weights.Refused ws s _ e q ∙ given_off (not (none b)) (weights.Refused refusal.BadBlock) _ (ap not (eq-eqb b 0 z))
+        slot_asked Err ws s _ e q ∙ given_off (not (none b)) (Err refusal.BadBlock) _ (ap not (eq-eqb b 0 z))
 
-    pub weights_there : (b ≡ 0 → ⊥) → weights_on ws s b ≡ weights.Weights (weights_kept ws s b)
+    pub weights_there : (b ≡ 0 → ⊥) → weights_on ws s b ≡ Ok (weights_kept ws s b)
     unfolding weights_on
     weights_there z =
-        slot_asked weights.Refused ws s _ e q ∙ given_on (not (none b)) (weights.Refused refusal.BadBlock) _ (ap not (ne_eqb b 0 z))
+        slot_asked Err ws s _ e q ∙ given_on (not (none b)) (Err refusal.BadBlock) _ (ap not (ne_eqb b 0 z))

@@ -1,5 +1,5 @@
 -- A host's questions to a record: what is answered, and its number and values on the panel.
-use Rattle.std.specs.Prelude.{not, List, [], ◌∷◌, ◌++◌, ℕ, get_or}
+use Rattle.std.specs.Prelude.{not, List, [], ◌∷◌, ◌++◌, ℕ, get_or, Bool, Result, Ok, Err}
 use Rattle.rulebook.specs.declared.Block.{Block}
 use Rattle.rulebook.specs.declared.Cell.{Cell}
 use Rattle.rulebook.specs.declared.Refusal.{Refusal}
@@ -11,38 +11,26 @@ use Rattle.rulebook.specs.Inputs.{not_in_table}
 use Rattle.rulebook.specs.PaperNumbers.{Panel, refusal_number}
 use Rattle.record.specs.Layout.{ledger_of}
 use Rattle.soundness.specs.Sound.{sound_words}
-use Rattle.readers.specs.declared.FinalAnswer.{FinalAnswer}
-use Rattle.readers.specs.declared.FinalAnswer.TheVariants as final
-use Rattle.readers.specs.declared.ArmedAnswer.{ArmedAnswer}
-use Rattle.readers.specs.declared.ArmedAnswer.TheVariants as armed
-use Rattle.readers.specs.declared.VotesAnswer.{VotesAnswer}
-use Rattle.readers.specs.declared.VotesAnswer.TheVariants as votes
 use Rattle.readers.specs.declared.KeptBlocks.{KeptBlocks}
-use Rattle.readers.specs.declared.BlocksAnswer.{BlocksAnswer}
-use Rattle.readers.specs.declared.BlocksAnswer.TheVariants as blocks
 use Rattle.readers.specs.declared.SlotMarks.{SlotMarks}
-use Rattle.readers.specs.declared.MarksAnswer.{MarksAnswer}
-use Rattle.readers.specs.declared.MarksAnswer.TheVariants as marks
 use Rattle.readers.specs.declared.RecordHead.{RecordHead}
-use Rattle.readers.specs.declared.HeadAnswer.{HeadAnswer}
-use Rattle.readers.specs.declared.HeadAnswer.TheVariants as head
 
 -- 17, then 3, then what is asked of the slot.
 unfoldable pub on_slot : {A : Type 0} → (Refusal → A) → List ℕ → ℕ → (Unit {0} → A) → A
 on_slot refused ws s asked = whenever (sound_words ws) (λ _. whenever (slot_ok s) asked (refused refusal.BadSlot)) (refused refusal.BadRecord)
 
 -- The block reported final in the slot, 0 where there is none.
-unfoldable pub final_on : List ℕ → ℕ → FinalAnswer
-final_on ws s = on_slot final.Refused ws s (λ _. final.Block (row_at (ledger_of ws) s).final)
+unfoldable pub final_on : List ℕ → ℕ → Result ℕ Refusal
+final_on ws s = on_slot Err ws s (λ _. Ok (row_at (ledger_of ws) s).final)
 
 -- The window of the slot is armed.
-unfoldable pub armed_on : List ℕ → ℕ → ArmedAnswer
-armed_on ws s = on_slot armed.Refused ws s (λ _. armed.Armed (is_armed (ledger_of ws) s))
+unfoldable pub armed_on : List ℕ → ℕ → Result Bool Refusal
+armed_on ws s = on_slot Err ws s (λ _. Ok (is_armed (ledger_of ws) s))
 
 -- 2 behind 17 and 3, then what the pool keeps of the node in the slot.
-unfoldable pub votes_on : List ℕ → ℕ → ℕ → VotesAnswer
+unfoldable pub votes_on : List ℕ → ℕ → ℕ → Result Cell Refusal
 votes_on ws s n =
-    on_slot votes.Refused ws s (λ _. whenever (not (not_in_table (ledger_of ws).count n)) (λ _. votes.Votes (cell_at (ledger_of ws) s n)) (votes.Refused refusal.BadNode))
+    on_slot Err ws s (λ _. whenever (not (not_in_table (ledger_of ws).count n)) (λ _. Ok (cell_at (ledger_of ws) s n)) (Err refusal.BadNode))
 
 -- The slot's four places for blocks: the first announced stands in the first, and an empty place has no block.
 unfoldable pub blocks_kept : List ℕ → ℕ → KeptBlocks
@@ -51,16 +39,16 @@ blocks_kept ws s =
     record { first = get_or ks 0 no_block; second = get_or ks 1 no_block; third = get_or ks 2 no_block; fourth = get_or ks 3 no_block }
 
 -- The blocks that the slot keeps, each with its parent.
-unfoldable pub blocks_on : List ℕ → ℕ → BlocksAnswer
-blocks_on ws s = on_slot blocks.Refused ws s (λ _. blocks.Blocks (blocks_kept ws s))
+unfoldable pub blocks_on : List ℕ → ℕ → Result KeptBlocks Refusal
+blocks_on ws s = on_slot Err ws s (λ _. Ok (blocks_kept ws s))
 
 -- Whether the slot's timeout was taken, and whether another final block was reported in it: 1 for yes, 0 for no.
 unfoldable pub marks_kept : List ℕ → ℕ → SlotMarks
 marks_kept ws s = record { timedout = (row_at (ledger_of ws) s).timed_out; clash = (row_at (ledger_of ws) s).clash }
 
 -- The marks of the slot.
-unfoldable pub marks_on : List ℕ → ℕ → MarksAnswer
-marks_on ws s = on_slot marks.Refused ws s (λ _. marks.Marks (marks_kept ws s))
+unfoldable pub marks_on : List ℕ → ℕ → Result SlotMarks Refusal
+marks_on ws s = on_slot Err ws s (λ _. Ok (marks_kept ws s))
 
 -- The node's own number (a watcher has the number after the last), how many nodes its table has, all their stake, and genesis's number.
 unfoldable pub head_kept : List ℕ → RecordHead
@@ -69,18 +57,18 @@ head_kept ws =
     record { own = record { 0 = l.own }; nodes = l.count; stake = record { 0 = l.total }; genesis = l.genesis }
 
 -- 17, then whose record it is and of which ring.
-unfoldable pub head_on : List ℕ → HeadAnswer
-head_on ws = whenever (sound_words ws) (λ _. head.Head (head_kept ws)) (head.Refused refusal.BadRecord)
+unfoldable pub head_on : List ℕ → Result RecordHead Refusal
+head_on ws = whenever (sound_words ws) (λ _. Ok (head_kept ws)) (Err refusal.BadRecord)
 
 -- The number on the panel and the block beside it, 0 beside a refusal.
-unfoldable pub final_panel : FinalAnswer → Panel
-final_panel (final.Block b) = record { number = 0; values = b ∷ [] }
-final_panel (final.Refused r) = record { number = refusal_number r; values = 0 ∷ [] }
+unfoldable pub final_panel : Result ℕ Refusal → Panel
+final_panel (Ok b) = record { number = 0; values = b ∷ [] }
+final_panel (Err r) = record { number = refusal_number r; values = 0 ∷ [] }
 
 -- The number, and beside it 1 where the window is armed; else, and beside a refusal, 0.
-unfoldable pub armed_panel : ArmedAnswer → Panel
-armed_panel (armed.Armed a) = record { number = 0; values = part a 1 ∷ [] }
-armed_panel (armed.Refused r) = record { number = refusal_number r; values = 0 ∷ [] }
+unfoldable pub armed_panel : Result Bool Refusal → Panel
+armed_panel (Ok a) = record { number = 0; values = part a 1 ∷ [] }
+armed_panel (Err r) = record { number = refusal_number r; values = 0 ∷ [] }
 
 -- The seven words of a cell: the initial vote as its notar block or the mark of a skip, "up to three different kind 2 blocks, one kind 4
 -- and one kind 5".
@@ -89,9 +77,9 @@ cell_values c =
     c.notar ∷ c.skip ∷ c.fallback1 ∷ c.fallback2 ∷ c.fallback3 ∷ c.skipfallback ∷ c.finalvote ∷ []
 
 -- The number and the cell's words beside it, zeros beside a refusal.
-unfoldable pub votes_panel : VotesAnswer → Panel
-votes_panel (votes.Votes c) = record { number = 0; values = cell_values c }
-votes_panel (votes.Refused r) = record { number = refusal_number r; values = 0 ∷ 0 ∷ 0 ∷ 0 ∷ 0 ∷ 0 ∷ 0 ∷ [] }
+unfoldable pub votes_panel : Result Cell Refusal → Panel
+votes_panel (Ok c) = record { number = 0; values = cell_values c }
+votes_panel (Err r) = record { number = refusal_number r; values = 0 ∷ 0 ∷ 0 ∷ 0 ∷ 0 ∷ 0 ∷ 0 ∷ [] }
 
 -- The three words of a block: its number, its parent's slot, its parent's number.
 abbrev pub block_values : Block → List ℕ
@@ -102,24 +90,24 @@ abbrev pub kept_values : KeptBlocks → List ℕ
 kept_values k = block_values k.first ++ (block_values k.second ++ (block_values k.third ++ block_values k.fourth))
 
 -- The number and the twelve words beside it, zeros beside a refusal.
-unfoldable pub blocks_panel : BlocksAnswer → Panel
-blocks_panel (blocks.Blocks k) = record { number = 0; values = kept_values k }
-blocks_panel (blocks.Refused r) = record { number = refusal_number r; values = 0 ∷ 0 ∷ 0 ∷ 0 ∷ 0 ∷ 0 ∷ 0 ∷ 0 ∷ 0 ∷ 0 ∷ 0 ∷ 0 ∷ [] }
+unfoldable pub blocks_panel : Result KeptBlocks Refusal → Panel
+blocks_panel (Ok k) = record { number = 0; values = kept_values k }
+blocks_panel (Err r) = record { number = refusal_number r; values = 0 ∷ 0 ∷ 0 ∷ 0 ∷ 0 ∷ 0 ∷ 0 ∷ 0 ∷ 0 ∷ 0 ∷ 0 ∷ 0 ∷ [] }
 
 -- The two words of a slot's marks.
 abbrev pub mark_values : SlotMarks → List ℕ
 mark_values m = m.timedout ∷ m.clash ∷ []
 
 -- The number and the two marks beside it, zeros beside a refusal.
-unfoldable pub marks_panel : MarksAnswer → Panel
-marks_panel (marks.Marks m) = record { number = 0; values = mark_values m }
-marks_panel (marks.Refused r) = record { number = refusal_number r; values = 0 ∷ 0 ∷ [] }
+unfoldable pub marks_panel : Result SlotMarks Refusal → Panel
+marks_panel (Ok m) = record { number = 0; values = mark_values m }
+marks_panel (Err r) = record { number = refusal_number r; values = 0 ∷ 0 ∷ [] }
 
 -- The four words of a head: own number, nodes, stake, genesis.
 abbrev pub head_values : RecordHead → List ℕ
 head_values h = h.own.0 ∷ h.nodes ∷ h.stake.0 ∷ h.genesis ∷ []
 
 -- The number and the four words beside it, zeros beside a refusal.
-unfoldable pub head_panel : HeadAnswer → Panel
-head_panel (head.Head h) = record { number = 0; values = head_values h }
-head_panel (head.Refused r) = record { number = refusal_number r; values = 0 ∷ 0 ∷ 0 ∷ 0 ∷ [] }
+unfoldable pub head_panel : Result RecordHead Refusal → Panel
+head_panel (Ok h) = record { number = 0; values = head_values h }
+head_panel (Err r) = record { number = refusal_number r; values = 0 ∷ 0 ∷ 0 ∷ 0 ∷ [] }

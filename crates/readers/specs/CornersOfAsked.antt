@@ -1,6 +1,6 @@
 -- Computed cases of a host's questions to a record: which slot, window and node is asked, which of a cell's seven words is which, which of
 -- four places for blocks, of two marks and of a head's four words, 17 before 3 before 2, zeros beside a refusal.
-use Rattle.std.specs.Prelude.{◌≡◌, true, false, List, [], ◌∷◌, ◌++◌, ℕ, T}
+use Rattle.std.specs.Prelude.{◌≡◌, true, false, List, [], ◌∷◌, ◌++◌, ℕ, T, Ok, Err}
 use Rattle.rulebook.specs.declared.Block.{Block}
 use Rattle.rulebook.specs.declared.Refusal.TheVariants as refusal
 use Rattle.rulebook.specs.PaperNumbers.{Panel}
@@ -9,9 +9,6 @@ use Rattle.rulebook.specs.Scripts.{vote, stored, cell, equals}
 use Rattle.rulebook.specs.Computes.{rules}
 use Rattle.record.specs.Layout.{ledger_of}
 use Rattle.soundness.specs.Sound.{sound_words}
-use Rattle.readers.specs.declared.FinalAnswer.TheVariants as final
-use Rattle.readers.specs.declared.ArmedAnswer.TheVariants as armed
-use Rattle.readers.specs.declared.VotesAnswer.TheVariants as votes
 use Rattle.readers.specs.Asked.{on_slot, final_on, armed_on, votes_on, blocks_kept, blocks_on, marks_kept, marks_on, head_kept, head_on, final_panel, armed_panel, votes_panel, blocks_panel, marks_panel, head_panel}
 
 -- An answer's number and the values beside it.
@@ -47,7 +44,7 @@ unfolding rules on_slot final_on armed_on votes_on final_panel armed_panel votes
 reads_of_none ws unsound = rw unsound tt
 
 -- The panel of each answer by itself.
-read_panels : T (equals (shown (final_panel (final.Block 9)) ∷ shown (final_panel (final.Refused refusal.BadSlot)) ∷ shown (armed_panel (armed.Armed true)) ∷ shown (armed_panel (armed.Armed false)) ∷ shown (armed_panel (armed.Refused refusal.BadSlot)) ∷ shown (votes_panel (votes.Votes (cell 11 12 13 14 15 16 17))) ∷ shown (votes_panel (votes.Refused refusal.BadNode)) ∷ [])
+read_panels : T (equals (shown (final_panel (Ok 9)) ∷ shown (final_panel (Err refusal.BadSlot)) ∷ shown (armed_panel (Ok true)) ∷ shown (armed_panel (Ok false)) ∷ shown (armed_panel (Err refusal.BadSlot)) ∷ shown (votes_panel (Ok (cell 11 12 13 14 15 16 17))) ∷ shown (votes_panel (Err refusal.BadNode)) ∷ [])
     ((0 ∷ 9 ∷ []) ∷ (3 ∷ 0 ∷ []) ∷ (0 ∷ 1 ∷ []) ∷ (0 ∷ 0 ∷ []) ∷ (3 ∷ 0 ∷ []) ∷ (0 ∷ 11 ∷ 12 ∷ 13 ∷ 14 ∷ 15 ∷ 16 ∷ 17 ∷ []) ∷ (2 ∷ 0 ∷ 0 ∷ 0 ∷ 0 ∷ 0 ∷ 0 ∷ 0 ∷ []) ∷ []))
 unfolding rules final_panel armed_panel votes_panel
 read_panels = tt

@@ -1,5 +1,5 @@
 -- What a slot's stored votes weigh for a block, and what is missing to rule D's weights.
-use Rattle.std.specs.Prelude.{not, List, [], ◌∷◌, ℕ, ◌+◌, ◌≤◌, min, max, eqb}
+use Rattle.std.specs.Prelude.{not, List, [], ◌∷◌, ℕ, ◌+◌, ◌≤◌, min, max, eqb, Result, Ok, Err}
 use Rattle.rulebook.specs.declared.Refusal.TheVariants as refusal
 use Rattle.rulebook.specs.declared.Who.TheVariants as who
 use Rattle.rulebook.specs.Tools.{whenever}
@@ -9,9 +9,8 @@ use Rattle.rulebook.specs.Pool.{weigh}
 use Rattle.rulebook.specs.PaperNumbers.{Panel, refusal_number}
 use Rattle.record.specs.Layout.{ledger_of}
 use Rattle.readers.specs.declared.BlockWeights.{BlockWeights}
-use Rattle.readers.specs.declared.WeightsAnswer.{WeightsAnswer}
-use Rattle.readers.specs.declared.WeightsAnswer.TheVariants as weights
 use Rattle.readers.specs.Asked.{on_slot}
+use Rattle.rulebook.specs.declared.Refusal.{Refusal}
 
 -- The least further stake with which a block of notar weight n beside skip weight k would have rule D's weights: what n lacks to 40, or
 -- what n lacks to 20 and k + n to 60, both of which the larger of the two brings.
@@ -31,18 +30,18 @@ weights_kept ws s b =
     }
 
 -- 5 for block 0 behind 17 and 3, then the weights.
-unfoldable pub weights_on : List ℕ → ℕ → ℕ → WeightsAnswer
+unfoldable pub weights_on : List ℕ → ℕ → ℕ → Result BlockWeights Refusal
 weights_on ws s b =
-    on_slot weights.Refused ws s (λ _. whenever (not (none b)) (λ _. weights.Weights (weights_kept ws s b)) (weights.Refused refusal.BadBlock))
+    on_slot Err ws s (λ _. whenever (not (none b)) (λ _. Ok (weights_kept ws s b)) (Err refusal.BadBlock))
 
 -- The four words of the weights.
 abbrev pub weight_values : BlockWeights → List ℕ
 weight_values w = w.notar.0 ∷ w.fallback.0 ∷ w.skip.0 ∷ w.missing.0 ∷ []
 
 -- The number and the four weights beside it, zeros beside a refusal.
-unfoldable pub weights_panel : WeightsAnswer → Panel
-weights_panel (weights.Weights w) = record { number = 0; values = weight_values w }
-weights_panel (weights.Refused r) = record { number = refusal_number r; values = 0 ∷ 0 ∷ 0 ∷ 0 ∷ [] }
+unfoldable pub weights_panel : Result BlockWeights Refusal → Panel
+weights_panel (Ok w) = record { number = 0; values = weight_values w }
+weights_panel (Err r) = record { number = refusal_number r; values = 0 ∷ 0 ∷ 0 ∷ 0 ∷ [] }
 
 -- A notar weight n and a skip weight k within the total t: their sum does not wrap.
 pub record Light (t n k : ℕ) : Type 0 where

@@ -18,27 +18,6 @@ use rulebook::{Block, Cell, Node, Refusal, Slot, Weight, Who};
 use soundness::sound;
 use thresholds::Threshold;
 
-// The final block, 0 where the slot has none, or why there is no answer.
-#[derive(Clone, Copy)]
-pub enum FinalAnswer {
-    Block(u64),
-    Refused(Refusal),
-}
-
-// Whether the window is armed, or why there is no answer.
-#[derive(Clone, Copy)]
-pub enum ArmedAnswer {
-    Armed(bool),
-    Refused(Refusal),
-}
-
-// What is kept of the node in the slot, or why there is no answer.
-#[derive(Clone, Copy)]
-pub enum VotesAnswer {
-    Votes(Cell),
-    Refused(Refusal),
-}
-
 // What stands in a slot's four places for blocks, in the order in which they were announced.
 #[derive(Clone, Copy)]
 pub struct KeptBlocks {
@@ -48,25 +27,11 @@ pub struct KeptBlocks {
     pub fourth: Block,
 }
 
-// The slot's kept blocks, or why there is no answer.
-#[derive(Clone, Copy)]
-pub enum BlocksAnswer {
-    Blocks(KeptBlocks),
-    Refused(Refusal),
-}
-
 // A slot's two marks: its timeout was taken, another final block was reported; 1 or 0 each.
 #[derive(Clone, Copy)]
 pub struct SlotMarks {
     pub timedout: u64,
     pub clash: u64,
-}
-
-// The slot's marks, or why there is no answer.
-#[derive(Clone, Copy)]
-pub enum MarksAnswer {
-    Marks(SlotMarks),
-    Refused(Refusal),
 }
 
 // Whose record it is, and of which ring: the own number, how many nodes, all their stake, the number of genesis.
@@ -76,13 +41,6 @@ pub struct RecordHead {
     pub nodes: usize,
     pub stake: Weight,
     pub genesis: u64,
-}
-
-// The record's head, or why there is no answer.
-#[derive(Clone, Copy)]
-pub enum HeadAnswer {
-    Head(RecordHead),
-    Refused(Refusal),
 }
 
 // What a slot's stored votes weigh for a block: its notar votes, those who count in its notar-fallback certificate, the slot's skip votes;
@@ -95,66 +53,59 @@ pub struct BlockWeights {
     pub missing: Weight,
 }
 
-// The weights of a block, or why there is no answer.
-#[derive(Clone, Copy)]
-pub enum WeightsAnswer {
-    Weights(BlockWeights),
-    Refused(Refusal),
-}
-
 // The final block of a slot: 17, then 3.
-pub fn read_final(rec: &[u64], s: Slot) -> FinalAnswer
+pub fn read_final(rec: &[u64], s: Slot) -> Result<u64, Refusal>
     ensures { result ≡ final_on rec.now s.0 }
 {
     if !sound(rec) {
-        return FinalAnswer::Refused(Refusal::BadRecord);
+        return Err(Refusal::BadRecord);
     }
     if !slot_ok(s) {
-        return FinalAnswer::Refused(Refusal::BadSlot);
+        return Err(Refusal::BadSlot);
     }
-    FinalAnswer::Block(final_block(rec, s))
+    Ok(final_block(rec, s))
 }
 
 // Whether a slot's window is armed: 17, then 3.
-pub fn read_armed(rec: &[u64], s: Slot) -> ArmedAnswer
+pub fn read_armed(rec: &[u64], s: Slot) -> Result<bool, Refusal>
     ensures { result ≡ armed_on rec.now s.0 }
 {
     if !sound(rec) {
-        return ArmedAnswer::Refused(Refusal::BadRecord);
+        return Err(Refusal::BadRecord);
     }
     if !slot_ok(s) {
-        return ArmedAnswer::Refused(Refusal::BadSlot);
+        return Err(Refusal::BadSlot);
     }
-    ArmedAnswer::Armed(is_armed(rec, s))
+    Ok(is_armed(rec, s))
 }
 
 // A node's stored votes in a slot: 17, then 3, then 2.
-pub fn read_votes(rec: &[u64], s: Slot, n: Node) -> VotesAnswer
+pub fn read_votes(rec: &[u64], s: Slot, n: Node) -> Result<Cell, Refusal>
     ensures { result ≡ votes_on rec.now s.0 n.0 }
 {
     if !sound(rec) {
-        return VotesAnswer::Refused(Refusal::BadRecord);
+        return Err(Refusal::BadRecord);
     }
     if !slot_ok(s) {
-        return VotesAnswer::Refused(Refusal::BadSlot);
+        return Err(Refusal::BadSlot);
     }
     if not_in_table(count(rec), n) {
-        return VotesAnswer::Refused(Refusal::BadNode);
+        return Err(Refusal::BadNode);
     }
-    VotesAnswer::Votes(load_cell(rec, s, n))
+    Ok(load_cell(rec, s, n))
 }
 
 // A slot's kept blocks with their parents: 17, then 3.
-pub fn read_blocks(rec: &[u64], s: Slot) -> BlocksAnswer
+pub fn read_blocks(rec: &[u64], s: Slot) -> Result<KeptBlocks, Refusal>
     ensures { result ≡ blocks_on rec.now s.0 }
 {
     if !sound(rec) {
-        return BlocksAnswer::Refused(Refusal::BadRecord);
+        return Err(Refusal::BadRecord);
     }
     if !slot_ok(s) {
-        return BlocksAnswer::Refused(Refusal::BadSlot);
+        return Err(Refusal::BadSlot);
     }
-    BlocksAnswer::Blocks(load_blocks(rec, s))
+    Ok(load_blocks(rec, s))
 }
 
 // The blocks in a slot's four places.
@@ -175,16 +126,16 @@ fn load_blocks(rec: &[u64], s: Slot) -> KeptBlocks
 }
 
 // A slot's marks: 17, then 3.
-pub fn read_marks(rec: &[u64], s: Slot) -> MarksAnswer
+pub fn read_marks(rec: &[u64], s: Slot) -> Result<SlotMarks, Refusal>
     ensures { result ≡ marks_on rec.now s.0 }
 {
     if !sound(rec) {
-        return MarksAnswer::Refused(Refusal::BadRecord);
+        return Err(Refusal::BadRecord);
     }
     if !slot_ok(s) {
-        return MarksAnswer::Refused(Refusal::BadSlot);
+        return Err(Refusal::BadSlot);
     }
-    MarksAnswer::Marks(load_marks(rec, s))
+    Ok(load_marks(rec, s))
 }
 
 // A slot's two marks.
@@ -201,13 +152,13 @@ fn load_marks(rec: &[u64], s: Slot) -> SlotMarks
 }
 
 // Whose record it is, and of which ring: 17.
-pub fn read_head(rec: &[u64]) -> HeadAnswer
+pub fn read_head(rec: &[u64]) -> Result<RecordHead, Refusal>
     ensures { result ≡ head_on rec.now }
 {
     if !sound(rec) {
-        return HeadAnswer::Refused(Refusal::BadRecord);
+        return Err(Refusal::BadRecord);
     }
-    HeadAnswer::Head(load_head(rec))
+    Ok(load_head(rec))
 }
 
 // The four numbers of a record's head.
@@ -228,19 +179,19 @@ fn load_head(rec: &[u64]) -> RecordHead
 }
 
 // What the votes of a slot weigh for a block: 17, then 3, then 5.
-pub fn read_weights(rec: &[u64], s: Slot, b: u64) -> WeightsAnswer
+pub fn read_weights(rec: &[u64], s: Slot, b: u64) -> Result<BlockWeights, Refusal>
     ensures { result ≡ weights_on rec.now s.0 b }
 {
     if !sound(rec) {
-        return WeightsAnswer::Refused(Refusal::BadRecord);
+        return Err(Refusal::BadRecord);
     }
     if !slot_ok(s) {
-        return WeightsAnswer::Refused(Refusal::BadSlot);
+        return Err(Refusal::BadSlot);
     }
     if b == 0 {
-        return WeightsAnswer::Refused(Refusal::BadBlock);
+        return Err(Refusal::BadBlock);
     }
-    WeightsAnswer::Weights(load_weights(rec, s, b))
+    Ok(load_weights(rec, s, b))
 }
 
 // The four weights of a block in a slot.

@@ -6,7 +6,7 @@
 use kinds::refusal_number;
 use node::step;
 use page::{end_line, say, tell};
-use rulebook::{Input, Node, Slot, StartAnswer, StepAnswer, WriteAnswer};
+use rulebook::{Refusal, Input, Node, Slot};
 use script::read_numbers;
 use slices::{copy_words, put_word};
 use starts::{start, watch};
@@ -63,17 +63,17 @@ fn number(n: u64) {
     tell(n);
 }
 
-fn tell_step(answer: StepAnswer) {
+fn tell_step(answer: Result<usize, Refusal>) {
     match answer {
-        StepAnswer::Done(n) => number(0),
-        StepAnswer::Refused(r) => number(refusal_number(r)),
+        Ok(n) => number(0),
+        Err(r) => number(refusal_number(r)),
     }
 }
 
-fn tell_write(answer: WriteAnswer) {
+fn tell_write(answer: Result<usize, Refusal>) {
     match answer {
-        WriteAnswer::Written(n) => number(0),
-        WriteAnswer::Refused(r) => number(refusal_number(r)),
+        Ok(n) => number(0),
+        Err(r) => number(refusal_number(r)),
     }
 }
 
@@ -156,10 +156,10 @@ fn lines(bytes: &[u8], sound: &mut [u64]) {
     }
 }
 
-fn tell_start(answer: StartAnswer) {
+fn tell_start(answer: Result<(), Refusal>) {
     match answer {
-        StartAnswer::Started => number(0),
-        StartAnswer::Refused(r) => number(refusal_number(r)),
+        Ok(()) => number(0),
+        Err(r) => number(refusal_number(r)),
     }
     end_line();
 }
@@ -284,8 +284,8 @@ fn look_as(sound: &[u64], own: Node) {
     let answer = step(&mut rec, &mut outbox, Input::Look);
     tell_step(answer);
     match answer {
-        StepAnswer::Done(n) => tell_kinds(&outbox, n),
-        StepAnswer::Refused(_) => {}
+        Ok(n) => tell_kinds(&outbox, n),
+        Err(_) => {}
     }
     end_line();
 }

@@ -1,8 +1,7 @@
 -- THE OTHER ORDER BREAKS IT, computed: a firm that sends before it stores, and one that puts back an older record, vote twice, and two blocks of one slot
 -- have proofs, with nobody else lying. Three firms of stake 1, genesis 1.
-use Rattle.std.specs.Prelude.{◌≡◌, true, false, ◌&&◌, List, [], ◌∷◌, ◌++◌, ℕ, zero, suc, T, length}
+use Rattle.std.specs.Prelude.{◌≡◌, true, false, ◌&&◌, List, [], ◌∷◌, ◌++◌, ℕ, zero, suc, T, length, Ok}
 use Rattle.rulebook.specs.declared.CertificateKind.TheVariants as certificate
-use Rattle.rulebook.specs.declared.CheckAnswer.TheVariants as check
 use Rattle.rulebook.specs.Certificates.{Certificate}
 use Rattle.rulebook.specs.Ledger.{fresh}
 use Rattle.rulebook.specs.Rules.{Record, record_of}
@@ -94,8 +93,8 @@ pub record VotesTwice : Type 0 where
       && (genuine_test sent_by everyone 3 3 (signed_by 2 8 6) && genuine_test sent_by everyone 3 3 (signed_by 5 0 6)))
   pub written_seven : (write_proof (after_all (fresh three 0 1) fed_zero) 64 1 7).bytes ≡ proof_of_seven
   pub written_eight : (write_proof (after_all (fresh three 1 1) fed_one) 64 1 8).bytes ≡ proof_of_eight
-  pub accepted_seven : check_proof three proof_of_seven ≡ check.Accepted (acceptance certificate.Notar 1 7 2 2)
-  pub accepted_eight : check_proof three proof_of_eight ≡ check.Accepted (acceptance certificate.Notar 1 8 2 2)
+  pub accepted_seven : check_proof three proof_of_seven ≡ Ok (acceptance certificate.Notar 1 7 2 2)
+  pub accepted_eight : check_proof three proof_of_eight ≡ Ok (acceptance certificate.Notar 1 8 2 2)
   pub sent_both : (words : List ℕ) (v w : Seen) → (after_deeds (opened words) (sent_first v w)).sent ≡ told_before ++ told_after
   pub not_in_order : (words : List ℕ) (v w : Seen) → all_in_order (opened words) (sent_first v w) ≡ false
   pub backup_sent_both : (words : List ℕ) (v w : Seen) → (after_deeds (opened words) (from_backup (begun words) v w)).sent ≡ told_before ++ told_after

@@ -1,6 +1,5 @@
 -- RINGS IN WHICH HONEST FIRMS DIE and start again as often as they like: what other firms have of them is what was sent.
-use Rattle.std.specs.Prelude.{◌≡◌, Bool, List, [], ◌∷◌, ◌++◌, ℕ, T, length}
-use Rattle.rulebook.specs.declared.Verdict.TheVariants.{Fine}
+use Rattle.std.specs.Prelude.{◌≡◌, Bool, List, [], ◌∷◌, ◌++◌, ℕ, T, length, Ok}
 use Rattle.rulebook.specs.Certificates.{Certificate}
 use Rattle.rulebook.specs.PaperNumbers.{kind_in}
 use Rattle.rulebook.specs.Ledger.{is_kept}
@@ -45,7 +44,7 @@ module _ (stakes : List ℕ) (genesis : ℕ → ℕ) (honest : Test) (desks : De
     pub few : FewOthers stakes honest
     pub hosts : (n : ℕ) → T (honest n) → Host stakes n (genesis n) (desks n)
     pub mail : (n m s : ℕ) (v : Ballot) → T (honest n) → T (honest m) → ¬ (m ≡ n) → T (brought_by (desks n).living.came s m v) → T (sent_ballot desks m s v)
-    pub packets : (n : ℕ) (c : Certificate) → T (honest n) → HandedBy (desks n).living.came c → judge stakes c ≡ Fine → Genuine (length stakes) honest (sent_ballot desks) c
+    pub packets : (n : ℕ) (c : Certificate) → T (honest n) → HandedBy (desks n).living.came c → judge stakes c ≡ Ok tt → Genuine (length stakes) honest (sent_ballot desks) c
 
 -- It is a ring of the lives in memory: so every promise over rings of lives holds in it.
 abbrev pub DyingIsRing : Type 0

@@ -1,5 +1,6 @@
 -- Laws of kept certificates: places and kinds, what a certificate in the first free place leaves, which one a writer takes and what the
 -- checker says of it. Assumes nothing.
+use Rattle.std.specs.Prelude.{Ok}
 use mathlib.Core.Path.{◌≡◌, refl, sym, ap, ◌∙◌, subst}
 use mathlib.Core.Bool.{Bool, true, false, not, ◌&&◌, ◌||◌}
 use mathlib.Core.List.{List, [], ◌∷◌}
@@ -11,7 +12,6 @@ use borrow.Author.Tests.{not-true, not-false, leb-true, leb-false, eqb-true, eqb
 use Rattle.rulebook.specs.declared.CertificateKind.{CertificateKind}
 use Rattle.rulebook.specs.declared.CertificateKind.TheVariants as certificate
 use Rattle.rulebook.specs.declared.Refusal.TheVariants as refusal
-use Rattle.rulebook.specs.declared.Verdict.TheVariants.{Fine}
 use Rattle.rulebook.specs.Tools.{choose, whenever, all_to, some_to}
 use Rattle.rulebook.specs.Certificates.{Certificate, Kept}
 use Rattle.rulebook.specs.PaperNumbers.{certificate_number, kind_in, number_in}
@@ -433,7 +433,7 @@ same_weight stakes c d x y = rw (x, y)
 
 -- So the checker accepts them as what they serve as.
 pub serves_judged : (stakes : List ℕ) (j k : CertificateKind) (c d : Certificate) → serves_as j k ≡ true → is_other_kind k ≡ false → block_misfits k d.block ≡ false
-    → d.slot ≡ c.slot → d.maska ≡ c.maska → d.maskb ≡ c.maskb → judge_kind stakes j c ≡ Fine → (bad_signers (length stakes) k d ≡ false) × (judge_kind stakes k d ≡ Fine)
+    → d.slot ≡ c.slot → d.maska ≡ c.maska → d.maskb ≡ c.maskb → judge_kind stakes j c ≡ Ok tt → (bad_signers (length stakes) k d ≡ false) × (judge_kind stakes k d ≡ Ok tt)
 unfolding judge_kind judge_weight
 serves_judged stakes j k c d s z m es ea eb e =
     let n = length stakes in
@@ -443,7 +443,7 @@ serves_judged stakes j k c d s z m es ea eb e =
     let p2 = refuse_fine (not (slot_ok c.slot)) refusal.BadSlot _ p1.1 in
     let p3 = refuse_fine (block_misfits j c.block) refusal.BadBlock _ p2.1 in
     let p4 = refuse_fine (bad_signers n j c) refusal.BadSigners _ p3.1 in
-    let p5 = refuse_fine (not (reaches (fifths_of j) t w)) _ Fine p4.1 in
+    let p5 = refuse_fine (not (reaches (fifths_of j) t w)) _ (Ok tt) p4.1 in
     let heavy = reaches_fewer (fifths_of k) (fifths_of j) t w (serves_fifths j k s) (not-false (reaches (fifths_of j) t w) p5.0) in
     let good = serves_signers n j k c d s ea eb p4.0 in (
       good,
@@ -451,5 +451,5 @@ serves_judged stakes j k c d s z m es ea eb e =
           (refuse_none (not (slot_ok d.slot)) refusal.BadSlot _ (ap (λ (x : ℕ). not (slot_ok x)) es ∙ p2.0)
           (refuse_none (block_misfits k d.block) refusal.BadBlock _ m
           (refuse_none (bad_signers n k d) refusal.BadSigners _ good
-          (refuse_none (not (reaches (fifths_of k) t (signed_weight stakes d))) _ Fine (ap (λ (v : ℕ). not (reaches (fifths_of k) t v)) (same_weight stakes c d ea eb) ∙ ap not heavy) refl)))),
+          (refuse_none (not (reaches (fifths_of k) t (signed_weight stakes d))) _ (Ok tt) (ap (λ (v : ℕ). not (reaches (fifths_of k) t v)) (same_weight stakes c d ea eb) ∙ ap not heavy) refl)))),
     )

@@ -1,7 +1,6 @@
 -- Computed cases of what is missing: at a threshold and around it, beside each number of a check, and to a certificate held.
-use Rattle.std.specs.Prelude.{Bool, true, false, ◌&&◌, List, [], ◌∷◌, ◌++◌, ℕ, ◌^◌, replicate, T}
+use Rattle.std.specs.Prelude.{Bool, true, false, ◌&&◌, List, [], ◌∷◌, ◌++◌, ℕ, ◌^◌, replicate, T, Result}
 use Rattle.rulebook.specs.declared.CertificateKind.TheVariants as certificate
-use Rattle.rulebook.specs.declared.CheckAnswer.{CheckAnswer}
 use Rattle.rulebook.specs.Weights.{missing}
 use Rattle.rulebook.specs.declared.Refusal.TheVariants as refusal
 use Rattle.rulebook.specs.PaperNumbers.{refusal_missing, check_missing, check_number}
@@ -10,6 +9,8 @@ use Rattle.rulebook.specs.Checker.{check_certificate, check_proof}
 use Rattle.rulebook.specs.Scripts.{votes, stored, ring, equal, equals, all}
 use Rattle.rulebook.specs.Bench.{ten}
 use Rattle.rulebook.specs.Computes.{rules}
+use Rattle.rulebook.specs.declared.Accepted.{Accepted}
+use Rattle.rulebook.specs.declared.Refusal.{Refusal}
 
 -- 60 and 80 percent of 10: more than enough, exactly enough, then one short, three short, all short.
 abbrev distances : Bool
@@ -26,7 +27,7 @@ uneven =
     ∷ equal (missing 3 (2 ^ 48) 0 ∷ missing 3 (2 ^ 48) 168884986026393 ∷ missing 3 (2 ^ 48) 168884986026394 ∷ []) (168884986026394 ∷ 1 ∷ 0 ∷ []) ∷ [])
 
 -- A check's number, and the figure beside it.
-abbrev figure : CheckAnswer → List ℕ
+abbrev figure : Result Accepted Refusal → List ℕ
 figure a = check_number a ∷ check_missing a ∷ []
 
 abbrev checks : List ℕ → List (List ℕ) → List (List ℕ)

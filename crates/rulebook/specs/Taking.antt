@@ -1,10 +1,8 @@
 -- Certificates from other firms: a packet that the checker accepts is kept, and the rules run. And what arrives at a node, of either sort.
-use Rattle.std.specs.Prelude.{Bool, false, not, ◌&&◌, ◌||◌, List, [], ◌∷◌, ℕ, suc, length, eqb, ltb}
+use Rattle.std.specs.Prelude.{Bool, false, not, ◌&&◌, ◌||◌, List, [], ◌∷◌, ℕ, suc, length, eqb, ltb, ⊤, Result, Ok, Err}
 use Rattle.rulebook.specs.declared.CertificateKind.{CertificateKind}
 use Rattle.rulebook.specs.declared.Input.{Input}
 use Rattle.rulebook.specs.declared.Refusal.TheVariants as refusal
-use Rattle.rulebook.specs.declared.Verdict.{Verdict}
-use Rattle.rulebook.specs.declared.Verdict.TheVariants.{Fine, Refused}
 use Rattle.rulebook.specs.Tools.{whenever, choose}
 use Rattle.rulebook.specs.Certificates.{Certificate, Kept}
 use Rattle.rulebook.specs.PaperNumbers.{kind_in}
@@ -14,6 +12,7 @@ use Rattle.rulebook.specs.Rules.{state_of}
 use Rattle.rulebook.specs.Run.{run}
 use Rattle.rulebook.specs.Inputs.{refuse_if, Fed, fed_with, refused_with, feed}
 use Rattle.rulebook.specs.Checker.{One, good, bad, one_at}
+use Rattle.rulebook.specs.declared.Refusal.{Refusal}
 
 -- Place i keeps nothing and is for kind k.
 abbrev pub is_room : CertificateKind → ℕ → Kept → Bool
@@ -34,9 +33,9 @@ unfoldable pub is_repeat : CertificateKind → ℕ → ℕ → Kept → Bool
 is_repeat k b i q = same_kind (place_kind i) k && eqb q.block b
 
 -- "7 is for a repeat of kind, slot and block; 8 for another block in a taken place or a tenth."
-unfoldable pub kept_verdict : List Kept → CertificateKind → ℕ → Verdict
+unfoldable pub kept_verdict : List Kept → CertificateKind → ℕ → Result ⊤ Refusal
 kept_verdict qs k b =
-    refuse_if (some_kept (is_repeat k b) 0 qs) refusal.AlreadyKept (refuse_if (not (has_room k 0 qs)) refusal.OtherStands Fine)
+    refuse_if (some_kept (is_repeat k b) 0 qs) refusal.AlreadyKept (refuse_if (not (has_room k 0 qs)) refusal.OtherStands (Ok tt))
 
 -- What is kept of a certificate.
 abbrev pub kept_of : Certificate → Kept
@@ -46,9 +45,9 @@ kept_of c = record { block = c.block; maska = c.maska; maskb = c.maskb }
 unfoldable pub keep_certificate : Ledger → Certificate → Ledger
 keep_certificate l c = put_certificates l c.slot (fill_kept (kind_in l.count c.kind) 0 (kept_of c) (certificates_at l c.slot))
 
-unfoldable pub taken_on : Verdict → Ledger → Certificate → Fed
-taken_on Fine l c = fed_with (run (state_of (keep_certificate l c) []))
-taken_on (Refused r) l c = refused_with l r
+unfoldable pub taken_on : Result ⊤ Refusal → Ledger → Certificate → Fed
+taken_on (Ok tt) l c = fed_with (run (state_of (keep_certificate l c) []))
+taken_on (Err r) l c = refused_with l r
 
 -- What the node does with a certificate that the checker accepts: "Rules then run."
 unfoldable pub taken : Ledger → Certificate → Fed

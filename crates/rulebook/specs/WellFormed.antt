@@ -1,11 +1,9 @@
 -- What a node's record keeps to: 17, said of the ledger; and the whole step with 17 and 9 in front.
-use Rattle.std.specs.Prelude.{Bool, true, false, not, ◌&&◌, ◌||◌, List, [], ◌∷◌, ◌≡◌, ℕ, zero, suc, ◌<◌, length, get_or, eqb, leb, ltb}
+use Rattle.std.specs.Prelude.{Bool, true, false, not, ◌&&◌, ◌||◌, List, [], ◌∷◌, ◌≡◌, ℕ, zero, suc, ◌<◌, length, get_or, eqb, leb, ltb, ⊤, Result, Ok, Err}
 use Rattle.rulebook.specs.declared.Cell.{Cell}
 use Rattle.rulebook.specs.declared.Block.{Block}
 use Rattle.rulebook.specs.declared.Input.{Input}
 use Rattle.rulebook.specs.declared.Refusal.TheVariants as refusal
-use Rattle.rulebook.specs.declared.Verdict.{Verdict}
-use Rattle.rulebook.specs.declared.Verdict.TheVariants as verdict
 use Rattle.rulebook.specs.Certificates.{Certificate, Kept}
 use Rattle.rulebook.specs.Tools.{whenever, all_to}
 use Rattle.rulebook.specs.Weights.{places_for, last_slot, windows, stake_in, stakes_fit, total_to}
@@ -16,6 +14,7 @@ use Rattle.rulebook.specs.Rules.{fallback_weights}
 use Rattle.rulebook.specs.Inputs.{Fed, refused_with, feed, bad_parent}
 use Rattle.rulebook.specs.Checker.{judge_kind}
 use Rattle.rulebook.specs.Taking.{take_packet}
+use Rattle.rulebook.specs.declared.Refusal.{Refusal}
 
 -- The ledger has a row for every slot with four places for blocks and 13 for certificates, a mark for every window, and p places for
 -- nodes wherever there are any.
@@ -80,9 +79,9 @@ unfoldable pub own_fits : Ledger → ℕ → Bool
 own_fits l s = let c = own_cell l s in backs l s c.fallback1 && (backs l s c.fallback2 && backs l s c.fallback3)
 
 -- The verdict is no refusal.
-unfoldable pub is_fine : Verdict → Bool
-is_fine verdict.Fine = true
-is_fine (verdict.Refused r) = false
+unfoldable pub is_fine : Result ⊤ Refusal → Bool
+is_fine (Ok tt) = true
+is_fine (Err r) = false
 
 -- A kept certificate of slot s as a certificate; which kind it is its place tells.
 abbrev pub kept_in : ℕ → Kept → Certificate

@@ -1,5 +1,6 @@
 -- What comes beside the votes: nothing, a final block, a block in the first free place of its slot, or a certificate in the first free place
 -- for its kind.
+use Rattle.std.specs.Prelude.{Ok}
 use mathlib.Core.Path.{◌≡◌, refl, sym, ap, ◌∙◌, subst}
 use mathlib.Core.Bool.{Bool, true, false, not, ◌&&◌, ◌||◌}
 use mathlib.Core.List.{List, [], ◌∷◌}
@@ -11,7 +12,6 @@ use lib.ListN.{get_or}
 use lib.Dec.{T, eqb, eqb→eq, T_not}
 use Rattle.rulebook.specs.declared.Block.{Block}
 use Rattle.rulebook.specs.declared.CertificateKind.{CertificateKind}
-use Rattle.rulebook.specs.declared.Verdict.TheVariants.{Fine}
 use Rattle.rulebook.specs.Certificates.{Certificate, Kept}
 use Rattle.rulebook.specs.PaperNumbers.{kind_in}
 use Rattle.rulebook.specs.Tools.{choose}
@@ -177,7 +177,7 @@ module _ {most : ℕ} (i : Arrival) (l : Ledger) (s : ℕ) (k : Block) (a : Anno
 
 -- The row of its slot takes the certificate that arrives.
 module _ {most : ℕ} (i : Arrival) (l : Ledger) (c : Certificate) (slot : c.slot < suc last_slot) (sh : Shaped most l) (arrived : Hands i c)
-    (fine : judge_kind (table_of l) (kind_in l.count c.kind) c ≡ Fine) where
+    (fine : judge_kind (table_of l) (kind_in l.count c.kind) c ≡ Ok tt) where
   abbrev kind : CertificateKind
   kind = kind_in l.count c.kind
 
@@ -195,7 +195,7 @@ module _ {most : ℕ} (i : Arrival) (l : Ledger) (c : Certificate) (slot : c.slo
         arrived = arrived;
         slot = refl;
         kind = sym k;
-        judged = subst (λ (x : CertificateKind). judge_kind (table_of l) x c ≡ Fine) (sym k) fine;
+        judged = subst (λ (x : CertificateKind). judge_kind (table_of l) x c ≡ Ok tt) (sym k) fine;
         is = e;
       }))
 

@@ -1,5 +1,6 @@
 -- There is room for every genuine certificate: two of kind 1 or 2 share an honest node's initial vote, and eight of kind 3 would need more
 -- honest stake than there is, since each honest node stands behind at most four blocks.
+use Rattle.std.specs.Prelude.{Ok, Err}
 use mathlib.Core.Path.{◌≡◌, refl, sym, ap, ◌∙◌, subst}
 use mathlib.Core.Bool.{Bool, true, false, not, ◌&&◌, ◌||◌}
 use mathlib.Core.List.{List}
@@ -14,8 +15,6 @@ use Rattle.rulebook.specs.declared.Cell.{Cell}
 use Rattle.rulebook.specs.declared.CertificateKind.{CertificateKind}
 use Rattle.rulebook.specs.declared.CertificateKind.TheVariants as certificate
 use Rattle.rulebook.specs.declared.Refusal.TheVariants as refusal
-use Rattle.rulebook.specs.declared.StepAnswer.TheVariants as step
-use Rattle.rulebook.specs.declared.Verdict.TheVariants.{Fine, Refused}
 use Rattle.rulebook.specs.Certificates.{Certificate}
 use Rattle.rulebook.specs.Tools.{whenever, sum_to, some_to}
 use Rattle.rulebook.specs.Weights.{places_for, weight, total_to, slot_ok}
@@ -231,7 +230,7 @@ module _ (stakes : List ℕ) (genesis : ℕ → ℕ) (honest : Test) (fed : ℕ 
   -- ---- a life, a node's or a watcher's, that holds what is genuine, and a genuine certificate that is answered 8
 
   module _ (me g : ℕ) (size : Sized stakes me) (before : List Arrival) (holds : HoldsGenuine honest (cast_by stakes genesis honest fed) (after_all (fresh stakes me g) before))
-      (c : Certificate) (genuine : Genuine count honest (cast_by stakes genesis honest fed) c) (fine : judge stakes c ≡ Fine)
+      (c : Certificate) (genuine : Genuine count honest (cast_by stakes genesis honest fed) c) (fine : judge stakes c ≡ Ok tt)
       (sound : well_formed (after_all (fresh stakes me g) before) ≡ true) where
     abbrev now : Ledger
     now = after_all (fresh stakes me g) before
@@ -274,7 +273,7 @@ module _ (stakes : List ℕ) (genesis : ℕ → ℕ) (honest : Test) (fed : ℕ 
           (record {
             cert = kept;
             judged = judge_says stakes (place_kind j) kept
-                (subst (λ (ws : List ℕ). judge_kind ws (place_kind j) kept ≡ Fine) (stakes_are stakes me g size before) (ready.inv.certificates s j t));
+                (subst (λ (ws : List ℕ). judge_kind ws (place_kind j) kept ≡ Ok tt) (stakes_are stakes me g size before) (ready.inv.certificates s j t));
             slot = refl;
             block = refl;
             genuine = holds.kept s j t;
@@ -351,15 +350,15 @@ seven_of_kind_three stakes genesis honest fed ring s cs all apart =
     no_eight stakes genesis honest fed ring s (λ i. (cs i).block) (λ i h. check_of stakes genesis honest fed ring certificate.NotarFallback s (cs i) (all i h)) apart
 
 -- 8 says that the certificate is no repeat, and that no place is free for it.
-eight_says : (a b : Bool) → refuse_if a refusal.AlreadyKept (refuse_if (not b) refusal.OtherStands Fine) ≡ Refused refusal.OtherStands → (a ≡ false) × (b ≡ false)
+eight_says : (a b : Bool) → refuse_if a refusal.AlreadyKept (refuse_if (not b) refusal.OtherStands (Ok tt)) ≡ Err refusal.OtherStands → (a ≡ false) × (b ≡ false)
 unfolding refuse_if
 eight_says true b e = let z : ◌≡◌ {A = ℕ} 0 1 = cc in absurd (omega arith)
 eight_says false true e = let z : ◌≡◌ {A = ℕ} 0 1 = cc in absurd (omega arith)
 eight_says false false e = (refl, refl)
 
 -- 17 and 9 are not 8.
-past_both : (a b : Bool) (l : Ledger) (packet : List ℕ) → (whenever a (λ _. whenever b (λ _. take_packet l packet) (refused_with l refusal.NoRoom)) (refused_with l refusal.BadRecord)).answer ≡ step.Refused refusal.OtherStands
-    → (a ≡ true) × ((take_packet l packet).answer ≡ step.Refused refusal.OtherStands)
+past_both : (a b : Bool) (l : Ledger) (packet : List ℕ) → (whenever a (λ _. whenever b (λ _. take_packet l packet) (refused_with l refusal.NoRoom)) (refused_with l refusal.BadRecord)).answer ≡ Err refusal.OtherStands
+    → (a ≡ true) × ((take_packet l packet).answer ≡ Err refusal.OtherStands)
 unfolding whenever refused_with
 past_both false b l packet e = let z : ◌≡◌ {A = ℕ} 0 1 = cc in absurd (omega arith)
 past_both true false l packet e = let z : ◌≡◌ {A = ℕ} 0 1 = cc in absurd (omega arith)
@@ -369,14 +368,14 @@ past_both true true l packet e = (refl, e)
 pub holder_never_eight : (stakes : List ℕ) (genesis : ℕ → ℕ) (honest : Test) (fed : ℕ → List Arrival) → Ring stakes genesis honest fed
     → (me g : ℕ) → Sized stakes me → (before : List Arrival) → HoldsGenuine honest (cast_by stakes genesis honest fed) (after_all (fresh stakes me g) before)
     → (room : ℕ) (packet : List ℕ) → GenuinePacket (length stakes) honest (cast_by stakes genesis honest fed) packet
-    → ¬ ((take_certificate (after_all (fresh stakes me g) before) room packet).answer ≡ step.Refused refusal.OtherStands)
+    → ¬ ((take_certificate (after_all (fresh stakes me g) before) room packet).answer ≡ Err refusal.OtherStands)
 unfolding take_certificate kept_verdict
 holder_never_eight stakes genesis honest fed ring me g size before holds room packet genuine e =
     let l : Ledger = after_all (fresh stakes me g) before in
     let both = past_both (well_formed l) (leb outbox_words room) l packet e in
     let x = packet_eight l packet both.1 in
     let c : Certificate = x.certificate in
-    let fine = subst (λ (ws : List ℕ). judge ws c ≡ Fine) (stakes_are stakes me g size before) x.fine in
+    let fine = subst (λ (ws : List ℕ). judge ws c ≡ Ok tt) (stakes_are stakes me g size before) x.fine in
     let says = eight_says (some_kept (is_repeat (kind_in l.count c.kind) c.block) 0 (certificates_at l c.slot)) (has_room (kind_in l.count c.kind) 0 (certificates_at l c.slot)) x.stands in
     let k : kind_in l.count c.kind ≡ kind_in (length stakes) c.kind = ap (λ (m : ℕ). kind_in m c.kind) (count_is stakes me g size before) in
     never stakes genesis honest fed ring me g size before holds c (genuine.first c x.next x.read) fine both.0

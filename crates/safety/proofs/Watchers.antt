@@ -1,4 +1,5 @@
 -- Watchers and honest nodes as writers: what they write is accepted and genuine, and so their proofs agree.
+use Rattle.std.specs.Prelude.{Ok}
 use mathlib.Core.Path.{◌≡◌, sym, ap, ◌∙◌}
 use Prim.Native.Nat.{ℕ, ◌<◌, ◌^◌}
 use mathlib.Core.List.{List}
@@ -6,7 +7,6 @@ use native.Mathlib.Omega.{arith}
 use lib.ListN.{length}
 use Rattle.rulebook.specs.declared.Slot.{Slot}
 use Rattle.rulebook.specs.declared.CertificateKind.{CertificateKind}
-use Rattle.rulebook.specs.declared.WriteAnswer.TheVariants as write
 use Rattle.rulebook.specs.Ledger.{Ledger}
 use Rattle.rulebook.specs.Taking.{Arrival}
 use Rattle.rulebook.specs.Checker.{check_proof}
@@ -63,7 +63,7 @@ module _ (stakes : List ℕ) (genesis : ℕ → ℕ) (honest : Test) (fed : ℕ 
     pub accepted : AcceptedAs (check_proof stakes (write_proof l room s b).bytes) kind s b
     pub genuine : GenuinePacket (length stakes) honest (cast_by stakes genesis honest fed) (write_proof l room s b).bytes
 
-  by_writer : (l : Ledger) → Writer stakes genesis honest fed l → (room s b size : ℕ) → b < 2 ^ 64 → (write_proof l room s b).answer ≡ write.Written size → Written l room s b
+  by_writer : (l : Ledger) → Writer stakes genesis honest fed l → (room s b size : ℕ) → b < 2 ^ 64 → (write_proof l room s b).answer ≡ Ok size → Written l room s b
   by_writer l (node n h before later e) room s b size lt w =
       let a = written_proof_accepted stakes n (genesis n) (ring.started n h) before room s b size lt w in
       record { kind = a.0; accepted = a.1; genuine = written_proof_genuine stakes genesis honest fed ring n h before later e room s b size lt w }

@@ -1,10 +1,8 @@
 -- While less than a fifth lies there is room for every genuine certificate: what of one slot can be genuine, and that 8 is never answered.
-use Rattle.std.specs.Prelude.{◌≡◌, List, ◌++◌, ℕ, ◌<◌, length, T}
+use Rattle.std.specs.Prelude.{◌≡◌, List, ◌++◌, ℕ, ◌<◌, length, T, Ok, Err}
 use Rattle.rulebook.specs.declared.CertificateKind.{CertificateKind}
 use Rattle.rulebook.specs.declared.CertificateKind.TheVariants as certificate
 use Rattle.rulebook.specs.declared.Refusal.TheVariants as refusal
-use Rattle.rulebook.specs.declared.StepAnswer.TheVariants as step
-use Rattle.rulebook.specs.declared.Verdict.TheVariants.{Fine}
 use Rattle.rulebook.specs.Certificates.{Certificate}
 use Rattle.rulebook.specs.PaperNumbers.{kind_in}
 use Rattle.rulebook.specs.Ledger.{fresh}
@@ -18,7 +16,7 @@ module _ (stakes : List ℕ) (genesis : ℕ → ℕ) (honest : Test) (fed : ℕ 
   -- A genuine certificate of kind k for slot s that the checker accepts.
   pub record Stands (k : CertificateKind) (s : ℕ) (c : Certificate) : Type 0 where
     pub genuine : Genuine (length stakes) honest (cast_by stakes genesis honest fed) c
-    pub accepted : judge stakes c ≡ Fine
+    pub accepted : judge stakes c ≡ Ok tt
     pub kind : kind_in (length stakes) c.kind ≡ k
     pub slot : c.slot ≡ s
 
@@ -46,4 +44,4 @@ NeverEight =
     (stakes : List ℕ) (genesis : ℕ → ℕ) (honest : Test) (fed : ℕ → List Arrival) → Ring stakes genesis honest fed
     → (n : ℕ) → T (honest n) → (before later : List Arrival) → fed n ≡ before ++ later
     → (room : ℕ) (packet : List ℕ) → GenuinePacket (length stakes) honest (cast_by stakes genesis honest fed) packet
-    → ¬ ((take_certificate (after_all (fresh stakes n (genesis n)) before) room packet).answer ≡ step.Refused refusal.OtherStands)
+    → ¬ ((take_certificate (after_all (fresh stakes n (genesis n)) before) room packet).answer ≡ Err refusal.OtherStands)

@@ -1,4 +1,5 @@
 -- One turn of the loop over decimal digits, and the tests of bytes as facts. Assumes nothing.
+use Rattle.std.specs.Prelude.{Some, None}
 use mathlib.Core.Path.{◌≡◌, refl, sym, ap, ◌∙◌}
 use mathlib.Core.List.{List, [], ◌∷◌}
 use mathlib.Core.Bool.{Bool, true, false, ◌&&◌, ◌||◌}
@@ -10,8 +11,6 @@ use lib.Seq.{drop-cons}
 use lib.Dec.{eqb, leb, ltb}
 use borrow.Author.Tests.{ltb-true, ltb-false, leb-true, leb-false, eqb-true, eqb-false, le-leb, lt-leb}
 use Rattle.rule_laws.proofs.ToolLaws.{given_on, given_off, and_both}
-use Rattle.script.specs.declared.Decimal.{Decimal}
-use Rattle.script.specs.declared.Decimal.TheVariants as decimal
 use Rattle.script.specs.Digits.{is_digit, fits64, decimal_from, decimal_of}
 
 -- A byte between two bytes.
@@ -47,7 +46,7 @@ fits_test v d h = go (ltb v 1844674407370955161) refl (eqb v 1844674407370955161
         sym (lt-leb (10 * v + d) 18446744073709551615 (omega arith))
 
 -- An empty word is no number; any other is read from its front.
-pub decimal_none : (s : List ℕ) → length s ≡ 0 → decimal.Bad ≡ decimal_of s
+pub decimal_none : (s : List ℕ) → length s ≡ 0 → None ≡ decimal_of s
 unfolding decimal_of
 decimal_none [] h = refl
 decimal_none (b ∷ s) h = absurd (omega arith)
@@ -58,7 +57,7 @@ decimal_start [] h = absurd (h refl)
 decimal_start (b ∷ s) h = refl
 
 module _ (s : List ℕ) (i v : ℕ) where
-  pub decimal_end : length s ≤ i → decimal_from v (drop i s) ≡ decimal.Value v
+  pub decimal_end : length s ≤ i → decimal_from v (drop i s) ≡ Some v
   unfolding decimal_from
   decimal_end h = rw (drop_of_length-le s h)
 
@@ -66,15 +65,15 @@ module _ (s : List ℕ) (i v : ℕ) where
     at_i : decimal_from v (drop i s) ≡ decimal_from v (b ∷ drop (i + 1) s)
     at_i = rw (e, add-one, drop-cons s i 0 h)
 
-    pub decimal_other : is_digit b ≡ false → decimal_from v (drop i s) ≡ decimal.Bad
+    pub decimal_other : is_digit b ≡ false → decimal_from v (drop i s) ≡ None
     unfolding decimal_from
-    decimal_other t = at_i ∙ given_off (is_digit b) decimal.Bad _ t
+    decimal_other t = at_i ∙ given_off (is_digit b) None _ t
 
-    pub decimal_large : is_digit b ≡ true → fits64 (10 * v + (b - 48)) ≡ false → decimal_from v (drop i s) ≡ decimal.Bad
+    pub decimal_large : is_digit b ≡ true → fits64 (10 * v + (b - 48)) ≡ false → decimal_from v (drop i s) ≡ None
     unfolding decimal_from
-    decimal_large t f = at_i ∙ (given_on (is_digit b) decimal.Bad _ t ∙ given_off (fits64 (10 * v + (b - 48))) decimal.Bad _ f)
+    decimal_large t f = at_i ∙ (given_on (is_digit b) None _ t ∙ given_off (fits64 (10 * v + (b - 48))) None _ f)
 
     pub decimal_more : is_digit b ≡ true → fits64 (10 * v + (b - 48)) ≡ true
         → decimal_from v (drop i s) ≡ decimal_from (10 * v + (b - 48)) (drop (i + 1) s)
     unfolding decimal_from
-    decimal_more t f = at_i ∙ (given_on (is_digit b) decimal.Bad _ t ∙ given_on (fits64 (10 * v + (b - 48))) decimal.Bad _ f)
+    decimal_more t f = at_i ∙ (given_on (is_digit b) None _ t ∙ given_on (fits64 (10 * v + (b - 48))) None _ f)

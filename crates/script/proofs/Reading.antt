@@ -1,4 +1,5 @@
 -- One turn of the loop over the numbers of a line. Assumes nothing.
+use Rattle.std.specs.Prelude.{Option, Some, None}
 use mathlib.Core.Path.{◌≡◌, refl, sym, ap, ◌∙◌}
 use mathlib.Core.Bool.{Bool, true, false}
 use mathlib.Core.List.{List}
@@ -9,8 +10,6 @@ use lib.Dec.{ltb}
 use borrow.Author.Tests.{lt-ltb, le-ltb}
 use Rattle.rulebook.specs.Tools.{whenever}
 use Rattle.rule_laws.proofs.ToolLaws.{given_on, given_off}
-use Rattle.script.specs.declared.Decimal.{Decimal}
-use Rattle.script.specs.declared.Decimal.TheVariants as decimal
 use Rattle.script.specs.declared.Word.{Word}
 use Rattle.script.specs.Words.{is_space, is_ink, leading, WordIn}
 use Rattle.script.specs.Digits.{decimal_of}
@@ -58,14 +57,14 @@ module _ (line : List ℕ) (n at count : ℕ) (out : List ℕ) where
         ∙ given_on (ltb (word_from line at) (word_to line at)) stops _ (lt-ltb (word_from line at) (word_to line at) (rw (word_from_lem line at w h, word_to_lem line at w h) at k))
         ∙ (rw (word_from_lem line at w h, word_to_lem line at w h))
 
-    pub numbers_bad : w.from < w.to → decimal.Bad ≡ decimal_of (take (w.to - w.from) (drop w.from line)) → numbers_from (suc n) line at count out ≡ read false count out
+    pub numbers_bad : w.from < w.to → None ≡ decimal_of (take (w.to - w.from) (drop w.from line)) → numbers_from (suc n) line at count out ≡ read false count out
     unfolding onward
-    numbers_bad k e = numbers_word k ∙ ap (λ (d : Decimal). onward d (read false count out) (λ v. numbers_from n line w.to (count + 1) (set out count v))) (sym e)
+    numbers_bad k e = numbers_word k ∙ ap (λ (d : Option ℕ). onward d (read false count out) (λ v. numbers_from n line w.to (count + 1) (set out count v))) (sym e)
 
-    pub numbers_more : (v : ℕ) → w.from < w.to → decimal.Value v ≡ decimal_of (take (w.to - w.from) (drop w.from line))
+    pub numbers_more : (v : ℕ) → w.from < w.to → Some v ≡ decimal_of (take (w.to - w.from) (drop w.from line))
         → numbers_from (suc n) line at count out ≡ numbers_from n line w.to (count + 1) (set out count v)
     unfolding onward
-    numbers_more v k e = numbers_word k ∙ ap (λ (d : Decimal). onward d (read false count out) (λ v. numbers_from n line w.to (count + 1) (set out count v))) (sym e)
+    numbers_more v k e = numbers_word k ∙ ap (λ (d : Option ℕ). onward d (read false count out) (λ v. numbers_from n line w.to (count + 1) (set out count v))) (sym e)
 
 -- ---- the loop: after `count` numbers so many words may follow
 
@@ -82,11 +81,11 @@ module _ (line : List ℕ) (at count : ℕ) (out : List ℕ) (w : Word) (h : Wor
   pub turn_none : w.to ≤ w.from → numbers_from (ahead line count) line at count out ≡ read true count out
   turn_none k = ap (λ (f : ℕ). numbers_from f line at count out) one_more ∙ numbers_none line (length line - count) at count out w h l k
 
-  pub turn_bad : w.from < w.to → decimal.Bad ≡ decimal_of (take (w.to - w.from) (drop w.from line))
+  pub turn_bad : w.from < w.to → None ≡ decimal_of (take (w.to - w.from) (drop w.from line))
       → numbers_from (ahead line count) line at count out ≡ read false count out
   turn_bad k e = ap (λ (f : ℕ). numbers_from f line at count out) one_more ∙ numbers_bad line (length line - count) at count out w h l k e
 
-  pub turn_more : (v : ℕ) (left : List ℕ) → w.from < w.to → decimal.Value v ≡ decimal_of (take (w.to - w.from) (drop w.from line)) → left ≡ set out count v
+  pub turn_more : (v : ℕ) (left : List ℕ) → w.from < w.to → Some v ≡ decimal_of (take (w.to - w.from) (drop w.from line)) → left ≡ set out count v
       → numbers_from (ahead line count) line at count out ≡ numbers_from (ahead line (count + 1)) line w.to (count + 1) left
   turn_more v left k e q =
       ap (λ (f : ℕ). numbers_from f line at count out) one_more

@@ -1,8 +1,6 @@
 -- What the rest of a line says as numbers.
-use Rattle.std.specs.Prelude.{◌≡◌, Bool, true, false, List, ℕ, zero, suc, ◌+◌, ◌-◌, min, ltb, length, set, take, drop}
+use Rattle.std.specs.Prelude.{◌≡◌, Bool, true, false, List, ℕ, zero, suc, ◌+◌, ◌-◌, min, ltb, length, set, take, drop, Option, Some, None}
 use Rattle.rulebook.specs.Tools.{whenever}
-use Rattle.script.specs.declared.Decimal.{Decimal}
-use Rattle.script.specs.declared.Decimal.TheVariants as decimal
 use Rattle.script.specs.declared.Numbers.{Numbers}
 use Rattle.script.specs.Words.{is_space, is_ink, leading}
 use Rattle.script.specs.Digits.{decimal_of}
@@ -23,9 +21,9 @@ abbrev pub read : Bool → ℕ → List ℕ → Read
 read g n out = record { answer = record { good = g; count = n }; out = out }
 
 -- A word that is no number ends the reading; else it goes on.
-unfoldable pub onward : Decimal → Read → (ℕ → Read) → Read
-onward (decimal.Value v) stop next = next v
-onward decimal.Bad stop next = stop
+unfoldable pub onward : Option ℕ → Read → (ℕ → Read) → Read
+onward (Some v) stop next = next v
+onward None stop next = stop
 
 -- From a place on, after `count` numbers: word after word, each number put to its place where the buffer has one. A line of n bytes has
 -- no more than n words, so the first argument only bounds the reading.

@@ -8,13 +8,6 @@ ghost use Rattle.script.specs.Digits.{is_digit, fits64, decimal_of};
 
 use slices::{least, put_word};
 
-// What a word says as a decimal number.
-#[derive(Clone, Copy)]
-pub enum Decimal {
-    Value(u64),
-    Bad,
-}
-
 // What the rest of a line says as numbers: how many there are, and whether every word is one.
 #[derive(Clone, Copy)]
 pub struct Numbers {
@@ -91,26 +84,26 @@ fn holds(v: u64, d: u64) -> bool
 }
 
 // The decimal number that a word spells, leading zeros allowed.
-pub fn read_decimal(word: &[u8]) -> Decimal
+pub fn read_decimal(word: &[u8]) -> Option<u64>
     ensures { result ≡ decimal_of word.now }
 {
     if word.len() == 0 {
-        return Decimal::Bad;
+        return None;
     }
     let mut v: u64 = 0;
     let mut i = 0;
     while i < word.len() {
         let b = wide(word[i]);
         if !is_digit(b) {
-            return Decimal::Bad;
+            return None;
         }
         if !holds(v, b - 48) {
-            return Decimal::Bad;
+            return None;
         }
         v = 10 * v + (b - 48);
         i += 1;
     }
-    Decimal::Value(v)
+    Some(v)
 }
 
 // Reads the words from a place on as numbers and puts the first of them into out, as far as it has room.
@@ -127,7 +120,7 @@ pub fn read_numbers(line: &[u8], at: usize, out: &mut [u64]) -> Numbers
             return Numbers { good: true, count };
         }
         let d = read_decimal(&line[from..to]);
-        let Decimal::Value(v) = d else {
+        let Some(v) = d else {
             return Numbers { good: false, count };
         };
         put_word(out, count, v);

@@ -1,4 +1,5 @@
 -- One chain over seen lives, by the rule book's theorem on what arrived.
+use Rattle.std.specs.Prelude.{Ok}
 use mathlib.Core.Path.{◌≡◌, sym, ap, ◌∙◌, subst}
 use mathlib.Core.Bool.{Bool, not}
 use mathlib.Core.List.{List}
@@ -8,7 +9,6 @@ use lib.ListN.{length}
 use borrow.Author.Tests.{ne_eqb}
 use Rattle.rulebook.specs.declared.CertificateKind.{CertificateKind}
 use Rattle.rulebook.specs.declared.CertificateKind.TheVariants as certificate
-use Rattle.rulebook.specs.declared.WriteAnswer.TheVariants as write
 use Rattle.rulebook.specs.Ledger.{Ledger, none, fresh, row_at, keeps_block}
 use Rattle.rulebook.specs.Pool.{serves_as}
 use Rattle.rulebook.specs.Rules.{record_of}
@@ -65,7 +65,7 @@ module _ (stakes : List ℕ) (genesis : ℕ → ℕ) (honest : Test) (lives : Li
 -- Where a proof writer answers 0 at a moment, the rule book's writer writes from the ledger after what had arrived.
 proof_written : (stakes : List ℕ) (own genesis : ℕ) (v : Seen) → NodeSeen stakes own genesis v → (buffer after : List ℕ) (s b written : ℕ)
     → Wrote (proof_on v.words (length buffer) s b) buffer 0 written after
-    → (write_proof (after_all (fresh stakes own genesis) v.came) (length buffer) s b).answer ≡ write.Written written
+    → (write_proof (after_all (fresh stakes own genesis) v.came) (length buffer) s b).answer ≡ Ok written
 proof_written stakes own genesis v h buffer after s b written w =
     ap (λ (x : writer.Wrote). x.answer) (sym (proof_on_lem stakes own genesis (start_sized stakes own genesis h.started) v h.lived (length buffer) s b))
     ∙ (zero_written _ buffer after written w).1

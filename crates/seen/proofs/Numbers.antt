@@ -1,17 +1,12 @@
 -- Numbers of the panel and the answers that they stand for.
+use Rattle.std.specs.Prelude.{Result, Ok, Err}
 use mathlib.Core.Path.{◌≡◌, refl, sym, ap, ◌∙◌}
 use mathlib.Core.List.{List, [], ◌∷◌}
 use Prim.Native.Nat.{ℕ}
 use native.Mathlib.Omega.{arith}
 use Rattle.rulebook.specs.declared.CertificateKind.{CertificateKind}
-use Rattle.rulebook.specs.declared.CheckAnswer.{CheckAnswer}
-use Rattle.rulebook.specs.declared.CheckAnswer.TheVariants as check
 use Rattle.rulebook.specs.declared.Refusal.{Refusal}
 use Rattle.rulebook.specs.declared.Refusal.TheVariants as refusal
-use Rattle.rulebook.specs.declared.StepAnswer.{StepAnswer}
-use Rattle.rulebook.specs.declared.StepAnswer.TheVariants.{Done, Refused}
-use Rattle.rulebook.specs.declared.WriteAnswer.{WriteAnswer}
-use Rattle.rulebook.specs.declared.WriteAnswer.TheVariants as write
 use Rattle.rulebook.specs.PaperNumbers.{refusal_number, step_panel, kind_in, number_in, write_panel, check_number, check_values}
 use Rattle.rulebook.specs.Writers as writer
 use Rattle.rulebook.specs.Writers.{Writes}
@@ -19,6 +14,7 @@ use Rattle.rule_laws.proofs.KindLaws.{kind_back}
 use Rattle.safety.specs.Promises.{AcceptedAs}
 use Rattle.answers.specs.Face.{Beside, accepted_values, Wrote, Checked}
 use Rattle.seen.specs.Written.{NamedAs}
+use Rattle.rulebook.specs.declared.Accepted.{Accepted}
 
 -- No refusal's number is 0.
 pub refusal_above : {X : Type 0} (r : Refusal) → refusal_number r ≡ 0 → X
@@ -64,28 +60,28 @@ eight_stands_lem refusal.NotAProof e = absurd (omega (arith, e))
 eight_stands_lem refusal.BadRecord e = absurd (omega (arith, e))
 eight_stands_lem refusal.NotHeld e = absurd (omega (arith, e))
 
-pub eight_refused : (a : StepAnswer) → (step_panel a).number ≡ 8 → a ≡ Refused refusal.OtherStands
+pub eight_refused : (a : Result ℕ Refusal) → (step_panel a).number ≡ 8 → a ≡ Err refusal.OtherStands
 unfolding step_panel
-eight_refused (Done n) e = absurd (omega (arith, e))
-eight_refused (Refused r) e = ap Refused (eight_stands_lem r e)
+eight_refused (Ok n) e = absurd (omega (arith, e))
+eight_refused (Err r) e = ap Err (eight_stands_lem r e)
 
 -- A check that answers 0 accepts the kind, slot and block that its values name.
-pub zero_accepted : {count : ℕ} {answer : CheckAnswer} {kind slot block signers weight missing : ℕ} → Checked count answer 0 (kind ∷ slot ∷ block ∷ signers ∷ weight ∷ []) missing
+pub zero_accepted : {count : ℕ} {answer : Result Accepted Refusal} {kind slot block signers weight missing : ℕ} → Checked count answer 0 (kind ∷ slot ∷ block ∷ signers ∷ weight ∷ []) missing
     → AcceptedAs answer (kind_in count kind) slot block
 unfolding check_number check_values
 zero_accepted {count} {answer} {kind} {slot} {block} {signers} {weight} {missing} c = go answer c.numbered c.valued
   where
-    go : (a : CheckAnswer) → 0 ≡ check_number a → kind ∷ slot ∷ block ∷ signers ∷ weight ∷ [] ≡ check_values count a
+    go : (a : Result Accepted Refusal) → 0 ≡ check_number a → kind ∷ slot ∷ block ∷ signers ∷ weight ∷ [] ≡ check_values count a
         → AcceptedAs a (kind_in count kind) slot block
-    go (check.Accepted x) e v =
+    go (Ok x) e v =
         let k : number_in count x.kind ≡ kind = cc in
         let s : x.slot.0 ≡ slot = cc in
         let b : x.block ≡ block = cc in
         record { what = x; accepted = refl; kind_is = sym (kind_back count x.kind) ∙ ap (kind_in count) k; slot_is = s; block_is = b }
-    go (check.Refused r) e v = refusal_above r (sym e)
+    go (Err r) e v = refusal_above r (sym e)
 
 -- What a check answers where its answer accepts.
-pub named : (count : ℕ) (answer : CheckAnswer) (number : ℕ) (values : List ℕ) (missing : ℕ) (k : CertificateKind) (slot block : ℕ)
+pub named : (count : ℕ) (answer : Result Accepted Refusal) (number : ℕ) (values : List ℕ) (missing : ℕ) (k : CertificateKind) (slot block : ℕ)
     → Checked count answer number values missing → AcceptedAs answer k slot block → NamedAs number values (number_in count k) slot block
 unfolding check_number check_values
 named count answer number values missing k slot block c a =
@@ -100,10 +96,10 @@ named count answer number values missing k slot block c a =
 
 -- A writer that answers 0 wrote as many bytes as it counts.
 pub zero_written : (w : writer.Wrote) (buffer after : List ℕ) (count : ℕ) → Wrote w buffer 0 count after
-    → Writes w buffer w.answer after × (w.answer ≡ write.Written count)
+    → Writes w buffer w.answer after × (w.answer ≡ Ok count)
 unfolding write_panel
 zero_written w buffer after count r = (record { answered = refl; bytes = r.bytes }, go w.answer r.numbered r.counted)
   where
-    go : (a : WriteAnswer) → 0 ≡ (write_panel a).number → Beside count (write_panel a).values → a ≡ write.Written count
-    go (write.Written n) e b = let q : n ≡ count = cc in ap write.Written q
-    go (write.Refused x) e b = refusal_above x (sym e)
+    go : (a : Result ℕ Refusal) → 0 ≡ (write_panel a).number → Beside count (write_panel a).values → a ≡ Ok count
+    go (Ok n) e b = let q : n ≡ count = cc in ap Ok q
+    go (Err x) e b = refusal_above x (sym e)

@@ -1,4 +1,5 @@
 -- Progress over seen lives: where the mail is in by the words it is in by the ledgers.
+use Rattle.std.specs.Prelude.{⊤, Result, Ok}
 use mathlib.Core.Path.{◌≡◌, refl, sym, ap, ◌∙◌, subst}
 use mathlib.Core.Bool.{true, false, not, ◌&&◌}
 use mathlib.Core.List.{List}
@@ -10,9 +11,6 @@ use borrow.Author.Tests.{le-leb, le-ltb}
 use Rattle.rulebook.specs.declared.CertificateKind.{CertificateKind}
 use Rattle.rulebook.specs.declared.CertificateKind.TheVariants as certificate
 use Rattle.rulebook.specs.declared.Refusal.TheVariants as refusal
-use Rattle.rulebook.specs.declared.Verdict.{Verdict}
-use Rattle.rulebook.specs.declared.Verdict.TheVariants.{Fine}
-use Rattle.rulebook.specs.declared.WriteAnswer.TheVariants as write
 use Rattle.rulebook.specs.Weights.{last_slot, slot_ok, total_to}
 use Rattle.rulebook.specs.PaperNumbers.{number_in}
 use Rattle.rulebook.specs.Ledger.{Ledger, none, fresh, cell_at, no_initial, is_armed, keeps_block}
@@ -40,26 +38,26 @@ use Rattle.progress.proofs.NeverHangs as hangs
 use Rattle.progress.proofs.Watching as watching
 use Rattle.progress.proofs.Watching.{watcher_woken_armed, watchers_decide}
 use Rattle.rulebook.specs.PaperNumbers.{write_panel}
-use Rattle.rulebook.specs.declared.WriteAnswer.{WriteAnswer}
 use Rattle.safety.proofs.Lives.{Sized, start_sized, watch_sized}
 use Rattle.seen.specs.Seen.{Seen, ledger_in, LifeSeen, NodeSeen}
 use Rattle.seen.specs.Ring.{Lives, told_ballot, Ring}
 use Rattle.seen.specs.Progress.{Gives, told_stake, MailIn, WatcherMail, Decided, notarized, skipped_over, WokenArmed, NeverHangs, NextWindowArmed, WatchersArm}
 use Rattle.seen.proofs.Ring.{cast_told, book_ring}
 use Rattle.seen.proofs.Written.{certificate_on_lem}
+use Rattle.rulebook.specs.declared.Refusal.{Refusal}
 
 -- ---- what is held is written
 
 held_written : (l : Ledger) (room : ℕ) (k : CertificateKind) (s b : ℕ) → certificate_room l.count ≤ room → is_other_kind k ≡ false → 1 ≤ s → s ≤ last_slot
     → block_misfits k b ≡ false → held l k s b ≡ true
-    → (write_certificate l room k s b).answer ≡ write.Written (length (certificate_bytes (certificate_for l k s b)))
+    → (write_certificate l room k s b).answer ≡ Ok (length (certificate_bytes (certificate_for l k s b)))
 unfolding write_certificate certificate_verdict wrote_on slot_ok
 held_written l room k s b fits kind lo hi block h =
-    ap (λ (v : Verdict). (wrote_on v (certificate_bytes (certificate_for l k s b))).answer)
+    ap (λ (v : Result ⊤ Refusal). (wrote_on v (certificate_bytes (certificate_for l k s b))).answer)
     (refuse_none _ refusal.NoRoom _ (le-ltb room (certificate_room l.count) fits)
     (refuse_none _ refusal.BadKind _ kind
     (refuse_none _ refusal.BadSlot _ (ap not (both_and (leb 1 s) (leb s last_slot) (le-leb 1 s lo) (le-leb s last_slot hi)))
-    (refuse_none _ refusal.BadBlock _ block (refuse_none _ refusal.NotHeld Fine (ap not h) refl)))))
+    (refuse_none _ refusal.BadBlock _ block (refuse_none _ refusal.NotHeld (Ok tt) (ap not h) refl)))))
 
 -- A node's life, or a watcher's.
 module _ (stakes : List ℕ) (own genesis : ℕ) (size : Sized stakes own) (life : Seen) (h : LifeSeen (fresh stakes own genesis) life) where
@@ -78,7 +76,7 @@ module _ (stakes : List ℕ) (own genesis : ℕ) (size : Sized stakes own) (life
             w.numbered
             ∙ ap (λ (x : Wrote). (write_panel x.answer).number) (certificate_on_lem stakes own genesis size life h (length buffer) (number_in (length stakes) k) s b)
             ∙ ap (λ (j : CertificateKind). (write_panel (write_certificate now (length buffer) j s b).answer).number) (kind_back (length stakes) k)
-            ∙ ap (λ (x : WriteAnswer). (write_panel x).number) (held_written now (length buffer) k s b
+            ∙ ap (λ (x : Result ℕ Refusal). (write_panel x).number) (held_written now (length buffer) k s b
             (subst (λ (n : ℕ). certificate_room n ≤ length buffer) (sym (count_is stakes own genesis size life.came)) fits)
             kind lo hi block (T_true (held now k s b) t));
       }

@@ -1,4 +1,5 @@
 -- The words of a life are sound and mean the rule book's ledger, so what is written of them is what the rule book's writers write.
+use Rattle.std.specs.Prelude.{Result, Ok}
 use mathlib.Core.Path.{◌≡◌, refl, sym, ap, ◌∙◌, subst}
 use mathlib.Core.Bool.{Bool, true, false, not}
 use mathlib.Core.List.{List}
@@ -8,12 +9,7 @@ use native.Mathlib.Omega.{arith}
 use lib.Dec.{T}
 use lib.ListN.{length, take}
 use Rattle.rulebook.specs.declared.Accepted.{Accepted}
-use Rattle.rulebook.specs.declared.CheckAnswer.TheVariants as check
 use Rattle.rulebook.specs.declared.Refusal.TheVariants as refusal
-use Rattle.rulebook.specs.declared.StepAnswer.{StepAnswer}
-use Rattle.rulebook.specs.declared.Verdict.TheVariants.{Fine}
-use Rattle.rulebook.specs.declared.WriteAnswer.{WriteAnswer}
-use Rattle.rulebook.specs.declared.WriteAnswer.TheVariants as write
 use Rattle.rulebook.specs.Certificates.{Certificate}
 use Rattle.rulebook.specs.PaperNumbers.{refusal_number, step_panel, kind_in, number_in}
 use Rattle.rulebook.specs.Ledger.{Ledger, fresh, table_of, certificates_at}
@@ -53,9 +49,10 @@ use Rattle.seen.specs.Written.{NamedAs, CertificateAccepted, ProofAccepted, Writ
 use Rattle.seen.proofs.Numbers.{eight_refused, named, zero_written}
 use Rattle.seen.proofs.Alive.{alive_common}
 use Rattle.seen.proofs.Ring.{cast_told, genuine, book_ring}
+use Rattle.rulebook.specs.declared.Refusal.{Refusal}
 
 -- The first bytes of the buffer, as many as were written.
-front : {w : writer.Wrote} {buffer after : List ℕ} {a : WriteAnswer} (n : ℕ) → Writes w buffer a after → n ≡ length w.bytes → take n after ≡ w.bytes
+front : {w : writer.Wrote} {buffer after : List ℕ} {a : Result ℕ Refusal} (n : ℕ) → Writes w buffer a after → n ≡ length w.bytes → take n after ≡ w.bytes
 front {w} {buffer} {after} n x e =
     let z : n - 0 ≡ n = omega arith in subst (λ (m : ℕ). take m after ≡ w.bytes) z (packet_is w.bytes buffer after n x.bytes e)
 
@@ -78,7 +75,7 @@ module _ (stakes : List ℕ) (own genesis : ℕ) (size : Sized stakes own) (v : 
   -- What stands at the buffer's front is what the rule book's writer writes there.
   record Laid (w : writer.Wrote) (after : List ℕ) (n : ℕ) : Type 0 where
     bytes : take n after ≡ w.bytes
-    answer : w.answer ≡ write.Written n
+    answer : w.answer ≡ Ok n
 
   laid_certificate : (buffer after : List ℕ) (kind s b n : ℕ) → Wrote (certificate_on v.words (length buffer) kind s b) buffer 0 n after
       → Laid (write_certificate now (length buffer) (kind_in (length stakes) kind) s b) after n
@@ -100,7 +97,7 @@ module _ (stakes : List ℕ) (own genesis : ℕ) (size : Sized stakes own) (v : 
       }
 
   -- What is written is of a kind.
-  kind_written : (room kind s b n : ℕ) → (write_certificate now room (kind_in (length stakes) kind) s b).answer ≡ write.Written n → is_other_kind (kind_in (length stakes) kind) ≡ false
+  kind_written : (room kind s b n : ℕ) → (write_certificate now room (kind_in (length stakes) kind) s b).answer ≡ Ok n → is_other_kind (kind_in (length stakes) kind) ≡ false
   unfolding write_certificate certificate_verdict
   kind_written room kind s b n e = (refuse_fine _ _ _ (refuse_fine _ _ _ (wrote_fine _ _ n e)).1).0
 
@@ -167,15 +164,15 @@ never_eight stakes genesis honest lives ring n v m lent packet number made words
 
 -- ---- what the checker accepts is taken, or kept already, or answered 8
 
-welcome_by : (repeat room : Bool) (l : Ledger) (c : Certificate) (answer : StepAnswer)
-    → answer ≡ (taken_on (refuse_if repeat refusal.AlreadyKept (refuse_if (not room) refusal.OtherStands Fine)) l c).answer
+welcome_by : (repeat room : Bool) (l : Ledger) (c : Certificate) (answer : Result ℕ Refusal)
+    → answer ≡ (taken_on (refuse_if repeat refusal.AlreadyKept (refuse_if (not room) refusal.OtherStands (Ok tt))) l c).answer
     → ¬ ((step_panel answer).number ≡ 8) → ((step_panel answer).number ≡ 0) ⊎ ((step_panel answer).number ≡ 7)
 unfolding refuse_if taken_on fed_with refused_with step_panel refusal_number
-welcome_by true room l c answer e ne = inr (ap (λ (a : StepAnswer). (step_panel a).number) e)
-welcome_by false true l c answer e ne = inl (ap (λ (a : StepAnswer). (step_panel a).number) e)
-welcome_by false false l c answer e ne = absurd (ne (ap (λ (a : StepAnswer). (step_panel a).number) e))
+welcome_by true room l c answer e ne = inr (ap (λ (a : Result ℕ Refusal). (step_panel a).number) e)
+welcome_by false true l c answer e ne = inl (ap (λ (a : Result ℕ Refusal). (step_panel a).number) e)
+welcome_by false false l c answer e ne = absurd (ne (ap (λ (a : Result ℕ Refusal). (step_panel a).number) e))
 
-welcome : (l : Ledger) (packet : List ℕ) (a : Accepted) (answer : StepAnswer) → check_certificate (table_of l) packet ≡ check.Accepted a
+welcome : (l : Ledger) (packet : List ℕ) (a : Accepted) (answer : Result ℕ Refusal) → check_certificate (table_of l) packet ≡ Ok a
     → answer ≡ (take_packet l packet).answer → ¬ ((step_panel answer).number ≡ 8) → ((step_panel answer).number ≡ 0) ⊎ ((step_panel answer).number ≡ 7)
 unfolding taken kept_verdict
 welcome l packet a answer e q =

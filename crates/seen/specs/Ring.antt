@@ -1,6 +1,5 @@
 -- THE RING over seen lives: a vote was cast where an outbox told it, and counted where the words hold it.
-use Rattle.std.specs.Prelude.{◌≡◌, Bool, List, ℕ, T, length}
-use Rattle.rulebook.specs.declared.Verdict.TheVariants.{Fine}
+use Rattle.std.specs.Prelude.{◌≡◌, Bool, List, ℕ, T, length, Ok}
 use Rattle.rulebook.specs.Certificates.{Certificate, Kept}
 use Rattle.rulebook.specs.Ledger.{cell_at, kept_at, is_kept}
 use Rattle.rulebook.specs.Pool.{place_kind}
@@ -46,7 +45,7 @@ module _ (stakes : List ℕ) (genesis : ℕ → ℕ) (honest : Test) (lives : Li
   pub record FedRing : Type 0 where
     pub nodes : Nodes
     pub mail : (n m s : ℕ) (v : Ballot) → T (honest n) → T (honest m) → ¬ (m ≡ n) → T (brought_by (lives n).came s m v) → T (told_ballot lives m s v)
-    pub packets : (n : ℕ) (c : Certificate) → T (honest n) → HandedBy (lives n).came c → judge stakes c ≡ Fine → Genuine (length stakes) honest (told_ballot lives) c
+    pub packets : (n : ℕ) (c : Certificate) → T (honest n) → HandedBy (lives n).came c → judge stakes c ≡ Ok tt → Genuine (length stakes) honest (told_ballot lives) c
 
 -- What is seen of an honest node at one of its moments.
 pub record Moment (stakes : List ℕ) (genesis : ℕ → ℕ) (honest : Test) (lives : Lives) (n : ℕ) (v : Seen) : Type 0 where

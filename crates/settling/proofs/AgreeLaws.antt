@@ -1,5 +1,6 @@
 -- "At every moment it equals what a recount of the stored votes gives, in fresh and in refused cases too. A node record whose card
 -- disagrees with the recount is 17."
+use Rattle.std.specs.Prelude.{Ok}
 use mathlib.Core.Path.{◌≡◌, ap}
 use mathlib.Core.List.{List}
 use Prim.Native.Nat.{ℕ, suc, ◌≤◌}
@@ -7,7 +8,6 @@ use native.Mathlib.Omega.{arith}
 use lib.ListN.{length, get_or-replicate}
 use Rattle.rulebook.specs.declared.Input.{Input}
 use Rattle.rulebook.specs.declared.Refusal.TheVariants as refusal
-use Rattle.rulebook.specs.declared.Verdict.TheVariants.{Fine}
 use Rattle.rulebook.specs.Weights.{places_for, last_slot}
 use Rattle.rulebook.specs.Ledger.{Ledger, Row, no_card, blank_row, no_row, row_at, fresh}
 use Rattle.rulebook.specs.Cards.{CardsAgree, recount}
@@ -36,11 +36,11 @@ module _ (stakes : List ℕ) (own genesis : ℕ) where
   unfolding fresh blank_row
   fresh_card s b = ap (λ (r : Row). r.card) (get_or-replicate (suc last_slot) s (blank_row (places_for (length stakes))) no_row (omega arith))
 
-  pub cards_started : start_verdict stakes own genesis ≡ Fine → CardsAgree (fresh stakes own genesis)
+  pub cards_started : start_verdict stakes own genesis ≡ Ok tt → CardsAgree (fresh stakes own genesis)
   cards_started e = cards_agree (fresh stakes own genesis) (fresh_sound stakes own genesis e)
 
   -- After a start and whatever arrives, accepted and refused in any order.
-  pub cards_for_life : start_verdict stakes own genesis ≡ Fine → (cs : List Arrival) → CardsAgree (after (fresh stakes own genesis) cs)
+  pub cards_for_life : start_verdict stakes own genesis ≡ Ok tt → (cs : List Arrival) → CardsAgree (after (fresh stakes own genesis) cs)
   cards_for_life e cs = cards_agree (after (fresh stakes own genesis) cs) (start_sound stakes own genesis e cs)
 
 -- After an input, accepted or refused; 17 and 9 among the refusals.

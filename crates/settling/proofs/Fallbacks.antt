@@ -1,5 +1,6 @@
 -- A node casts at most three notar-fallback votes in a slot in its life, whatever it is fed: each that it casts takes one of the three
 -- places. Nothing is asked of the other nodes.
+use Rattle.std.specs.Prelude.{⊤, Result, Ok, Err}
 use mathlib.Core.Path.{◌≡◌, refl, sym, ap, ◌∙◌}
 use mathlib.Core.Bool.{false}
 use mathlib.Core.List.{List, [], ◌∷◌, ◌++◌, reverse, reverse_aux}
@@ -16,8 +17,6 @@ use Rattle.rulebook.specs.declared.VoteKind.{VoteKind}
 use Rattle.rulebook.specs.declared.Place.TheVariants.{Free}
 use Rattle.rulebook.specs.declared.Input.{Input}
 use Rattle.rulebook.specs.declared.Input.TheVariants as input
-use Rattle.rulebook.specs.declared.Verdict.{Verdict}
-use Rattle.rulebook.specs.declared.Verdict.TheVariants.{Fine, Refused}
 use Rattle.rulebook.specs.Tools.{part}
 use Rattle.rulebook.specs.Weights.{last_slot}
 use Rattle.rulebook.specs.PaperNumbers.{vote_number}
@@ -46,6 +45,7 @@ use Rattle.settling.proofs.LawfulRules.{voter_casting, skips_keep, run_keeps}
 use Rattle.settling.proofs.Soundness.{sound_lawful, intake_sound, served_sound}
 use Rattle.settling.proofs.Verdicts.{vote_fine, block_fine, timeout_fine}
 use Rattle.settling.proofs.Life.{taken_fine}
+use Rattle.rulebook.specs.declared.Refusal.{Refusal}
 
 -- ---- told in any order
 
@@ -165,7 +165,7 @@ module _ (l : Ledger) (h : Sound l) (s : ℕ) where
       (stored_cases l h.shaped v.slot.0 v.node.0 v.kind v.block f.high (omega (arith, f.node, count_placed l (formed l h.formed).head)) f.free
       (λ j i c. i ≡ l.own → c ≡ cell_at l j i) (λ q. absurd (f.outside q)) (λ j i q. refl) s l.own refl)
 
-  intake_taken : (i : Input) → verdict l i ≡ Fine → Taken s left (intake l i)
+  intake_taken : (i : Input) → verdict l i ≡ Ok tt → Taken s left (intake l i)
   unfolding intake verdict fallbacks_told keep_block time_out is_watcher
   intake_taken (input.Vote v) e =
       record { sound = intake_sound l h (input.Vote v) e; balance = omega (arith, outside_left v (vote_fine l v e)) }
@@ -184,12 +184,12 @@ module _ (l : Ledger) (h : Sound l) (s : ℕ) where
       (λ _. (skips_keep (AndVotes (Taken s left)) (voter_casting (Taken s left) (taken_lawful s left)) t.0 f.low f.high o (k, f.votes)).0)
   intake_taken input.Look e = record { sound = h; balance = omega arith }
 
-  fed_on_taken : (v : Verdict) (i : Input) → verdict l i ≡ v → fallbacks_told s (fed_on v l i).records + fallbacks_left (own_cell (fed_on v l i).ledger s) ≡ left
+  fed_on_taken : (v : Result ⊤ Refusal) (i : Input) → verdict l i ≡ v → fallbacks_told s (fed_on v l i).records + fallbacks_left (own_cell (fed_on v l i).ledger s) ≡ left
   unfolding fed_on fed_with refused_with fallbacks_told
-  fed_on_taken Fine i e =
+  fed_on_taken (Ok tt) i e =
       let k = run_keeps (Taken s left) (taken_lawful s left) (intake l i) (intake_taken i e) in
       omega (arith, told_reverse s (run (intake l i)).records, k.balance)
-  fed_on_taken (Refused r) i e = omega arith
+  fed_on_taken (Err r) i e = omega arith
 
   pub feed_taken : (i : Input) → fallbacks_told s (feed l i).records + fallbacks_left (own_cell (feed l i).ledger s) ≡ left
   unfolding feed
@@ -206,14 +206,14 @@ module _ (l : Ledger) (h : Sound l) (s : ℕ) where
         balance = omega (arith, left_row l s c.slot r.blocks r.timed_out r.final r.clash (fill_kept (kind_for l c) 0 (kept_of c) r.certificates) (rows_there c.slot f.high));
       }
 
-  taken_on_taken : (v : Verdict) (c : Certificate) → judge (table_of l) c ≡ Fine → kept_verdict (certificates_at l c.slot) (kind_for l c) c.block ≡ v
+  taken_on_taken : (v : Result ⊤ Refusal) (c : Certificate) → judge (table_of l) c ≡ Ok tt → kept_verdict (certificates_at l c.slot) (kind_for l c) c.block ≡ v
       → fallbacks_told s (taken_on v l c).records + fallbacks_left (own_cell (taken_on v l c).ledger s) ≡ left
   unfolding taken_on fed_with refused_with fallbacks_told
-  taken_on_taken Fine c j e =
+  taken_on_taken (Ok tt) c j e =
       let o : State = state_of (keep_certificate l c) [] in
       let k = run_keeps (Taken s left) (taken_lawful s left) o (kept_taken c (taken_fine l h c j e)) in
       omega (arith, told_reverse s (run o).records, k.balance)
-  taken_on_taken (Refused r) c j e = omega arith
+  taken_on_taken (Err r) c j e = omega arith
 
   pub packet_taken : (packet : List ℕ) → fallbacks_told s (take_packet l packet).records + fallbacks_left (own_cell (take_packet l packet).ledger s) ≡ left
   unfolding taken refused_with fallbacks_told

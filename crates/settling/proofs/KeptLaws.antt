@@ -1,5 +1,6 @@
 -- An accepted certificate may be kept beside the others: it has signers, the checker accepts it in every place of its kind, and none repeats
 -- another.
+use Rattle.std.specs.Prelude.{⊤, Result, Ok}
 use mathlib.Core.Path.{◌≡◌, refl, sym, ap, ◌∙◌, subst}
 use mathlib.Core.Bool.{Bool, true, false, not, ◌&&◌, ◌||◌}
 use mathlib.Core.List.{List}
@@ -11,8 +12,6 @@ use borrow.Author.Tests.{not-false, eqb-true}
 use Rattle.rulebook.specs.declared.CertificateKind.{CertificateKind}
 use Rattle.rulebook.specs.declared.CertificateKind.TheVariants as certificate
 use Rattle.rulebook.specs.declared.Refusal.TheVariants as refusal
-use Rattle.rulebook.specs.declared.Verdict.{Verdict}
-use Rattle.rulebook.specs.declared.Verdict.TheVariants.{Fine}
 use Rattle.rulebook.specs.Certificates.{Certificate, Kept}
 use Rattle.rulebook.specs.Weights.{slot_ok, stake_in, total_to, weight, reaches}
 use Rattle.rulebook.specs.Ledger.{Ledger, none, table_of, certificates_at, is_kept}
@@ -29,6 +28,7 @@ use Rattle.rule_laws.proofs.CertificateLaws.{same_kind_lem, fill_each, fill_kept
 use Rattle.settling.specs.Facts.{HeadFacts, Formed}
 use Rattle.settling.specs.Steps.{kind_for, CertificateFine}
 use Rattle.settling.proofs.FactLaws.{count_placed}
+use Rattle.rulebook.specs.declared.Refusal.{Refusal}
 
 -- ---- the table of a record
 
@@ -59,7 +59,7 @@ judged_alike : (stakes : List ℕ) (k : CertificateKind) (c : Certificate) → j
 unfolding judge_kind judge_weight lacking bad_signers signed_weight signed
 judged_alike stakes k c = refl
 
-fine_is : (v : Verdict) → v ≡ Fine → is_fine v ≡ true
+fine_is : (v : Result ⊤ Refusal) → v ≡ Ok tt → is_fine v ≡ true
 unfolding is_fine
 fine_is v e = rw e
 
@@ -67,7 +67,7 @@ neither : (x y : Bool) → x ≡ false → y ≡ false → (x || y) ≡ false
 neither x y e d = rw (e, d)
 
 -- It has signers: without them there is no weight.
-pub judged_kept : (stakes : List ℕ) (k : CertificateKind) (c : Certificate) → 1 ≤ total_to stakes (length stakes) → judge_kind stakes k c ≡ Fine → is_kept (kept_of c) ≡ true
+pub judged_kept : (stakes : List ℕ) (k : CertificateKind) (c : Certificate) → 1 ≤ total_to stakes (length stakes) → judge_kind stakes k c ≡ Ok tt → is_kept (kept_of c) ≡ true
 unfolding judge_kind judge_weight signed_weight signed
 judged_kept stakes k c pos e =
     let all : ℕ = total_to stakes (length stakes) in
@@ -76,7 +76,7 @@ judged_kept stakes k c pos e =
     let b = refuse_fine (not (slot_ok c.slot)) refusal.BadSlot _ a.1 in
     let d = refuse_fine (block_misfits k c.block) refusal.BadBlock _ b.1 in
     let f = refuse_fine (bad_signers (length stakes) k c) refusal.BadSigners _ d.1 in
-    let g = refuse_fine (not (reaches (fifths_of k) all (weight stakes (length stakes) signs))) _ Fine f.1 in
+    let g = refuse_fine (not (reaches (fifths_of k) all (weight stakes (length stakes) signs))) _ (Ok tt) f.1 in
     let heavy = not-false (reaches (fifths_of k) all (weight stakes (length stakes) signs)) g.0 in
     by_test (none c.maska && none c.maskb)
     (λ t.

@@ -1,4 +1,5 @@
 -- A node whose ledger is sound makes at most 132 records in its life, whatever it is fed and handed.
+use Rattle.std.specs.Prelude.{⊤, Result, Ok, Err}
 use mathlib.Core.Path.{◌≡◌, refl, ◌∙◌}
 use mathlib.Core.Bool.{false}
 use mathlib.Core.List.{List, [], ◌∷◌}
@@ -11,8 +12,6 @@ use Rattle.rulebook.specs.declared.Vote.{Vote}
 use Rattle.rulebook.specs.declared.Input.{Input}
 use Rattle.rulebook.specs.declared.Input.TheVariants as input
 use Rattle.rulebook.specs.declared.Refusal.TheVariants as refusal
-use Rattle.rulebook.specs.declared.Verdict.{Verdict}
-use Rattle.rulebook.specs.declared.Verdict.TheVariants.{Fine, Refused}
 use Rattle.rulebook.specs.Weights.{last_slot}
 use Rattle.rulebook.specs.Ledger.{is_watcher, Ledger, table_of, no_initial, own_cell, blocks_at, fill_block, certificates_at, put_timed_out}
 use Rattle.rulebook.specs.Certificates.{Certificate}
@@ -34,6 +33,7 @@ use Rattle.settling.proofs.SpareLaws.{spare_most, spare_other, spare_blocks, spa
 use Rattle.settling.proofs.Spending.{same_node, stored_same, skips_come, run_comes}
 use Rattle.settling.proofs.Settling.{run_settles}
 use Rattle.settling.proofs.Verdicts.{vote_fine, block_fine, certificate_fine, timeout_fine}
+use Rattle.rulebook.specs.declared.Refusal.{Refusal}
 
 -- ---- paying
 
@@ -110,33 +110,33 @@ module _ (l : Ledger) (h : Sound l) where
 
   -- ---- an accepted input, before the rules and after them
 
-  pub intake_paid : (i : Input) → verdict l i ≡ Fine → Paid l (intake l i).ledger (made (intake l i))
+  pub intake_paid : (i : Input) → verdict l i ≡ Ok tt → Paid l (intake l i).ledger (made (intake l i))
   unfolding intake verdict
   intake_paid (input.Vote v) e = vote_paid v (vote_fine l v e)
   intake_paid (input.Block s b) e = let f = block_fine l s.0 b e in block_paid s.0 b f
   intake_paid (input.Timeout s) e = let f = timeout_fine l s.0 e in time_out_paid s.0 f.low f.high f.votes
   intake_paid input.Look e = paid_nothing l h
 
-  pub called_paid : (i : Input) → verdict l i ≡ Fine → Paid l (run (intake l i)).ledger (made (run (intake l i)))
+  pub called_paid : (i : Input) → verdict l i ≡ Ok tt → Paid l (run (intake l i)).ledger (made (run (intake l i)))
   called_paid i e =
       let p = intake_paid i e in paid_came l (intake l i) (run (intake l i)) p (run_comes (intake l i) p.sound)
 
   -- An outbox of 160 records has room for a call.
-  pub called_within : (i : Input) → verdict l i ≡ Fine → made (run (intake l i)) ≤ most_records
+  pub called_within : (i : Input) → verdict l i ≡ Ok tt → made (run (intake l i)) ≤ most_records
   called_within i e = paid_within l (run (intake l i)).ledger (made (run (intake l i))) (called_paid i e)
 
   -- After an accepted input no rule applies.
-  pub called_settled : (i : Input) → verdict l i ≡ Fine → Settled (run (intake l i))
+  pub called_settled : (i : Input) → verdict l i ≡ Ok tt → Settled (run (intake l i))
   called_settled i e = run_settles (intake l i) (intake_paid i e).sound
 
   -- ---- any input
 
-  fed_on_paid : (v : Verdict) (i : Input) → verdict l i ≡ v → Paid l (fed_on v l i).ledger (length (fed_on v l i).records)
+  fed_on_paid : (v : Result ⊤ Refusal) (i : Input) → verdict l i ≡ v → Paid l (fed_on v l i).ledger (length (fed_on v l i).records)
   unfolding fed_on fed_with refused_with
-  fed_on_paid Fine i e =
+  fed_on_paid (Ok tt) i e =
       let p = called_paid i e in
       record { spent = omega (arith, p.spent, length-reverse (run (intake l i)).records); sound = p.sound; same = p.same }
-  fed_on_paid (Refused r) i e = paid_nothing l h
+  fed_on_paid (Err r) i e = paid_nothing l h
 
   pub feed_paid : (i : Input) → Paid l (feed l i).ledger (length (feed l i).records)
   unfolding feed
@@ -152,7 +152,7 @@ module _ (l : Ledger) (h : Sound l) where
   -- ---- a certificate packet
 
   -- What an accepted certificate has passed.
-  pub taken_fine : (c : Certificate) → judge (table_of l) c ≡ Fine → kept_verdict (certificates_at l c.slot) (kind_for l c) c.block ≡ Fine → CertificateFine l c
+  pub taken_fine : (c : Certificate) → judge (table_of l) c ≡ Ok tt → kept_verdict (certificates_at l c.slot) (kind_for l c) c.block ≡ Ok tt → CertificateFine l c
   taken_fine c j e = certificate_fine l c (table_long l (formed l h.formed).head) j e
 
   pub kept_called : (c : Certificate) → CertificateFine l c → Paid l (run (state_of (keep_certificate l c) [])).ledger (made (run (state_of (keep_certificate l c) [])))
@@ -166,15 +166,15 @@ module _ (l : Ledger) (h : Sound l) where
   pub kept_settled : (c : Certificate) → CertificateFine l c → Settled (run (state_of (keep_certificate l c) []))
   kept_settled c f = run_settles (state_of (keep_certificate l c) []) (sound_certificate l h c f)
 
-  taken_on_paid : (v : Verdict) (c : Certificate) → judge (table_of l) c ≡ Fine → kept_verdict (certificates_at l c.slot) (kind_for l c) c.block ≡ v
+  taken_on_paid : (v : Result ⊤ Refusal) (c : Certificate) → judge (table_of l) c ≡ Ok tt → kept_verdict (certificates_at l c.slot) (kind_for l c) c.block ≡ v
       → Paid l (taken_on v l c).ledger (length (taken_on v l c).records)
   unfolding taken_on fed_with refused_with
-  taken_on_paid Fine c j e =
+  taken_on_paid (Ok tt) c j e =
       let p = kept_called c (taken_fine c j e) in
       record { spent = omega (arith, p.spent, length-reverse (run (state_of (keep_certificate l c) [])).records); sound = p.sound; same = p.same }
-  taken_on_paid (Refused r) c j e = paid_nothing l h
+  taken_on_paid (Err r) c j e = paid_nothing l h
 
-  pub taken_paid : (c : Certificate) → judge (table_of l) c ≡ Fine → Paid l (taken l c).ledger (length (taken l c).records)
+  pub taken_paid : (c : Certificate) → judge (table_of l) c ≡ Ok tt → Paid l (taken l c).ledger (length (taken l c).records)
   unfolding taken
   taken_paid c j = taken_on_paid (kept_verdict (certificates_at l c.slot) (kind_for l c) c.block) c j refl
 

@@ -1,4 +1,5 @@
 -- A node that starts is sound, and so it stays; and its life makes at most 132 records.
+use Rattle.std.specs.Prelude.{Ok}
 use mathlib.Core.Path.{◌≡◌, refl, sym, ap, ◌∙◌, subst}
 use mathlib.Core.Bool.{true, false, not, ◌&&◌, ◌||◌}
 use mathlib.Core.List.{List, [], ◌∷◌, ◌++◌}
@@ -8,7 +9,6 @@ use lib.ListN.{length, get_or, replicate, length-append, length-replicate, get_o
 use lib.Dec.{leb, ltb}
 use borrow.Author.Tests.{not-false, leb-true, leb-false, le-ltb}
 use Rattle.rulebook.specs.declared.Refusal.TheVariants as refusal
-use Rattle.rulebook.specs.declared.Verdict.TheVariants.{Fine}
 use Rattle.rulebook.specs.Tools.{whenever, all_to}
 use Rattle.rulebook.specs.Weights.{most_nodes, places_for, most_stake, last_slot, windows, stake_in, stakes_fit, total_to}
 use Rattle.rulebook.specs.Ledger.{Ledger, Row, none, no_cell, no_kept, no_card, most_blocks, most_certificates, blank_row, no_row, places, table_of, row_at, own_cell, all_blocks, fresh}
@@ -171,12 +171,12 @@ module _ (stakes : List ℕ) (own genesis : ℕ) (b : Begun stakes own genesis) 
 
 -- ---- start
 
-module _ (stakes : List ℕ) (own genesis : ℕ) (e : start_verdict stakes own genesis ≡ Fine) where
+module _ (stakes : List ℕ) (own genesis : ℕ) (e : start_verdict stakes own genesis ≡ Ok tt) where
   -- What start has passed.
   pub start_fine : (stakes_fit stakes (length stakes) ≡ true) × (own < length stakes) × (none genesis ≡ false)
   unfolding start_verdict
   start_fine =
-      let p = refuse_fine (not (stakes_fit stakes (length stakes)) || (leb (length stakes) own || none genesis)) refusal.BadSizes Fine e in
+      let p = refuse_fine (not (stakes_fit stakes (length stakes)) || (leb (length stakes) own || none genesis)) refusal.BadSizes (Ok tt) e in
       let q = or_none (not (stakes_fit stakes (length stakes))) (leb (length stakes) own || none genesis) p.0 in
       let r = or_none (leb (length stakes) own) (none genesis) q.1 in
       (not-false (stakes_fit stakes (length stakes)) q.0, leb-false (length stakes) own r.0, r.1)
@@ -203,11 +203,11 @@ module _ (stakes : List ℕ) (own genesis : ℕ) (e : start_verdict stakes own g
 
 -- ---- a watcher's start
 
-module _ (stakes : List ℕ) (genesis : ℕ) (e : watch_verdict stakes genesis ≡ Fine) where
+module _ (stakes : List ℕ) (genesis : ℕ) (e : watch_verdict stakes genesis ≡ Ok tt) where
   pub watch_fine : (stakes_fit stakes (length stakes) ≡ true) × (none genesis ≡ false)
   unfolding watch_verdict
   watch_fine =
-      let p = refuse_fine (not (stakes_fit stakes (length stakes)) || none genesis) refusal.BadSizes Fine e in
+      let p = refuse_fine (not (stakes_fit stakes (length stakes)) || none genesis) refusal.BadSizes (Ok tt) e in
       let q = or_none (not (stakes_fit stakes (length stakes))) (none genesis) p.0 in
       (not-false (stakes_fit stakes (length stakes)) q.0, q.1)
 

@@ -1,12 +1,11 @@
 -- What the parts of a call do to a state: each record is made lawfully, paid from the potential, and what is not theirs stays.
-use Rattle.std.specs.Prelude.{◌≡◌, Bool, true, false, List, [], ◌∷◌, ◌++◌, ℕ, ◌+◌, ◌<◌, ◌≤◌}
+use Rattle.std.specs.Prelude.{◌≡◌, Bool, true, false, List, [], ◌∷◌, ◌++◌, ℕ, ◌+◌, ◌<◌, ◌≤◌, Ok}
 use Rattle.rulebook.specs.declared.Block.{Block}
 use Rattle.rulebook.specs.declared.Vote.{Vote}
 use Rattle.rulebook.specs.declared.VoteKind.{VoteKind}
 use Rattle.rulebook.specs.declared.VoteKind.TheVariants as vote
 use Rattle.rulebook.specs.declared.Place.TheVariants.{Free}
 use Rattle.rulebook.specs.declared.CertificateKind.{CertificateKind}
-use Rattle.rulebook.specs.declared.Verdict.TheVariants.{Fine}
 use Rattle.rulebook.specs.Certificates.{Certificate}
 use Rattle.rulebook.specs.PaperNumbers.{kind_in}
 use Rattle.rulebook.specs.Weights.{last_slot}
@@ -123,7 +122,7 @@ kind_for l c = kind_in l.count c.kind
 pub record CertificateFine (l : Ledger) (c : Certificate) : Type 0 where
   pub low : 1 ≤ c.slot
   pub high : c.slot ≤ last_slot
-  pub judged : judge_kind (table_of l) (kind_for l c) c ≡ Fine
+  pub judged : judge_kind (table_of l) (kind_for l c) c ≡ Ok tt
   pub apart : some_kept (is_repeat (kind_for l c) c.block) 0 (certificates_at l c.slot) ≡ false
   pub free : has_room (kind_for l c) 0 (certificates_at l c.slot) ≡ true
 

@@ -1,4 +1,5 @@
 -- What qr_may_announce answers is the verdict on the block, and the policy; what is asked for passes the one and meets the other.
+use Rattle.std.specs.Prelude.{⊤, Result, Ok, Err}
 use mathlib.Core.Path.{◌≡◌, refl, sym, ap, ◌∙◌, subst}
 use mathlib.Core.Bool.{Bool, true, false, not, ◌&&◌, ◌||◌}
 use mathlib.Core.List.{List, [], ◌∷◌}
@@ -11,8 +12,6 @@ use Rattle.rulebook.specs.declared.Block.{Block}
 use Rattle.rulebook.specs.declared.Input.{Input}
 use Rattle.rulebook.specs.declared.Refusal.{Refusal}
 use Rattle.rulebook.specs.declared.Refusal.TheVariants as refusal
-use Rattle.rulebook.specs.declared.Verdict.{Verdict}
-use Rattle.rulebook.specs.declared.Verdict.TheVariants.{Fine, Refused}
 use Rattle.rulebook.specs.Tools.{part}
 use Rattle.rulebook.specs.PaperNumbers.{refusal_number, step_panel}
 use Rattle.rulebook.specs.Weights.{last_slot, slot_ok}
@@ -28,7 +27,6 @@ use Rattle.soundness.specs.Sound.{sound_words}
 use Rattle.soundness.proofs.Laws.{words_spelled, sound_formed}
 use Rattle.node.specs.Stepping.{Leaves, step_leaves}
 use Rattle.inputs.specs.Inputs.{block_input}
-use Rattle.announcing.specs.declared.AnnounceAnswer.{AnnounceAnswer}
 use Rattle.announcing.specs.Asked.{block_of, judged, announced_on, announce_panel}
 use Rattle.announcing.proofs.Laws.{asked_unsound, asked_sound}
 use Rattle.answers.specs.Face.{AnnounceRead, Stepped}
@@ -52,16 +50,16 @@ use Rattle.spreading.proofs.Answers.{repeated, block_not_eight}
 -- ---- what is answered
 
 -- The answer is the verdict's, on words that are sound.
-answers : (ws : List ℕ) (s : ℕ) (k : Block) (number may : ℕ) → AnnounceRead (announced_on ws s k) number may → sound_words ws ≡ true → (v : Verdict) → block_verdict (ledger_of ws) s k ≡ v
+answers : (ws : List ℕ) (s : ℕ) (k : Block) (number may : ℕ) → AnnounceRead (announced_on ws s k) number may → sound_words ws ≡ true → (v : Result ⊤ Refusal) → block_verdict (ledger_of ws) s k ≡ v
     → (number ≡ (announce_panel (judged (ledger_of ws) s k v)).number) × (may ∷ [] ≡ (announce_panel (judged (ledger_of ws) s k v)).values)
 answers ws s k number may h t v e =
     let p : announced_on ws s k ≡ judged (ledger_of ws) s k v = sym (asked_sound ws s k t) ∙ ap (judged (ledger_of ws) s k) e in
-    (h.numbered ∙ ap (λ (a : AnnounceAnswer). (announce_panel a).number) p, h.valued ∙ ap (λ (a : AnnounceAnswer). (announce_panel a).values) p)
+    (h.numbered ∙ ap (λ (a : Result Bool Refusal). (announce_panel a).number) p, h.valued ∙ ap (λ (a : Result Bool Refusal). (announce_panel a).values) p)
 
 -- What 1 says.
 pub record Says (ws : List ℕ) (s : ℕ) (k : Block) : Type 0 where
   pub sound : sound_words ws ≡ true
-  pub fine : block_verdict (ledger_of ws) s k ≡ Fine
+  pub fine : block_verdict (ledger_of ws) s k ≡ Ok tt
   pub due : T (may_announce (ledger_of ws) s k.number)
 
 zero_one : {X : Type 0} {may : ℕ} → may ≡ 1 → may ∷ [] ≡ 0 ∷ [] → X
@@ -76,20 +74,20 @@ one_says : (ws : List ℕ) (s : ℕ) (k : Block) (number may : ℕ) → Announce
 unfolding announce_panel judged
 one_says ws s k number may h e =
     tools.by_test (sound_words ws) (λ t. go t (block_verdict (ledger_of ws) s k) refl)
-    (λ t. zero_one e (h.valued ∙ ap (λ (a : AnnounceAnswer). (announce_panel a).values) (sym (asked_unsound ws s k t))))
+    (λ t. zero_one e (h.valued ∙ ap (λ (a : Result Bool Refusal). (announce_panel a).values) (sym (asked_unsound ws s k t))))
   where
-    go : sound_words ws ≡ true → (v : Verdict) → block_verdict (ledger_of ws) s k ≡ v → Says ws s k
-    go t Fine f = record { sound = t; fine = f; due = is_due (may_announce (ledger_of ws) s k.number) e (answers ws s k number may h t Fine f).1 }
-    go t (Refused r) f = zero_one e (answers ws s k number may h t (Refused r) f).1
+    go : sound_words ws ≡ true → (v : Result ⊤ Refusal) → block_verdict (ledger_of ws) s k ≡ v → Says ws s k
+    go t (Ok tt) f = record { sound = t; fine = f; due = is_due (may_announce (ledger_of ws) s k.number) e (answers ws s k number may h t (Ok tt) f).1 }
+    go t (Err r) f = zero_one e (answers ws s k number may h t (Err r) f).1
 
 pub asked_is_allowed : AskedIsAllowed
 asked_is_allowed v s b p x number may h e = (one_says v.words s (block_of b p x) number may h e).due
 
 -- A step that nothing refuses is answered 0.
-fed_zero_lem : (v : Verdict) (l : Ledger) (i : Input) → v ≡ Fine → (step_panel (fed_on v l i).answer).number ≡ 0
+fed_zero_lem : (v : Result ⊤ Refusal) (l : Ledger) (i : Input) → v ≡ Ok tt → (step_panel (fed_on v l i).answer).number ≡ 0
 unfolding fed_on fed_with step_panel
-fed_zero_lem Fine l i e = refl
-fed_zero_lem (Refused r) l i e = let z : ◌≡◌ {A = ℕ} 0 1 = cc in absurd (omega arith)
+fed_zero_lem (Ok tt) l i e = refl
+fed_zero_lem (Err r) l i e = let z : ◌≡◌ {A = ℕ} 0 1 = cc in absurd (omega arith)
 
 pub asked_is_taken : AskedIsTaken
 unfolding step_leaves node.step feed verdict
@@ -110,28 +108,28 @@ asked_never_eight stakes own genesis v x policy s b p y may alone number value h
     k : Block
     k = block_of b p y
 
-    go : (w : Verdict) → block_verdict (ledger_in v) s k ≡ w → ⊥
-    go Fine f = omega (arith, e, (answers v.words s k number value h x.lived.sound Fine f).0)
-    go (Refused r) f =
-        let g = eight_stands_lem r (sym (answers v.words s k number value h x.lived.sound (Refused r) f).0 ∙ e) in
-        block_not_eight stakes own genesis v x policy s k may alone (f ∙ ap Refused g)
+    go : (w : Result ⊤ Refusal) → block_verdict (ledger_in v) s k ≡ w → ⊥
+    go (Ok tt) f = omega (arith, e, (answers v.words s k number value h x.lived.sound (Ok tt) f).0)
+    go (Err r) f =
+        let g = eight_stands_lem r (sym (answers v.words s k number value h x.lived.sound (Err r) f).0 ∙ e) in
+        block_not_eight stakes own genesis v x policy s k may alone (f ∙ ap Err g)
 
 -- ---- what progress asks for
 
 -- A test that does not refuse is passed; one that does, refuses.
-pass : (b : Bool) (r : Refusal) (v w : Verdict) → T (not b) → v ≡ w → refuse_if b r v ≡ w
+pass : (b : Bool) (r : Refusal) (v w : Result ⊤ Refusal) → T (not b) → v ≡ w → refuse_if b r v ≡ w
 unfolding refuse_if
 pass false r v w t e = e
 pass true r v w t e = absurd t
 
-stop : (b : Bool) (r : Refusal) (v : Verdict) → T b → refuse_if b r v ≡ Refused r
+stop : (b : Bool) (r : Refusal) (v : Result ⊤ Refusal) → T b → refuse_if b r v ≡ Err r
 unfolding refuse_if
 stop true r v t = refl
 stop false r v t = absurd t
 
 module _ (l : Ledger) (s : ℕ) (k : Block) (lo : 1 ≤ s) (hi : s ≤ last_slot) (some : T (not (none k.number))) (fit : ParentFits l.genesis s k.parentslot.0 k.parent) where
   -- The tests of a block whose parent fits, up to the places.
-  fits_so_far : (v w : Verdict) → v ≡ w
+  fits_so_far : (v w : Result ⊤ Refusal) → v ≡ w
       → refuse_if (not (slot_ok s)) refusal.BadSlot (refuse_if (none k.number || none k.parent) refusal.BadBlock (refuse_if (bad_parent l s k) refusal.BadParent v)) ≡ w
   unfolding slot_ok bad_parent
   fits_so_far v w e =
@@ -144,12 +142,12 @@ module _ (l : Ledger) (s : ℕ) (k : Block) (lo : 1 ≤ s) (hi : s ≤ last_slot
       let a = and_t (none k.parentslot.0) (not (eqb k.parent l.genesis)) u in
       T_not (eqb k.parent l.genesis) a.1 (subst (λ (z : ℕ). T (eqb k.parent z)) (fit.first (eqb→eq k.parentslot.0 0 a.0)) (eqb_refl k.parent))))) e))
 
-  again : T (some_block (λ j. same_block j k) (blocks_at l s)) → block_verdict l s k ≡ Refused refusal.AlreadyKept
+  again : T (some_block (λ j. same_block j k) (blocks_at l s)) → block_verdict l s k ≡ Err refusal.AlreadyKept
   unfolding block_verdict
   again t = fits_so_far _ _ (stop (some_block (λ j. same_block j k) (blocks_at l s)) refusal.AlreadyKept _ t)
 
   taken : T (not (some_block (λ j. same_block j k) (blocks_at l s))) → T (not (some_block (has_number k.number) (blocks_at l s))) → T (some_block is_free (blocks_at l s))
-      → block_verdict l s k ≡ Fine
+      → block_verdict l s k ≡ Ok tt
   unfolding block_verdict stands_against
   taken other new free =
       fits_so_far _ _
@@ -169,7 +167,7 @@ needed_is_announced stakes genesis honest lives ring once n m s b p x h hi a pol
     (λ t. inr (answers (lives m).words s k number may asks sound _ (again l s k fit.0 hi some fit.1 t)).0)
     (λ t. let new = apart t in
     inl (one_of (may_announce l s b) may_now
-    (answers (lives m).words s k number may asks sound Fine
+    (answers (lives m).words s k number may asks sound (Ok tt)
     (taken l s k fit.0 hi some fit.1 t new (policy_has_room stakes m (genesis m) (lives m) life policy s b fit.0 hi some may_now new))).1))
   where
     l : Ledger

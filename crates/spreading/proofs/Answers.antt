@@ -1,4 +1,5 @@
 -- 8 is answered where another vote, or another block, stands in a place; what is honest has its place free, or stands there itself.
+use Rattle.std.specs.Prelude.{⊤, Result, Ok, Err}
 use mathlib.Core.Path.{◌≡◌, refl, sym, ap, ◌∙◌, subst}
 use mathlib.Core.Bool.{Bool, true, false, not, ◌&&◌, ◌||◌}
 use mathlib.Core.List.{List, [], ◌∷◌}
@@ -12,9 +13,6 @@ use Rattle.rulebook.specs.declared.Input.{Input}
 use Rattle.rulebook.specs.declared.Input.TheVariants as input
 use Rattle.rulebook.specs.declared.Refusal.{Refusal}
 use Rattle.rulebook.specs.declared.Refusal.TheVariants as refusal
-use Rattle.rulebook.specs.declared.StepAnswer.TheVariants as step
-use Rattle.rulebook.specs.declared.Verdict.{Verdict}
-use Rattle.rulebook.specs.declared.Verdict.TheVariants.{Fine, Refused}
 use Rattle.rulebook.specs.declared.Vote.{Vote}
 use Rattle.rulebook.specs.Tools.{whenever}
 use Rattle.rulebook.specs.PaperNumbers.{refusal_number, vote_number}
@@ -55,26 +53,26 @@ use Rattle.spreading.specs.Answers.{VoteNeverEight, WatchedVoteNeverEight, Watch
 -- ---- what 8 says
 
 -- A test that is refused with another number was passed.
-peel : (b : Bool) (r : Refusal) (v : Verdict) → ¬ (refusal_number r ≡ 8) → refuse_if b r v ≡ Refused refusal.OtherStands → (b ≡ false) × (v ≡ Refused refusal.OtherStands)
+peel : (b : Bool) (r : Refusal) (v : Result ⊤ Refusal) → ¬ (refusal_number r ≡ 8) → refuse_if b r v ≡ Err refusal.OtherStands → (b ≡ false) × (v ≡ Err refusal.OtherStands)
 unfolding refuse_if refusal_number
 peel true r v n e = let p : r ≡ refusal.OtherStands = cc in absurd (n (ap refusal_number p))
 peel false r v n e = (refl, e)
 
-past_both : (a b : Bool) (l : Ledger) (i : Input) → (whenever a (λ _. whenever b (λ _. feed l i) (refused_with l refusal.NoRoom)) (refused_with l refusal.BadRecord)).answer ≡ step.Refused refusal.OtherStands
-    → (feed l i).answer ≡ step.Refused refusal.OtherStands
+past_both : (a b : Bool) (l : Ledger) (i : Input) → (whenever a (λ _. whenever b (λ _. feed l i) (refused_with l refusal.NoRoom)) (refused_with l refusal.BadRecord)).answer ≡ Err refusal.OtherStands
+    → (feed l i).answer ≡ Err refusal.OtherStands
 unfolding whenever refused_with
 past_both false b l i e = let z : ◌≡◌ {A = ℕ} 0 1 = cc in absurd (omega arith)
 past_both true false l i e = let z : ◌≡◌ {A = ℕ} 0 1 = cc in absurd (omega arith)
 past_both true true l i e = e
 
-fed_eight : (v : Verdict) (l : Ledger) (i : Input) → (fed_on v l i).answer ≡ step.Refused refusal.OtherStands → v ≡ Refused refusal.OtherStands
+fed_eight : (v : Result ⊤ Refusal) (l : Ledger) (i : Input) → (fed_on v l i).answer ≡ Err refusal.OtherStands → v ≡ Err refusal.OtherStands
 unfolding fed_on fed_with refused_with
-fed_eight Fine l i e = let z : ◌≡◌ {A = ℕ} 0 1 = cc in absurd (omega arith)
-fed_eight (Refused r) l i e = let p : r ≡ refusal.OtherStands = cc in ap Refused p
+fed_eight (Ok tt) l i e = let z : ◌≡◌ {A = ℕ} 0 1 = cc in absurd (omega arith)
+fed_eight (Err r) l i e = let p : r ≡ refusal.OtherStands = cc in ap Err p
 
 -- 8 at the face is the rule book's verdict on the ledger that the words mean.
 eight_says : (v : Seen) → sound_words v.words ≡ true → (i : Input) (lent : List ℕ) (number made : ℕ) (words left : List ℕ) → Stepped v.words lent i number made words left → number ≡ 8
-    → verdict (ledger_in v) i ≡ Refused refusal.OtherStands
+    → verdict (ledger_in v) i ≡ Err refusal.OtherStands
 unfolding step_leaves node.step feed
 eight_says v sound i lent number made words left t x =
     let l = ledger_in v in
@@ -83,16 +81,16 @@ eight_says v sound i lent number made words left t x =
 
 -- ---- votes
 
-same : (a b : Bool) → T a → ¬ (place_verdict (place_if a b) ≡ Refused refusal.OtherStands)
+same : (a b : Bool) → T a → ¬ (place_verdict (place_if a b) ≡ Err refusal.OtherStands)
 unfolding place_if place_verdict
 same true b t e = let z : ◌≡◌ {A = ℕ} 0 1 = cc in omega arith
 same false b t e = t
 
-fine_not_eight : (v : Verdict) → v ≡ Fine → ¬ (v ≡ Refused refusal.OtherStands)
-fine_not_eight v p e = let q : Fine ≡ Refused refusal.OtherStands = sym p ∙ e in let z : ◌≡◌ {A = ℕ} 0 1 = cc in omega arith
+fine_not_eight : (v : Result ⊤ Refusal) → v ≡ Ok tt → ¬ (v ≡ Err refusal.OtherStands)
+fine_not_eight v p e = let q : Ok tt ≡ Err refusal.OtherStands = sym p ∙ e in let z : ◌≡◌ {A = ℕ} 0 1 = cc in omega arith
 
 -- A vote that stands in its place is answered 7 there.
-stands_seven : (c : Cell) (v : Ballot) → T (has c v) → ¬ (place_verdict (place_of c (kind_of v) (block_of v)) ≡ Refused refusal.OtherStands)
+stands_seven : (c : Cell) (v : Ballot) → T (has c v) → ¬ (place_verdict (place_of c (kind_of v) (block_of v)) ≡ Err refusal.OtherStands)
 unfolding place_of
 stands_seven c (notar b) t = same (eqb c.notar b) (no_initial c) (and_t (not (none b)) (eqb c.notar b) t).1
 stands_seven c (notar_fallback b) t = same (has_fallback b c) (none c.fallback3) (and_t (not (none b)) (has_fallback b c) t).1
@@ -101,8 +99,8 @@ stands_seven c skip_fallback t = same (not (none c.skipfallback)) true t
 stands_seven c final t = same (not (none c.finalvote)) true t
 
 -- The last of a vote's tests is that of its place.
-vote_eight : (l : Ledger) (w : Vote) → vote_verdict l w ≡ Refused refusal.OtherStands
-    → T (not (misfits w.kind w.block)) × (place_verdict (place_of (cell_at l w.slot.0 w.node.0) w.kind w.block) ≡ Refused refusal.OtherStands)
+vote_eight : (l : Ledger) (w : Vote) → vote_verdict l w ≡ Err refusal.OtherStands
+    → T (not (misfits w.kind w.block)) × (place_verdict (place_of (cell_at l w.slot.0 w.node.0) w.kind w.block) ≡ Err refusal.OtherStands)
 unfolding vote_verdict refusal_number
 vote_eight l w e =
     let a = peel _ refusal.BadKind _ (λ z. omega (arith, z)) e in
@@ -122,7 +120,7 @@ module _ (stakes : List ℕ) (genesis : ℕ → ℕ) (honest : Test) (lives : Li
   -- A node's life, or a watcher's, that holds what is genuine.
   not_eight : (me g : ℕ) → Sized stakes me → (v : Seen) → LifeSeen (fresh stakes me g) v → HoldsGenuine honest cast (after_all (fresh stakes me g) v.came)
       → (m s : ℕ) (b : Ballot) → T (honest m) → T (told_ballot lives m s b) → (w : Vote) → T (brings (of_input (input.Vote w)) s m b)
-      → ¬ (verdict (ledger_in v) (input.Vote w) ≡ Refused refusal.OtherStands)
+      → ¬ (verdict (ledger_in v) (input.Vote w) ≡ Err refusal.OtherStands)
   unfolding verdict
   not_eight me g size v lived holds m s b h t w i e =
       let r = book_ring stakes genesis honest lives ring in
@@ -137,8 +135,8 @@ module _ (stakes : List ℕ) (genesis : ℕ → ℕ) (honest : Test) (lives : Li
       let c = cell_at l s m in
       let o = cell_at (life stakes genesis honest fed m) s m in
       let own = own_stored stakes genesis honest fed r m s b h (told_cast stakes genesis honest lives ring.nodes.lived m s b h t) in
-      let place : place_verdict (place_of c (kind_of b) (block_of b)) ≡ Refused refusal.OtherStands =
-      rw (en, ek, es, eb) at (vote_eight l w (subst (λ (z : Ledger). vote_verdict z w ≡ Refused refusal.OtherStands) lived.ledger e)).1 in
+      let place : place_verdict (place_of c (kind_of b) (block_of b)) ≡ Err refusal.OtherStands =
+      rw (en, ek, es, eb) at (vote_eight l w (subst (λ (z : Ledger). vote_verdict z w ≡ Err refusal.OtherStands) lived.ledger e)).1 in
       by_test (has c b) (λ z. stands_seven c b z place)
       (λ z. fine_not_eight _ (free_room c b (fits o b own)
       (room_of c o ((life_ready me (fresh stakes me g) v.came (fresh_ready stakes me g size)).inv.neat s m) ((end_ready stakes genesis honest fed r m h).inv.neat s m)
@@ -187,7 +185,7 @@ repeated l s b t =
     some_more (is_block b.number b.parentslot.0 b.parent) (λ k. same_block k b) (blocks_at l s)
     (λ k u. (and_t (not (is_free k)) (eqb k.number b.number && (eqb k.parentslot.0 b.parentslot.0 && eqb k.parent b.parent)) u).1) t
 
-last : (b : Bool) → refuse_if b refusal.OtherStands Fine ≡ Refused refusal.OtherStands → T b
+last : (b : Bool) → refuse_if b refusal.OtherStands (Ok tt) ≡ Err refusal.OtherStands → T b
 unfolding refuse_if
 last true e = tt
 last false e = let z : ◌≡◌ {A = ℕ} 0 1 = cc in absurd (omega arith)
@@ -196,7 +194,7 @@ last false e = let z : ◌≡◌ {A = ℕ} 0 1 = cc in absurd (omega arith)
 pub block_not_eight : (stakes : List ℕ) (own genesis : ℕ) (v : Seen) → NodeSeen stakes own genesis v → T (by_policy (fresh stakes own genesis) v.came)
     → (s : ℕ) (k : Block) → T (may_announce (ledger_in v) s k.number)
     → ((q y : ℕ) → T (keeps_block (ledger_in v) s k.number q y) → (k.parentslot.0 ≡ q) × (k.parent ≡ y))
-    → ¬ (block_verdict (ledger_in v) s k ≡ Refused refusal.OtherStands)
+    → ¬ (block_verdict (ledger_in v) s k ≡ Err refusal.OtherStands)
 unfolding block_verdict stands_against refusal_number slot_ok
 block_not_eight stakes own genesis v x policy s k may alone e =
     let l = ledger_in v in

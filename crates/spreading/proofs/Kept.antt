@@ -1,4 +1,5 @@
 -- A certificate that the checker accepts, and that is not answered 8, is kept from then on.
+use Rattle.std.specs.Prelude.{Ok, Err}
 use mathlib.Core.Path.{◌≡◌, refl, sym, ap, ◌∙◌, subst}
 use mathlib.Core.Bool.{Bool, true, false, not}
 use mathlib.Core.List.{List, [], ◌∷◌}
@@ -8,7 +9,6 @@ use lib.Dec.{T, eqb, eqb→eq, eqb_refl}
 use lib.ListN.{length, get_or}
 use Rattle.rulebook.specs.declared.CertificateKind.{CertificateKind}
 use Rattle.rulebook.specs.declared.Refusal.TheVariants as refusal
-use Rattle.rulebook.specs.declared.Verdict.TheVariants.{Fine, Refused}
 use Rattle.rulebook.specs.Certificates.{Certificate, Kept}
 use Rattle.rulebook.specs.Tools.{choose}
 use Rattle.rulebook.specs.Weights.{last_slot, total_to}
@@ -117,7 +117,7 @@ keeping_lawful l =
 run_keeps_them : (o : State) → Sound o.ledger → (s : ℕ) → certificates_at (run o).ledger s ≡ certificates_at o.ledger s
 run_keeps_them o h = (run_keeps (Keeping o.ledger) (keeping_lawful o.ledger) o (record { sound = h; same = λ s. refl })).same
 
-module _ (l : Ledger) (h : Sound l) (some : 1 ≤ total_to (table_of l) (length (table_of l))) (c : Certificate) (j : judge (table_of l) c ≡ Fine) where
+module _ (l : Ledger) (h : Sound l) (some : 1 ≤ total_to (table_of l) (length (table_of l))) (c : Certificate) (j : judge (table_of l) c ≡ Ok tt) where
   abbrev kind : CertificateKind
   kind = kind_for l c
 
@@ -134,7 +134,7 @@ module _ (l : Ledger) (h : Sound l) (some : 1 ≤ total_to (table_of l) (length 
         block = eqb→eq (kept_at l c.slot r.0).block c.block (true_t _ a.1);
       }
 
-  filled : kept_verdict (certificates_at l c.slot) kind c.block ≡ Fine → IsKept (run (state_of (keep_certificate l c) [])).ledger kind c.slot c.block
+  filled : kept_verdict (certificates_at l c.slot) kind c.block ≡ Ok tt → IsKept (run (state_of (keep_certificate l c) [])).ledger kind c.slot c.block
   unfolding keep_certificate
   filled e =
       let f = taken_fine l h c j e in
@@ -153,14 +153,14 @@ module _ (l : Ledger) (h : Sound l) (some : 1 ≤ total_to (table_of l) (length 
       }
 
   by_verdict : (a b : Bool) → some_kept (is_repeat kind c.block) 0 (certificates_at l c.slot) ≡ a → has_room kind 0 (certificates_at l c.slot) ≡ b
-      → ¬ (refuse_if a refusal.AlreadyKept (refuse_if (not b) refusal.OtherStands Fine) ≡ Refused refusal.OtherStands)
-      → IsKept (taken_on (refuse_if a refusal.AlreadyKept (refuse_if (not b) refusal.OtherStands Fine)) l c).ledger kind c.slot c.block
+      → ¬ (refuse_if a refusal.AlreadyKept (refuse_if (not b) refusal.OtherStands (Ok tt)) ≡ Err refusal.OtherStands)
+      → IsKept (taken_on (refuse_if a refusal.AlreadyKept (refuse_if (not b) refusal.OtherStands (Ok tt))) l c).ledger kind c.slot c.block
   unfolding refuse_if taken_on fed_with refused_with kept_verdict
   by_verdict true b e f n = repeated e
   by_verdict false true e f n = filled (rw (e, f) refl)
   by_verdict false false e f n = absurd (n refl)
 
   -- What is not answered 8 is kept by the end of the call.
-  pub taken_kept : ¬ (kept_verdict (certificates_at l c.slot) kind c.block ≡ Refused refusal.OtherStands) → IsKept (taken l c).ledger kind c.slot c.block
+  pub taken_kept : ¬ (kept_verdict (certificates_at l c.slot) kind c.block ≡ Err refusal.OtherStands) → IsKept (taken l c).ledger kind c.slot c.block
   unfolding taken kept_verdict
   taken_kept n = by_verdict _ _ refl refl n

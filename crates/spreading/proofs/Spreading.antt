@@ -1,4 +1,5 @@
 -- Who looks on keeps what an honest node wrote, once it is handed over; so the block is final there, marked and told.
+use Rattle.std.specs.Prelude.{⊤, Result, Ok, Err}
 use mathlib.Core.Path.{◌≡◌, refl, sym, ap, ◌∙◌, subst}
 use mathlib.Core.Bool.{Bool, not, ◌&&◌}
 use mathlib.Core.List.{List, ◌∷◌, ◌++◌}
@@ -11,8 +12,6 @@ use Rattle.rulebook.specs.declared.Accepted.{Accepted}
 use Rattle.rulebook.specs.declared.CertificateKind.{CertificateKind}
 use Rattle.rulebook.specs.declared.CertificateKind.TheVariants as certificate
 use Rattle.rulebook.specs.declared.Refusal.TheVariants as refusal
-use Rattle.rulebook.specs.declared.Verdict.{Verdict}
-use Rattle.rulebook.specs.declared.Verdict.TheVariants.{Fine, Refused}
 use Rattle.rulebook.specs.Certificates.{Certificate, Kept}
 use Rattle.rulebook.specs.Certificates as found
 use Rattle.rulebook.specs.PaperNumbers.{kind_in, number_in}
@@ -66,9 +65,10 @@ use Rattle.seen.proofs.Written.{certificate_accepted, written_genuine}
 use Rattle.seen.proofs.Progress.{gives}
 use Rattle.spreading.specs.Spreading.{LooksOn, a_node, a_watcher, Given, FinalGiven, fast, slow, FinalIsGiven, GivenIsHeld, FinalitySpreads}
 use Rattle.spreading.proofs.Kept.{IsKept, kept_stays, kept_as_lem, kept_certifiable, taken_kept}
+use Rattle.rulebook.specs.declared.Refusal.{Refusal}
 
 -- A packet that is one certificate, which the table's check accepts, is taken as that certificate.
-single_taken : (l : Ledger) (packet : List ℕ) (c : Certificate) → certificate_at packet 0 ≡ found.Whole c (length packet) → judge (table_of l) c ≡ Fine → take_packet l packet ≡ taken l c
+single_taken : (l : Ledger) (packet : List ℕ) (c : Certificate) → certificate_at packet 0 ≡ found.Whole c (length packet) → judge (table_of l) c ≡ Ok tt → take_packet l packet ≡ taken l c
 unfolding take_packet taken_from one_at one_of judged
 single_taken l packet c r j =
     let n = length packet in
@@ -182,8 +182,8 @@ module _ (stakes : List ℕ) (genesis : ℕ → ℕ) (honest : Test) (lives : Li
       abbrev c : Certificate
       c = one_certificate.first
 
-      fine : judge stakes c ≡ Fine
-      fine = subst (λ (ws : List ℕ). judge ws c ≡ Fine) table one_certificate.fine
+      fine : judge stakes c ≡ Ok tt
+      fine = subst (λ (ws : List ℕ). judge ws c ≡ Ok tt) table one_certificate.fine
 
       sound : Sound then
       sound = life_sound start before o.begun
@@ -192,12 +192,12 @@ module _ (stakes : List ℕ) (genesis : ℕ → ℕ) (honest : Test) (lives : Li
       unfolding served
       took = single_taken then packet c one_certificate.read one_certificate.fine
 
-      not_eight : ¬ (kept_verdict (certificates_at then c.slot) (kind_for then c) c.block ≡ Refused refusal.OtherStands)
+      not_eight : ¬ (kept_verdict (certificates_at then c.slot) (kind_for then c) c.block ≡ Err refusal.OtherStands)
       unfolding taken taken_on refused_with
       not_eight e =
           holder_never_eight stakes genesis honest fed whole o.own o.first o.size before (held_before before (of_packet packet ∷ later) came) outbox_words packet genuinely
           (ap (λ (f : Fed). f.answer) (take_on then packet outbox_words sound.formed (omega arith) ∙ single_taken then packet c one_certificate.read one_certificate.fine)
-          ∙ ap (λ (v : Verdict). (taken_on v then c).answer) e)
+          ∙ ap (λ (v : Result ⊤ Refusal). (taken_on v then c).answer) e)
 
       kind_is_lem : kind_for then c ≡ k
       unfolding accepted_of

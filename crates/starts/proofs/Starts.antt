@@ -1,4 +1,5 @@
 -- Both starts: the fresh ledger as it is put together, the ways through the code, and what a start leaves. Assumes nothing.
+use Rattle.std.specs.Prelude.{⊤, Result, Ok, Err}
 use mathlib.Core.Path.{◌≡◌, refl, sym, ap, ◌∙◌}
 use mathlib.Core.Bool.{Bool, true, false, not, ◌||◌}
 use mathlib.Core.List.{List, ◌++◌}
@@ -9,10 +10,6 @@ use lib.ListN.{length, get_or, set, take, replicate}
 use lib.Seq.{take-suc, take-length, length-take-le, set_at, append_snoc}
 use lib.Dec.{eqb, leb}
 use borrow.Author.Tests.{eq-eqb, ne_eqb, not-false}
-use Rattle.rulebook.specs.declared.StartAnswer.{StartAnswer}
-use Rattle.rulebook.specs.declared.StartAnswer.TheVariants as start
-use Rattle.rulebook.specs.declared.Verdict.{Verdict}
-use Rattle.rulebook.specs.declared.Verdict.TheVariants.{Fine, Refused}
 use Rattle.rulebook.specs.declared.Refusal.{Refusal}
 use Rattle.rulebook.specs.declared.Refusal.TheVariants as refusal
 use Rattle.rulebook.specs.Weights.{most_nodes, places_for, stakes_fit, total_to}
@@ -122,49 +119,49 @@ stakes_end r r0 r1 stakes n total own genesis a e h t =
 -- ---- the ways through both starts
 
 module _ (ws stakes : List ℕ) (own : ℕ) (odd : Bool) (genesis : ℕ) where
-  refused_as : (r : Refusal) → begun_judged ws stakes odd genesis ≡ Refused r → BegunOf ws stakes own odd genesis (start.Refused r) ws
+  refused_as : (r : Refusal) → begun_judged ws stakes odd genesis ≡ Err r → BegunOf ws stakes own odd genesis (Err r) ws
   unfolding start_answer start_left
   refused_as r e =
       record {
         answered = ap start_answer (sym e);
-        words = ap (λ (v : Verdict). start_left v ws stakes own genesis) (sym e);
+        words = ap (λ (v : Result ⊤ Refusal). start_left v ws stakes own genesis) (sym e);
       }
 
   -- 17 for the length.
-  pub begun_short : (n : ℕ) → n ≡ record_words (places_for (length stakes)) → (length ws ≡ n → ⊥) → BegunOf ws stakes own odd genesis (start.Refused refusal.BadRecord) ws
+  pub begun_short : (n : ℕ) → n ≡ record_words (places_for (length stakes)) → (length ws ≡ n → ⊥) → BegunOf ws stakes own odd genesis (Err refusal.BadRecord) ws
   unfolding begun_judged refuse_if
   begun_short n e q = refused_as refusal.BadRecord (rw (ne_eqb (length ws) (record_words (places_for (length stakes))) (λ h. q (h ∙ sym e))))
 
   module _ (n : ℕ) (e : n ≡ record_words (places_for (length stakes))) (long : length ws ≡ n) (fits : Bool) (made : fits ≡ stakes_fit stakes (length stakes)) where
-    judged : (b : Bool) → (not fits || (odd || none genesis)) ≡ b → begun_judged ws stakes odd genesis ≡ refuse_if b refusal.BadSizes Fine
+    judged : (b : Bool) → (not fits || (odd || none genesis)) ≡ b → begun_judged ws stakes odd genesis ≡ refuse_if b refusal.BadSizes (Ok tt)
     unfolding begun_judged refuse_if
     judged b t =
         rw (eq-eqb (length ws) (record_words (places_for (length stakes))) (long ∙ e))
-        (ap (λ (x : Bool). refuse_if (not x || (odd || none genesis)) refusal.BadSizes Fine) (sym made)
-        ∙ ap (λ (x : Bool). refuse_if x refusal.BadSizes Fine) t)
+        (ap (λ (x : Bool). refuse_if (not x || (odd || none genesis)) refusal.BadSizes (Ok tt)) (sym made)
+        ∙ ap (λ (x : Bool). refuse_if x refusal.BadSizes (Ok tt)) t)
 
     -- Then 1.
-    pub begun_misfit : (not fits || (odd || none genesis)) ≡ true → BegunOf ws stakes own odd genesis (start.Refused refusal.BadSizes) ws
+    pub begun_misfit : (not fits || (odd || none genesis)) ≡ true → BegunOf ws stakes own odd genesis (Err refusal.BadSizes) ws
     unfolding refuse_if
     begun_misfit t = refused_as refusal.BadSizes (judged true t)
 
     -- Else the fresh ledger's words.
     pub begun_done : (left : List ℕ) → (not fits || (odd || none genesis)) ≡ false → Words left → length left ≡ record_words (places_for (length stakes))
-        → ledger_of left ≡ fresh stakes own genesis → BegunOf ws stakes own odd genesis start.Started left
+        → ledger_of left ≡ fresh stakes own genesis → BegunOf ws stakes own odd genesis (Ok tt) left
     unfolding refuse_if start_answer start_left
     begun_done left t f h q =
         record {
           answered = ap start_answer (sym (judged false t));
-          words = spelled_as left (fresh stakes own genesis) (long_spelled left f (sized_long left (places_for (length stakes)) h)) q ∙ ap (λ (v : Verdict). start_left v ws stakes own genesis) (sym (judged false t));
+          words = spelled_as left (fresh stakes own genesis) (long_spelled left f (sized_long left (places_for (length stakes)) h)) q ∙ ap (λ (v : Result ⊤ Refusal). start_left v ws stakes own genesis) (sym (judged false t));
         }
 
 -- A start with an own number is one whose number is odd past the table; a watcher's number never is.
-pub begun_start : (ws stakes : List ℕ) (own genesis : ℕ) (a : StartAnswer) (l : List ℕ) → BegunOf ws stakes own (leb (length stakes) own) genesis a l
+pub begun_start : (ws stakes : List ℕ) (own genesis : ℕ) (a : Result ⊤ Refusal) (l : List ℕ) → BegunOf ws stakes own (leb (length stakes) own) genesis a l
     → StartOf ws stakes own genesis a l
 unfolding begun_judged start_judged start_verdict
 begun_start ws stakes own genesis a l p = record { answered = p.answered; words = p.words }
 
-pub begun_watch : (ws stakes : List ℕ) (genesis : ℕ) (a : StartAnswer) (l : List ℕ) → BegunOf ws stakes (length stakes) false genesis a l
+pub begun_watch : (ws stakes : List ℕ) (genesis : ℕ) (a : Result ⊤ Refusal) (l : List ℕ) → BegunOf ws stakes (length stakes) false genesis a l
     → WatchOf ws stakes genesis a l
 unfolding begun_judged watch_judged watch_verdict
 begun_watch ws stakes genesis a l p = record { answered = p.answered; words = p.words }
@@ -182,28 +179,28 @@ begun_ready ws stakes made rest e t long =
     }
 
 -- Two results that start allows are equal.
-pub start_one : (ws stakes : List ℕ) (own genesis : ℕ) (a a' : StartAnswer) (l l' : List ℕ)
+pub start_one : (ws stakes : List ℕ) (own genesis : ℕ) (a a' : Result ⊤ Refusal) (l l' : List ℕ)
     → StartOf ws stakes own genesis a l → StartOf ws stakes own genesis a' l' → (a ≡ a') × (l ≡ l')
 start_one ws stakes own genesis a a' l l' p q = (p.answered ∙ sym q.answered, p.words ∙ sym q.words)
 
-pub watch_one : (ws stakes : List ℕ) (genesis : ℕ) (a a' : StartAnswer) (l l' : List ℕ)
+pub watch_one : (ws stakes : List ℕ) (genesis : ℕ) (a a' : Result ⊤ Refusal) (l l' : List ℕ)
     → WatchOf ws stakes genesis a l → WatchOf ws stakes genesis a' l' → (a ≡ a') × (l ≡ l')
 watch_one ws stakes genesis a a' l l' p q = (p.answered ∙ sym q.answered, p.words ∙ sym q.words)
 
 -- What a start leaves, where it starts, is sound: it is not answered 17 later.
-begun_leaves_sound : (v : Verdict) (ws stakes : List ℕ) (own genesis : ℕ) (left : List ℕ) → start.Started ≡ start_answer v → left ≡ start_left v ws stakes own genesis
-    → (v ≡ Fine → Sound (fresh stakes own genesis)) → sound_words left ≡ true
+begun_leaves_sound : (v : Result ⊤ Refusal) (ws stakes : List ℕ) (own genesis : ℕ) (left : List ℕ) → Ok tt ≡ start_answer v → left ≡ start_left v ws stakes own genesis
+    → (v ≡ Ok tt → Sound (fresh stakes own genesis)) → sound_words left ≡ true
 unfolding start_answer start_left
-begun_leaves_sound Fine ws stakes own genesis left e w h = ap sound_words w ∙ spelled_sound (fresh stakes own genesis) (h refl)
-begun_leaves_sound (Refused r) ws stakes own genesis left e w h = let z : ◌≡◌ {A = ℕ} 0 1 = cc in absurd (omega arith)
+begun_leaves_sound (Ok tt) ws stakes own genesis left e w h = ap sound_words w ∙ spelled_sound (fresh stakes own genesis) (h refl)
+begun_leaves_sound (Err r) ws stakes own genesis left e w h = let z : ◌≡◌ {A = ℕ} 0 1 = cc in absurd (omega arith)
 
-pub start_leaves_sound : (ws stakes : List ℕ) (own genesis : ℕ) (left : List ℕ) → StartOf ws stakes own genesis start.Started left → sound_words left ≡ true
+pub start_leaves_sound : (ws stakes : List ℕ) (own genesis : ℕ) (left : List ℕ) → StartOf ws stakes own genesis (Ok tt) left → sound_words left ≡ true
 unfolding start_judged
 start_leaves_sound ws stakes own genesis left p =
     begun_leaves_sound (start_judged ws stakes own genesis) ws stakes own genesis left p.answered p.words
     (λ e. fresh_sound stakes own genesis (refuse_fine (not (eqb (length ws) (record_words (places_for (length stakes))))) refusal.BadRecord (start_verdict stakes own genesis) e).1)
 
-pub watch_leaves_sound : (ws stakes : List ℕ) (genesis : ℕ) (left : List ℕ) → WatchOf ws stakes genesis start.Started left → sound_words left ≡ true
+pub watch_leaves_sound : (ws stakes : List ℕ) (genesis : ℕ) (left : List ℕ) → WatchOf ws stakes genesis (Ok tt) left → sound_words left ≡ true
 unfolding watch_judged
 watch_leaves_sound ws stakes genesis left p =
     begun_leaves_sound (watch_judged ws stakes genesis) ws stakes (length stakes) genesis left p.answered p.words

@@ -7,7 +7,7 @@ ghost use Rattle.record.specs.Layout.{ledger_of};
 ghost use Rattle.starts.specs.Starting.{BegunOf, SetUp, StartOf, WatchOf};
 
 use record::{clear, record_words, set_head, set_stake};
-use rulebook::{Node, Refusal, StartAnswer, Weight};
+use rulebook::{Node, Refusal, Weight};
 use stakes::make_table;
 
 // A fresh node's words, whatever stood there.
@@ -24,31 +24,31 @@ fn set_up(rec: &mut [u64], stakes: &[u64], total: Weight, own: Node, genesis: u6
 
 // Makes lent words the record of a fresh node, whose own number may be odd: 17 for the length, then 1; a refusal leaves the
 // words.
-fn begin(rec: &mut [u64], stakes: &[u64], own: Node, odd: bool, genesis: u64) -> StartAnswer
+fn begin(rec: &mut [u64], stakes: &[u64], own: Node, odd: bool, genesis: u64) -> Result<(), Refusal>
     ensures { BegunOf rec.old stakes.now own.0 odd genesis result rec.new }
 {
     if rec.len() != record_words(stakes.len()) {
-        return StartAnswer::Refused(Refusal::BadRecord);
+        return Err(Refusal::BadRecord);
     }
     let made = make_table(stakes);
     if !made.fits | (odd | (genesis == 0)) {
-        return StartAnswer::Refused(Refusal::BadSizes);
+        return Err(Refusal::BadSizes);
     }
     let table = made.table;
     let total = table.total;
     set_up(rec, stakes, total, own, genesis);
-    StartAnswer::Started
+    Ok(())
 }
 
 // Makes lent words the record of a fresh node.
-pub fn start(rec: &mut [u64], stakes: &[u64], own: Node, genesis: u64) -> StartAnswer
+pub fn start(rec: &mut [u64], stakes: &[u64], own: Node, genesis: u64) -> Result<(), Refusal>
     ensures { StartOf rec.old stakes.now own.0 genesis result rec.new }
 {
     begin(rec, stakes, own, stakes.len() <= own.0, genesis)
 }
 
 // Makes lent words the record of a fresh watcher: the number after the last node's stands for no own number.
-pub fn watch(rec: &mut [u64], stakes: &[u64], genesis: u64) -> StartAnswer
+pub fn watch(rec: &mut [u64], stakes: &[u64], genesis: u64) -> Result<(), Refusal>
     ensures { WatchOf rec.old stakes.now genesis result rec.new }
 {
     begin(rec, stakes, Node(stakes.len()), false, genesis)

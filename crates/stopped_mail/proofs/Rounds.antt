@@ -1,4 +1,5 @@
 -- Feeding live nodes ends: a round in which none of them makes a record feeds all that is due at its end. And it can always be done.
+use Rattle.std.specs.Prelude.{Ok}
 use mathlib.Core.Path.{◌≡◌, sym, subst}
 use mathlib.Core.Bool.{Bool, not, ◌&&◌}
 use mathlib.Core.List.{List, ◌++◌}
@@ -6,7 +7,6 @@ use Prim.Native.Nat.{ℕ, suc, ◌≤◌}
 use native.Mathlib.Omega.{arith}
 use lib.Dec.{T}
 use lib.ListN.{length}
-use Rattle.rulebook.specs.declared.Verdict.TheVariants.{Fine}
 use Rattle.rulebook.specs.Weights.{last_slot}
 use Rattle.rulebook.specs.Ledger.{fresh, cell_at, own_cell, no_initial}
 use Rattle.rulebook.specs.Rules.{fallback_weights}
@@ -32,7 +32,7 @@ use Rattle.stopped_mail.proofs.Fed.{asked_fits, live_mail_fed_is_enough, lean_we
 
 -- Live nodes whose lives go on in rounds.
 module _ (stakes : List ℕ) (genesis : ℕ → ℕ) (honest live : Test) (fed more : ℕ → ℕ → List Arrival) (go_on : (k n : ℕ) → fed (suc k) n ≡ fed k n ++ more k n)
-    (started : (n : ℕ) → T (live n) → start_verdict stakes n (genesis n) ≡ Fine) where
+    (started : (n : ℕ) → T (live n) → start_verdict stakes n (genesis n) ≡ Ok tt) where
   abbrev still : Quiet stakes genesis live fed more go_on started
   still = quiet stakes genesis live fed more go_on started
 
@@ -64,7 +64,7 @@ module _ (stakes : List ℕ) (genesis : ℕ → ℕ) (honest live : Test) (fed m
       }
 
 module _ (stakes : List ℕ) (genesis : ℕ → ℕ) (honest live : Test) (fed : ℕ → ℕ → List Arrival) (u : ℕ) (r : LiveRounds stakes genesis honest live fed u) where
-  abbrev begun : (n : ℕ) → T (live n) → start_verdict stakes n (genesis n) ≡ Fine
+  abbrev begun : (n : ℕ) → T (live n) → start_verdict stakes n (genesis n) ≡ Ok tt
   begun n a = (r.ring 0).started n (r.honest_too n a)
 
   abbrev pause : Quiet stakes genesis live fed r.more r.go_on begun
@@ -123,7 +123,7 @@ module _ (stakes : List ℕ) (genesis : ℕ → ℕ) (honest live : Test) (fed :
   abbrev on : (k n : ℕ) → onward (suc k) n ≡ onward k n ++ each k n
   on = rounds_on stakes genesis honest live sub fed sane
 
-  abbrev from : (n : ℕ) → T (live n) → start_verdict stakes n (genesis n) ≡ Fine
+  abbrev from : (n : ℕ) → T (live n) → start_verdict stakes n (genesis n) ≡ Ok tt
   from n a = sane.ring.started n (sub n a)
 
   abbrev hush : Quiet stakes genesis live onward each on from

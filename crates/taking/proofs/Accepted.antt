@@ -1,4 +1,5 @@
 -- An accepted packet: its certificate, what is told of it, and where it is kept. Assumes nothing.
+use Rattle.std.specs.Prelude.{Result, Ok, Err}
 use mathlib.Core.Path.{◌≡◌, sym, ap, ◌∙◌}
 use mathlib.Core.Bool.{true, false, not, ◌&&◌}
 use mathlib.Core.List.{List}
@@ -9,11 +10,7 @@ use lib.Dec.{eqb, ltb}
 use borrow.Author.Tests.{lt-ltb, le-ltb, not-false}
 use Rattle.rulebook.specs.declared.Accepted.{Accepted}
 use Rattle.rulebook.specs.declared.CertificateKind.{CertificateKind}
-use Rattle.rulebook.specs.declared.CheckAnswer.{CheckAnswer}
-use Rattle.rulebook.specs.declared.Found.{Found}
-use Rattle.rulebook.specs.declared.Found.TheVariants as answer
 use Rattle.rulebook.specs.declared.Refusal.TheVariants as refusal
-use Rattle.rulebook.specs.declared.Verdict.TheVariants.{Fine, Refused}
 use Rattle.rulebook.specs.Weights.{last_slot, places_for, slot_ok, stakes_fit, total_to}
 use Rattle.rulebook.specs.Certificates.{Certificate, Kept}
 use Rattle.rulebook.specs.Certificates as found
@@ -44,6 +41,10 @@ use Rattle.kept_places.proofs.Families.{family_words}
 use Rattle.soundness.specs.Sound.{sound_words}
 use Rattle.soundness.proofs.Laws.{front_fits, sound_long, sound_formed, sound_head, sound_placed}
 use Rattle.taking.specs.Taking.{found_in, certificate_in, Accepting}
+use Rattle.rulebook.specs.declared.Heading.{Heading}
+use Rattle.rulebook.specs.declared.Refusal.{Refusal}
+use Rattle.rulebook.specs.declared.Unread.{Unread}
+use Rattle.rulebook.specs.declared.Unread.TheVariants.{Early, Malformed}
 
 -- ---- 1 is never answered
 
@@ -59,22 +60,22 @@ pub table_fits : (ws : List ℕ) → sound_words ws ≡ true → stakes_fit (tab
 table_fits ws s = front_fits (ledger_of ws).stakes (ledger_of ws).count (sound_placed ws s) ∙ fits_record (ledger_of ws) (sound_formed ws s)
 
 -- The stakes that the checker is lent are the record's table.
-pub checked_as : (ws packet : List ℕ) {stakes : List ℕ} {x y : CheckAnswer} → stakes ≡ table_of (ledger_of ws) → x ≡ check_certificate stakes packet → x ≡ y
+pub checked_as : (ws packet : List ℕ) {stakes : List ℕ} {x y : Result Accepted Refusal} → stakes ≡ table_of (ledger_of ws) → x ≡ check_certificate stakes packet → x ≡ y
     → check_certificate (table_of (ledger_of ws)) packet ≡ y
 checked_as ws packet e f g = ap (λ (xs : List ℕ). check_certificate xs packet) (sym e) ∙ sym f ∙ g
 
 -- ---- the masks that are read again
 
-masks_read : (f : Found) (a b : List ℕ) (c : Certificate) (n : ℕ) → found_as f a b ≡ found.Whole c n
+masks_read : (f : Result (Heading × ℕ) Unread) (a b : List ℕ) (c : Certificate) (n : ℕ) → found_as f a b ≡ found.Whole c n
     → (joined (take (words_in c.kind) a) ≡ c.maska) × (joined (take (words_in c.kind) b) ≡ c.maskb)
 unfolding found_as found_in
-masks_read (answer.Whole h next) a b c n e =
+masks_read (Ok (h, next)) a b c n e =
     let kind : h.kind ≡ c.kind = ap (λ (x : found.Found). (found_in x).kind) e in (
       ap (λ (k : ℕ). joined (take (words_in k) a)) (sym kind) ∙ ap (λ (x : found.Found). (found_in x).maska) e,
       ap (λ (k : ℕ). joined (take (words_in k) b)) (sym kind) ∙ ap (λ (x : found.Found). (found_in x).maskb) e,
     )
-masks_read answer.Early a b c n e = let z : ◌≡◌ {A = ℕ} 0 1 = cc in absurd (omega arith)
-masks_read answer.Malformed a b c n e = let z : ◌≡◌ {A = ℕ} 0 1 = cc in absurd (omega arith)
+masks_read (Err Early) a b c n e = let z : ◌≡◌ {A = ℕ} 0 1 = cc in absurd (omega arith)
+masks_read (Err Malformed) a b c n e = let z : ◌≡◌ {A = ℕ} 0 1 = cc in absurd (omega arith)
 
 -- ---- 7 and 8
 
@@ -91,17 +92,17 @@ module _ (ws : List ℕ) (s : ℕ) (k : CertificateKind) (b : ℕ) (h : s < suc 
   room_is : (room : ℕ) → room ≡ first_place (seeks (sought.Room k)) 0 kept → has_room k 0 kept ≡ ltb room most_certificates
   room_is room e = room_found k kept ∙ (λ i. ltb (sym e i) (all_kept i))
 
-  pub kept_repeat : (same : ℕ) → same ≡ first_place (seeks (sought.Same k b)) 0 kept → same < most_certificates → Refused refusal.AlreadyKept ≡ kept_verdict kept k b
+  pub kept_repeat : (same : ℕ) → same ≡ first_place (seeks (sought.Same k b)) 0 kept → same < most_certificates → Err refusal.AlreadyKept ≡ kept_verdict kept k b
   unfolding kept_verdict refuse_if
   kept_repeat same e l = rw (repeat_is same e ∙ lt-ltb same most_certificates l)
 
   module _ (same room : ℕ) (e : same ≡ first_place (seeks (sought.Same k b)) 0 kept) (new : most_certificates ≤ same)
       (f : room ≡ first_place (seeks (sought.Room k)) 0 kept) where
-    pub kept_free : room < most_certificates → Fine ≡ kept_verdict kept k b
+    pub kept_free : room < most_certificates → Ok tt ≡ kept_verdict kept k b
     unfolding kept_verdict refuse_if
     kept_free l = rw (repeat_is same e ∙ le-ltb same most_certificates new, room_is room f ∙ lt-ltb room most_certificates l)
 
-    pub kept_full : most_certificates ≤ room → Refused refusal.OtherStands ≡ kept_verdict kept k b
+    pub kept_full : most_certificates ≤ room → Err refusal.OtherStands ≡ kept_verdict kept k b
     unfolding kept_verdict refuse_if
     kept_full l = rw (repeat_is same e ∙ le-ltb same most_certificates new, room_is room f ∙ le-ltb room most_certificates l)
 
@@ -127,7 +128,7 @@ module _ (ws packet : List ℕ) (told : Accepted) (k : Accepting ws packet told)
   front_read : certificate_at packet 0 ≡ found.Whole front (length packet)
   front_read = one.read ∙ ap (λ (c : Certificate). found.Whole c (length packet)) (sym front_is)
 
-  front_fine : judge (table_of ledger) front ≡ Fine
+  front_fine : judge (table_of ledger) front ≡ Ok tt
   front_fine = ap (judge (table_of ledger)) front_is ∙ one.fine
 
   told_is : told ≡ accepted_of (table_of ledger) front
@@ -174,7 +175,7 @@ module _ (ws packet : List ℕ) (told : Accepted) (k : Accepting ws packet told)
   packet_taken = packet_whole ledger packet front (length packet) front_good (omega arith)
 
   -- What is kept, by what is told and the masks that are read again.
-  pub keeps_front : (ws' : List ℕ) (f : Found) (a b : List ℕ) (w : ℕ) → found_as f a b ≡ certificate_at packet 0 → w ≡ mask_words (places ledger)
+  pub keeps_front : (ws' : List ℕ) (f : Result (Heading × ℕ) Unread) (a b : List ℕ) (w : ℕ) → found_as f a b ≡ certificate_at packet 0 → w ≡ mask_words (places ledger)
       → ledger_of ws' ≡ put_certificates ledger told.slot.0 (fill_kept told.kind 0 (record { block = told.block; maska = joined (take w a); maskb = joined (take w b) }) (certificates_at ledger told.slot.0))
       → ledger_of ws' ≡ keep_certificate ledger front
   unfolding keep_certificate
@@ -190,5 +191,5 @@ module _ (ws packet : List ℕ) (told : Accepted) (k : Accepting ws packet told)
   verdict_told = λ i. kept_verdict (certificates_at ledger (told_slot i)) (told_kind i) (told_block i)
 
   -- What it has passed where neither 7 nor 8 stands against it.
-  pub front_passes : kept_verdict (certificates_at ledger told.slot.0) told.kind told.block ≡ Fine → CertificateFine ledger front
+  pub front_passes : kept_verdict (certificates_at ledger told.slot.0) told.kind told.block ≡ Ok tt → CertificateFine ledger front
   front_passes e = certificate_fine ledger front (table_long ledger head) front_fine (sym verdict_told ∙ e)

@@ -1,4 +1,5 @@
 -- Each way through taking a packet is what the definition says, word for word. Assumes nothing.
+use Rattle.std.specs.Prelude.{Ok, Err}
 use mathlib.Core.Path.{◌≡◌, refl, sym, ap, ◌∙◌}
 use mathlib.Core.Bool.{true, false}
 use mathlib.Core.List.{List, []}
@@ -6,11 +7,8 @@ use Prim.Native.Nat.{ℕ, ◌≤◌, ◌<◌}
 use native.Mathlib.Omega.{arith}
 use lib.ListN.{length}
 use Rattle.rulebook.specs.declared.Accepted.{Accepted}
-use Rattle.rulebook.specs.declared.CheckAnswer.TheVariants as check
 use Rattle.rulebook.specs.declared.Refusal.{Refusal}
 use Rattle.rulebook.specs.declared.Refusal.TheVariants as refusal
-use Rattle.rulebook.specs.declared.StepAnswer.TheVariants as answer
-use Rattle.rulebook.specs.declared.Verdict.TheVariants.{Fine, Refused}
 use Rattle.rulebook.specs.Ledger.{table_of, certificates_at}
 use Rattle.rulebook.specs.Rules.{state_of}
 use Rattle.rulebook.specs.Run.{run}
@@ -53,12 +51,12 @@ module _ (ws out packet : List ℕ) where
       sym (given_off (is_spelled ws) (as_found refusal.BadRecord ws out) (λ _. as_fed (take_certificate (ledger_of ws) (length out) packet) out) e)
 
   refused_by_lem : (r : Refusal) → is_spelled ws ≡ true → take_certificate (ledger_of ws) (length out) packet ≡ refused_with (ledger_of ws) r
-      → TakeOf ws out packet (answer.Refused r) ws out
+      → TakeOf ws out packet (Err r) ws out
   refused_by_lem r e is =
       take_of (as_found r ws out) (sym (fed_refused ws out r e) ∙ ap (λ (f : Fed). as_fed f out) (sym is) ∙ leaves_spelled e)
 
   -- 17.
-  pub take_unsound : sound_words ws ≡ false → TakeOf ws out packet (answer.Refused refusal.BadRecord) ws out
+  pub take_unsound : sound_words ws ≡ false → TakeOf ws out packet (Err refusal.BadRecord) ws out
   unfolding sound_words
   take_unsound e =
       by_test (is_spelled ws)
@@ -67,7 +65,7 @@ module _ (ws out packet : List ℕ) where
 
   module _ (s : sound_words ws ≡ true) where
     -- 9.
-    pub take_cramped : length out < outbox_words → TakeOf ws out packet (answer.Refused refusal.NoRoom) ws out
+    pub take_cramped : length out < outbox_words → TakeOf ws out packet (Err refusal.NoRoom) ws out
     take_cramped h = refused_by_lem refusal.NoRoom (words_spelled ws s) (take_short (ledger_of ws) packet (length out) (sound_formed ws s) h)
 
     module _ (room : outbox_words ≤ length out) where
@@ -75,27 +73,27 @@ module _ (ws out packet : List ℕ) where
       packet_is = take_on (ledger_of ws) packet (length out) (sound_formed ws s) room
 
       -- The checker's refusals.
-      pub take_bad : (r : Refusal) → check_certificate (table_of (ledger_of ws)) packet ≡ check.Refused r → TakeOf ws out packet (answer.Refused r) ws out
+      pub take_bad : (r : Refusal) → check_certificate (table_of (ledger_of ws)) packet ≡ Err r → TakeOf ws out packet (Err r) ws out
       take_bad r e = refused_by_lem r (words_spelled ws s) (packet_is ∙ checked_refused (ledger_of ws) packet r (table_fits ws s) e)
 
-      module _ (told : Accepted) (k : check_certificate (table_of (ledger_of ws)) packet ≡ check.Accepted told) where
+      module _ (told : Accepted) (k : check_certificate (table_of (ledger_of ws)) packet ≡ Ok told) where
         accepting : Accepting ws packet told
         accepting = record { sound = s; checked = k }
 
         -- 7 and 8.
-        pub take_kept : (r : Refusal) → kept_verdict (certificates_at (ledger_of ws) told.slot.0) told.kind told.block ≡ Refused r
-            → TakeOf ws out packet (answer.Refused r) ws out
+        pub take_kept : (r : Refusal) → kept_verdict (certificates_at (ledger_of ws) told.slot.0) told.kind told.block ≡ Err r
+            → TakeOf ws out packet (Err r) ws out
         take_kept r e =
             refused_by_lem r (words_spelled ws s)
             (packet_is ∙ packet_taken ws packet told accepting
             ∙ taken_refused (ledger_of ws) (certificate_in packet) r (sym (verdict_told ws packet told accepting) ∙ e))
 
         -- Done.
-        pub take_done : {ws' left : List ℕ} {n : ℕ} → kept_verdict (certificates_at (ledger_of ws) told.slot.0) told.kind told.block ≡ Fine
+        pub take_done : {ws' left : List ℕ} {n : ℕ} → kept_verdict (certificates_at (ledger_of ws) told.slot.0) told.kind told.block ≡ Ok tt
             → Words ws' → length left ≡ length out → Onward ws out 0 ws' left n (run (state_of (keep_certificate (ledger_of ws) (certificate_in packet)) []))
-            → TakeOf ws out packet (answer.Done n) ws' left
+            → TakeOf ws out packet (Ok n) ws' left
         take_done {ws' = ws'} {left = left} {n = n} e w b o =
-            take_of (record { answer = answer.Done n; words = ws'; outbox = left })
+            take_of (record { answer = Ok n; words = ws'; outbox = left })
             (fed_done (run (state_of (keep_certificate (ledger_of ws) (certificate_in packet)) [])) (long_spelled ws' w o.live.long) b o
             ∙ ap (λ (f : Fed). as_fed f out)
             (sym (packet_is ∙ packet_taken ws packet told accepting

@@ -1,7 +1,6 @@
 -- Computed cases of what taking a certificate packet leaves in lent memory, and of the certificate at a packet's front.
-use Rattle.std.specs.Prelude.{◌≡◌, true, false, List, [], ◌∷◌, ◌++◌, ℕ, replicate, T}
+use Rattle.std.specs.Prelude.{◌≡◌, true, false, List, [], ◌∷◌, ◌++◌, ℕ, replicate, T, Err}
 use Rattle.rulebook.specs.declared.Refusal.TheVariants as refusal
-use Rattle.rulebook.specs.declared.StepAnswer.TheVariants as answer
 use Rattle.rulebook.specs.PaperNumbers.{step_panel}
 use Rattle.rulebook.specs.Ledger.{fresh}
 use Rattle.rulebook.specs.Scripts.{equals}
@@ -35,7 +34,7 @@ take_left ws whole holds = rw (whole, holds) tt
 
 -- Words that spell no ledger are 17, whatever the packet and the outbox, and stay.
 unread_left : (ws out packet : List ℕ) → is_spelled ws ≡ false
-    → take_leaves ws out packet ≡ record { answer = answer.Refused refusal.BadRecord; words = ws; outbox = out }
+    → take_leaves ws out packet ≡ record { answer = Err refusal.BadRecord; words = ws; outbox = out }
 unfolding rules take_leaves
 unread_left ws out packet broken = rw broken
 

@@ -14,7 +14,7 @@ use certificate_numbers::{MOST_WORDS, read_certificate};
 use checker::check_certificate;
 use kept_places::{Sought, first_place, keep_certificate};
 use record::{MOST_CERTIFICATES, mask_words, places_in, stakes_of};
-use rulebook::{Accepted, CertificateKind, CheckAnswer, Refusal, Slot, StepAnswer, Verdict};
+use rulebook::{Accepted, CertificateKind, Refusal, Slot};
 use run::settle;
 use soundness::sound;
 
@@ -22,17 +22,17 @@ use soundness::sound;
 const OUTBOX_WORDS: usize = 480;
 
 // 7 for a kind and block that the slot keeps already, 8 where no place for the kind is free.
-fn kept_verdict(rec: &[u64], kind: CertificateKind, s: Slot, block: u64) -> Verdict
+fn kept_verdict(rec: &[u64], kind: CertificateKind, s: Slot, block: u64) -> Result<(), Refusal>
     requires { InSlot rec.now s.0 }
     ensures { result ≡ kept_verdict (certificates_at (ledger_of rec.now) s.0) kind block }
 {
     if first_place(rec, s, Sought::Same(kind, block)) < MOST_CERTIFICATES {
-        return Verdict::Refused(Refusal::AlreadyKept);
+        return Err(Refusal::AlreadyKept);
     }
     if first_place(rec, s, Sought::Room(kind)) < MOST_CERTIFICATES {
-        return Verdict::Fine;
+        return Ok(());
     }
-    Verdict::Refused(Refusal::OtherStands)
+    Err(Refusal::OtherStands)
 }
 
 // Keeps the certificate of an accepted packet: its masks are read again, and have as many words as the record's.
@@ -59,26 +59,26 @@ fn act(rec: &mut [u64], outbox: &mut [u64], packet: &[u8], told: Accepted) -> us
 }
 
 // One certificate packet: refused with 17, 9, as the checker has it, 7 or 8, with all memory as found; or taken.
-pub fn take(rec: &mut [u64], outbox: &mut [u64], packet: &[u8]) -> StepAnswer
+pub fn take(rec: &mut [u64], outbox: &mut [u64], packet: &[u8]) -> Result<usize, Refusal>
     ensures { TakeOf rec.old outbox.old packet.now result rec.new outbox.new }
 {
     if !sound(rec) {
-        return StepAnswer::Refused(Refusal::BadRecord);
+        return Err(Refusal::BadRecord);
     }
     if outbox.len() < OUTBOX_WORDS {
-        return StepAnswer::Refused(Refusal::NoRoom);
+        return Err(Refusal::NoRoom);
     }
     let checked = check_certificate(stakes_of(rec), packet);
     let told = match checked {
-        CheckAnswer::Refused(r) => {
-            return StepAnswer::Refused(r);
+        Err(r) => {
+            return Err(r);
         }
-        CheckAnswer::Accepted(a) => a,
+        Ok(a) => a,
     };
     let kind = told.kind;
     let s = told.slot;
     match kept_verdict(rec, kind, s, told.block) {
-        Verdict::Refused(r) => StepAnswer::Refused(r),
-        Verdict::Fine => StepAnswer::Done(act(rec, outbox, packet, told)),
+        Err(r) => Err(r),
+        Ok(()) => Ok(act(rec, outbox, packet, told)),
     }
 }

@@ -1,4 +1,5 @@
 -- Laws of the texts: which one a number gets that is not named, and that a buffer of the room asked for holds each. Assumes nothing.
+use Rattle.std.specs.Prelude.{Ok, Err}
 use mathlib.Core.Path.{◌≡◌, refl, ap, ◌∙◌}
 use mathlib.Core.Bool.{Bool, true, false}
 use mathlib.Core.List.{List}
@@ -8,9 +9,6 @@ use lib.Dec.{eqb, ltb}
 use lib.ListN.{length}
 use borrow.Author.Tests.{ne_eqb, lt-ltb, le-ltb, ltb-true}
 use Rattle.rulebook.specs.declared.Refusal.TheVariants as refusal
-use Rattle.rulebook.specs.declared.Verdict.{Verdict}
-use Rattle.rulebook.specs.declared.Verdict.TheVariants as verdict
-use Rattle.rulebook.specs.declared.WriteAnswer.TheVariants as write
 use Rattle.rulebook.specs.Tools.{choose}
 use Rattle.rulebook.specs.Inputs.{refuse_if}
 use Rattle.rulebook.specs.Writers.{wrote_on, Writes}
@@ -82,11 +80,11 @@ text_fits n =
     (later_fits n)))))))
 
 -- A buffer that is too short gets 9 and stays.
-pub no_room : (l : List ℕ) (n : ℕ) → length l < text_room → Writes (text_on (length l) n) l (write.Refused refusal.NoRoom) l
+pub no_room : (l : List ℕ) (n : ℕ) → length l < text_room → Writes (text_on (length l) n) l (Err refusal.NoRoom) l
 unfolding text_on refuse_if
 no_room l n h =
     writes_refused _ (refusal_text n) l refusal.NoRoom
-    (ap (λ (t : Bool). wrote_on (refuse_if t refusal.NoRoom verdict.Fine) (refusal_text n)) (lt-ltb (length l) text_room h))
+    (ap (λ (t : Bool). wrote_on (refuse_if t refusal.NoRoom (Ok tt)) (refusal_text n)) (lt-ltb (length l) text_room h))
 
 -- The place after the text lies within a buffer of that room.
 placed : {l left text : List ℕ} {k : ℕ} → text_room ≤ length l → length text < text_room → Put l 0 text left k → k < length l
@@ -94,9 +92,9 @@ unfolding reach
 placed h f w = let p = w.place in omega arith
 
 -- Any other holds the text from its front, and every other byte stays.
-pub has_room : (n : ℕ) {l left : List ℕ} {k : ℕ} → text_room ≤ length l → Put l 0 (refusal_text n) left k → Writes (text_on (length l) n) l (write.Written k) left
+pub has_room : (n : ℕ) {l left : List ℕ} {k : ℕ} → text_room ≤ length l → Put l 0 (refusal_text n) left k → Writes (text_on (length l) n) l (Ok k) left
 unfolding text_on refuse_if wrote_on
 has_room n {l} {left} {k} h w =
     let s = stands_whole w (placed h (ltb-true (length (refusal_text n)) text_room (text_fits n)) w) in
     let t : ltb (length l) text_room ≡ false = le-ltb (length l) text_room h in
-    rw t (record { answered = ap write.Written s.0; bytes = s.1 })
+    rw t (record { answered = ap Ok s.0; bytes = s.1 })

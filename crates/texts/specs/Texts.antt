@@ -1,9 +1,8 @@
 -- What each number means, in a sentence for people.
-use Rattle.std.specs.Prelude.{List, [], ◌∷◌, ℕ, eqb, ltb}
+use Rattle.std.specs.Prelude.{List, [], ◌∷◌, ℕ, eqb, ltb, Ok}
 use Prim.Native.Char.{code}
 use Prim.Native.String as string
 use Rattle.rulebook.specs.declared.Refusal.TheVariants as refusal
-use Rattle.rulebook.specs.declared.Verdict.TheVariants as verdict
 use Rattle.rulebook.specs.Tools.{choose}
 use Rattle.rulebook.specs.Inputs.{refuse_if}
 use Rattle.rulebook.specs.Writers.{Wrote, wrote_on}
@@ -53,4 +52,4 @@ text_room = 512
 
 -- The text of a number for a buffer of so many bytes: 9 where it is too short, as for every writer.
 unfoldable pub text_on : ℕ → ℕ → Wrote
-text_on room n = wrote_on (refuse_if (ltb room text_room) refusal.NoRoom verdict.Fine) (refusal_text n)
+text_on room n = wrote_on (refuse_if (ltb room text_room) refusal.NoRoom (Ok tt)) (refusal_text n)

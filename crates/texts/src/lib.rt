@@ -7,7 +7,7 @@ ghost use Rattle.lines.specs.Put.{Put};
 ghost use Rattle.texts.specs.Texts.{last_text, later_text, refusal_text, text_on};
 
 use lines::put_text;
-use rulebook::{Refusal, WriteAnswer};
+use rulebook::Refusal;
 
 // What a buffer for a text has at least.
 const ROOM: usize = 512;
@@ -107,11 +107,11 @@ pub fn put_refusal(line: &mut [u8], at: usize, n: u64) -> usize
 }
 
 // Writes the text of a number to the buffer's front: 9 where the buffer is too short.
-pub fn refusal_text(buffer: &mut [u8], n: u64) -> WriteAnswer
+pub fn refusal_text(buffer: &mut [u8], n: u64) -> Result<usize, Refusal>
     ensures { Writes (text_on (length buffer.old) n) buffer.old result buffer.new }
 {
     if buffer.len() < ROOM {
-        return WriteAnswer::Refused(Refusal::NoRoom);
+        return Err(Refusal::NoRoom);
     }
-    WriteAnswer::Written(put_refusal(buffer, 0, n))
+    Ok(put_refusal(buffer, 0, n))
 }

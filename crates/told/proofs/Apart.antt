@@ -1,4 +1,5 @@
 -- Every way of making a record writes in the slot of that record alone, and what arrives in the slot that it names.
+use Rattle.std.specs.Prelude.{⊤, Result, Ok, Err}
 use mathlib.Core.Path.{◌≡◌, refl, sym, ap, ◌∙◌, subst}
 use mathlib.Core.Bool.{Bool, true, false, ◌&&◌, ◌||◌}
 use mathlib.Core.List.{List, [], ◌∷◌, ◌++◌, reverse}
@@ -11,8 +12,6 @@ use borrow.Author.Tests.{eq-eqb, eqb-false, leb-true, leb-false, le-leb}
 use Rattle.rulebook.specs.declared.Input.{Input}
 use Rattle.rulebook.specs.declared.Input.TheVariants as input
 use Rattle.rulebook.specs.declared.Refusal.TheVariants as refusal
-use Rattle.rulebook.specs.declared.Verdict.{Verdict}
-use Rattle.rulebook.specs.declared.Verdict.TheVariants.{Fine, Refused}
 use Rattle.rulebook.specs.declared.VoteKind.{VoteKind}
 use Rattle.rulebook.specs.Certificates.{Certificate, Found, Whole}
 use Rattle.rulebook.specs.Weights.{last_slot}
@@ -51,6 +50,7 @@ use Rattle.told.specs.Told.{count_of, tells}
 use Rattle.told.specs.Apart.{is_for, names, some_names, casts, Apart, OtherSlotsStay, AsFound, QuietLook}
 use Rattle.told.proofs.Counting.{count_reverse, count_append}
 use Rattle.told.proofs.Once.{vote_low}
+use Rattle.rulebook.specs.declared.Refusal.{Refusal}
 
 -- ---- rows one after the other
 
@@ -200,7 +200,7 @@ module _ (l : Ledger) (h : Sound l) (s : ℕ) where
   begins : (t : ℕ) (r : Row) → Sound (put_row l t r) → eqb t s ≡ false → Left (state_of (put_row l t r) [])
   begins t r k ne = record { sound = k; mine = refl; apart = apart_self l.own s [] (row_at l s) _ (row_else l t r s (λ q. eqb-false t s ne (sym q))) }
 
-  input_left : (i : Input) → verdict l i ≡ Fine → names (of_input i) s ≡ false → Left (intake l i)
+  input_left : (i : Input) → verdict l i ≡ Ok tt → names (of_input i) s ≡ false → Left (intake l i)
   unfolding intake verdict time_out keep_block store_vote is_watcher names
   input_left (input.Vote v) e ne = begins v.slot.0 _ (intake_sound l h (input.Vote v) e) ne
   input_left (input.Block t b) e ne = begins t.0 _ (intake_sound l h (input.Block t b) e) ne
@@ -224,15 +224,15 @@ module _ (l : Ledger) (h : Sound l) (s : ℕ) where
   refused_left : Apart l.own [] s (row_at l s) (row_at l s)
   refused_left = apart_self l.own s [] (row_at l s) (row_at l s) refl
 
-  fed_left : (v : Verdict) (i : Input) → verdict l i ≡ v → names (of_input i) s ≡ false → Serves (fed_on v l i)
+  fed_left : (v : Result ⊤ Refusal) (i : Input) → verdict l i ≡ v → names (of_input i) s ≡ false → Serves (fed_on v l i)
   unfolding fed_on refused_with
-  fed_left Fine i e ne = run_left (intake l i) (input_left i e ne)
-  fed_left (Refused r) i e ne = refused_left
+  fed_left (Ok tt) i e ne = run_left (intake l i) (input_left i e ne)
+  fed_left (Err r) i e ne = refused_left
 
-  taken_left : (v : Verdict) (c : Certificate) → judge (table_of l) c ≡ Fine → kept_verdict (certificates_at l c.slot) (kind_for l c) c.block ≡ v → eqb c.slot s ≡ false → Serves (taken_on v l c)
+  taken_left : (v : Result ⊤ Refusal) (c : Certificate) → judge (table_of l) c ≡ Ok tt → kept_verdict (certificates_at l c.slot) (kind_for l c) c.block ≡ v → eqb c.slot s ≡ false → Serves (taken_on v l c)
   unfolding taken_on refused_with keep_certificate
-  taken_left Fine c j e ne = run_left (state_of (keep_certificate l c) []) (begins c.slot _ (sound_certificate l h c (taken_fine l h c j e)) ne)
-  taken_left (Refused r) c j e ne = refused_left
+  taken_left (Ok tt) c j e ne = run_left (state_of (keep_certificate l c) []) (begins c.slot _ (sound_certificate l h c (taken_fine l h c j e)) ne)
+  taken_left (Err r) c j e ne = refused_left
 
   served_left : (i : Arrival) → names i s ≡ false → Serves (served l i)
   unfolding served feed taken refused_with names is_for

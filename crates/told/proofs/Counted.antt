@@ -1,4 +1,5 @@
 -- A vote that was stored stands in its cell, in that slot alone, and stays.
+use Rattle.std.specs.Prelude.{⊤, Result, Ok, Err}
 use mathlib.Core.Path.{◌≡◌, refl, sym, ap, ◌∙◌, subst}
 use mathlib.Core.Bool.{true, false, not}
 use mathlib.Core.List.{List, [], ◌∷◌}
@@ -12,8 +13,6 @@ use Rattle.rulebook.specs.declared.Cell.{Cell}
 use Rattle.rulebook.specs.declared.Input.{Input}
 use Rattle.rulebook.specs.declared.Input.TheVariants as input
 use Rattle.rulebook.specs.declared.Refusal.TheVariants as refusal
-use Rattle.rulebook.specs.declared.Verdict.{Verdict}
-use Rattle.rulebook.specs.declared.Verdict.TheVariants.{Fine, Refused}
 use Rattle.rulebook.specs.declared.Vote.{Vote}
 use Rattle.rulebook.specs.declared.VoteKind.{VoteKind}
 use Rattle.rulebook.specs.declared.Who.{Who}
@@ -61,6 +60,7 @@ use Rattle.calls.proofs.OneCall.{call_did, step_served}
 use Rattle.calls.proofs.Life.{many, calls_earlier}
 use Rattle.told.specs.Held.{belongs, VoteIsCounted}
 use Rattle.told.proofs.Once.{as_ballot}
+use Rattle.rulebook.specs.declared.Refusal.{Refusal}
 
 -- ---- a vote in a cell is in the weights that it belongs to
 
@@ -166,15 +166,15 @@ module _ (l : Ledger) (h : Sound l) (x : Vote) where
   unfolding store_vote
   stays_out f q = f.outside q
 
-  fed_stands : (v : Verdict) → verdict l (input.Vote x) ≡ v → 0 ≡ (step_panel (fed_on v l (input.Vote x)).answer).number → Stands (fed_on v l (input.Vote x)).ledger
+  fed_stands : (v : Result ⊤ Refusal) → verdict l (input.Vote x) ≡ v → 0 ≡ (step_panel (fed_on v l (input.Vote x)).answer).number → Stands (fed_on v l (input.Vote x)).ledger
   unfolding fed_on fed_with refused_with step_panel intake verdict
-  fed_stands Fine e z =
+  fed_stands (Ok tt) e z =
       let f = vote_fine l x e in
       let m : Ledger = store_vote l slot node x.kind x.block in
       let a = stored f in
       let k = run_keeps (Leaving m node) (leaving_lawful m node) (state_of m []) (record { sound = intake_sound l h (input.Vote x) e; outside = stays_out f; same = λ t. refl }) in
       record { here = k.same slot ∙ a.here; elsewhere = λ t ne. k.same t ∙ a.elsewhere t ne; fine = f }
-  fed_stands (Refused r) e z = refusal_above r (sym z)
+  fed_stands (Err r) e z = refusal_above r (sym z)
 
 -- ---- over what is seen
 

@@ -1,5 +1,6 @@
 -- Records that are counted by a mark of the ledger: where every way of making a record adds to the count what it adds to the mark, the count of a
 -- life is what the mark has grown by.
+use Rattle.std.specs.Prelude.{⊤, Result, Ok, Err}
 use mathlib.Core.Path.{◌≡◌, refl}
 use mathlib.Core.Bool.{Bool, true, false}
 use mathlib.Core.List.{List, [], ◌∷◌, ◌++◌, reverse, reverse_aux}
@@ -11,8 +12,6 @@ use Rattle.rulebook.specs.declared.VoteKind.{VoteKind}
 use Rattle.rulebook.specs.declared.Place.TheVariants.{Free}
 use Rattle.rulebook.specs.declared.Input.{Input}
 use Rattle.rulebook.specs.declared.Input.TheVariants as input
-use Rattle.rulebook.specs.declared.Verdict.{Verdict}
-use Rattle.rulebook.specs.declared.Verdict.TheVariants.{Fine, Refused}
 use Rattle.rulebook.specs.Tools.{part}
 use Rattle.rulebook.specs.Weights.{last_slot}
 use Rattle.rulebook.specs.PaperNumbers.{vote_number}
@@ -38,6 +37,7 @@ use Rattle.settling.proofs.Verdicts.{vote_fine, block_fine, timeout_fine}
 use Rattle.settling.proofs.Life.{taken_fine}
 use Rattle.safety.specs.Ring.{after_all}
 use Rattle.told.specs.Told.{count_of}
+use Rattle.rulebook.specs.declared.Refusal.{Refusal}
 
 -- ---- counted in any order
 
@@ -126,7 +126,7 @@ module _ (p : Record → Bool) (f : Ledger → ℕ) (law : Counts p f) where
     unfolding count_of
     begins m k same = record { sound = k; balance = omega (arith, law.rest l m same) }
 
-    intake_counts : (i : Input) → verdict l i ≡ Fine → Balanced p f (f l) (intake l i)
+    intake_counts : (i : Input) → verdict l i ≡ Ok tt → Balanced p f (f l) (intake l i)
     unfolding intake verdict keep_block time_out is_watcher
     intake_counts (input.Vote v) e = begins _ (intake_sound l h (input.Vote v) e) (vote_same v (vote_fine l v e))
     intake_counts (input.Block t b) e =
@@ -150,19 +150,19 @@ module _ (p : Record → Bool) (f : Ledger → ℕ) (law : Counts p f) where
     unfolding fed_with
     run_counts o k = omega (arith, count_reverse p (run o).records, (run_keeps (Balanced p f (f l)) (lawful (f l)) o k).balance)
 
-    fed_counts : (v : Verdict) (i : Input) → verdict l i ≡ v → Grows (fed_on v l i)
+    fed_counts : (v : Result ⊤ Refusal) (i : Input) → verdict l i ≡ v → Grows (fed_on v l i)
     unfolding fed_on refused_with
-    fed_counts Fine i e = run_counts (intake l i) (intake_counts i e)
-    fed_counts (Refused r) i e = refused_counts
+    fed_counts (Ok tt) i e = run_counts (intake l i) (intake_counts i e)
+    fed_counts (Err r) i e = refused_counts
 
     kept_counts : (c : Certificate) → CertificateFine l c → Balanced p f (f l) (state_of (keep_certificate l c) [])
     unfolding keep_certificate
     kept_counts c g = begins (keep_certificate l c) (sound_certificate l h c g) (row_same c.slot _ g.high refl refl refl)
 
-    taken_counts : (v : Verdict) (c : Certificate) → judge (table_of l) c ≡ Fine → kept_verdict (certificates_at l c.slot) (kind_for l c) c.block ≡ v → Grows (taken_on v l c)
+    taken_counts : (v : Result ⊤ Refusal) (c : Certificate) → judge (table_of l) c ≡ Ok tt → kept_verdict (certificates_at l c.slot) (kind_for l c) c.block ≡ v → Grows (taken_on v l c)
     unfolding taken_on refused_with
-    taken_counts Fine c j e = run_counts (state_of (keep_certificate l c) []) (kept_counts c (taken_fine l h c j e))
-    taken_counts (Refused r) c j e = refused_counts
+    taken_counts (Ok tt) c j e = run_counts (state_of (keep_certificate l c) []) (kept_counts c (taken_fine l h c j e))
+    taken_counts (Err r) c j e = refused_counts
 
     served_counts : (i : Arrival) → Grows (served l i)
     unfolding served feed taken refused_with

@@ -1,4 +1,5 @@
 -- A certificate that was taken, or was kept already, stands in its place to the end of the life.
+use Rattle.std.specs.Prelude.{⊤, Result, Ok}
 use mathlib.Core.Path.{◌≡◌, refl, sym, ap, ◌∙◌, subst}
 use mathlib.Core.Bool.{Bool, true, false, not, ◌&&◌, ◌||◌}
 use mathlib.Core.List.{List, [], ◌∷◌}
@@ -11,8 +12,6 @@ use borrow.Author.Tests.{eqb-true, eq-eqb, leb-true, leb-false, le-ltb, not-fals
 use Rattle.rulebook.specs.declared.Accepted.{Accepted}
 use Rattle.rulebook.specs.declared.CertificateKind.{CertificateKind}
 use Rattle.rulebook.specs.declared.Refusal.TheVariants as refusal
-use Rattle.rulebook.specs.declared.Verdict.{Verdict}
-use Rattle.rulebook.specs.declared.Verdict.TheVariants.{Fine}
 use Rattle.rulebook.specs.Tools.{choose}
 use Rattle.rulebook.specs.Weights.{last_slot, slot_ok, weight, total_to, reaches}
 use Rattle.rulebook.specs.PaperNumbers.{kind_in, step_panel, refusal_number}
@@ -62,6 +61,7 @@ use Rattle.calls.specs.Life.{next, none, then}
 use Rattle.calls.proofs.OneCall.{call_did}
 use Rattle.calls.proofs.Life.{many, calls_earlier}
 use Rattle.told.specs.Held.{TakenIsHeld}
+use Rattle.rulebook.specs.declared.Refusal.{Refusal}
 
 -- ---- kept
 
@@ -122,7 +122,7 @@ some_fifths certificate.Skip t h = omega arith
 some_fifths certificate.Final t h = omega arith
 some_fifths certificate.Other t h = omega arith
 
-module _ (stakes : List ℕ) (k : CertificateKind) (c : Certificate) (fine : judge_kind stakes k c ≡ Fine) where
+module _ (stakes : List ℕ) (k : CertificateKind) (c : Certificate) (fine : judge_kind stakes k c ≡ Ok tt) where
   -- Its kind, slot and block are right, and its weight reaches.
   pub right : (is_other_kind k ≡ false) × (slot_ok c.slot ≡ true) × (block_misfits k c.block ≡ false) × (reaches (fifths_of k) (total_to stakes (length stakes)) (signed_weight stakes c) ≡ true)
   unfolding judge_kind judge_weight
@@ -131,7 +131,7 @@ module _ (stakes : List ℕ) (k : CertificateKind) (c : Certificate) (fine : jud
       let b = refuse_fine (not (slot_ok c.slot)) refusal.BadSlot _ a.1 in
       let d = refuse_fine (block_misfits k c.block) refusal.BadBlock _ b.1 in
       let e = refuse_fine (bad_signers (length stakes) k c) refusal.BadSigners _ d.1 in
-      let f = refuse_fine (not (reaches (fifths_of k) (total_to stakes (length stakes)) (signed_weight stakes c))) _ Fine e.1 in
+      let f = refuse_fine (not (reaches (fifths_of k) (total_to stakes (length stakes)) (signed_weight stakes c))) _ (Ok tt) e.1 in
       (a.0, not-false (slot_ok c.slot) b.0, d.0, not-false _ f.0)
 
   pub some_signer : 1 ≤ total_to stakes (length stakes) → is_kept (kept_of c) ≡ true
@@ -169,7 +169,7 @@ keeping_lawful l =
 
 -- ---- taken
 
-module _ (l : Ledger) (h : Sound l) (pos : 1 ≤ total_to (table_of l) (length (table_of l))) (c : Certificate) (j : judge (table_of l) c ≡ Fine) where
+module _ (l : Ledger) (h : Sound l) (pos : 1 ≤ total_to (table_of l) (length (table_of l))) (c : Certificate) (j : judge (table_of l) c ≡ Ok tt) where
   abbrev kind : CertificateKind
   kind = kind_for l c
 
@@ -177,7 +177,7 @@ module _ (l : Ledger) (h : Sound l) (pos : 1 ≤ total_to (table_of l) (length (
   places = certificates_at l c.slot
 
   -- Kept in the first free place, and by the rules' end.
-  newly_kept : kept_verdict places kind c.block ≡ Fine → is_kept (kept_of c) ≡ true → KeptIn (run (state_of (keep_certificate l c) [])).ledger kind c.slot c.block
+  newly_kept : kept_verdict places kind c.block ≡ Ok tt → is_kept (kept_of c) ≡ true → KeptIn (run (state_of (keep_certificate l c) [])).ledger kind c.slot c.block
   unfolding keep_certificate
   newly_kept e some =
       let f = taken_fine l h c j e in
@@ -197,12 +197,12 @@ module _ (l : Ledger) (h : Sound l) (pos : 1 ≤ total_to (table_of l) (length (
       }
 
   taken_by_lem : (a b : Bool) → some_kept (is_repeat kind c.block) 0 places ≡ a → has_room kind 0 places ≡ b → is_kept (kept_of c) ≡ true
-      → let f = taken_on (refuse_if a refusal.AlreadyKept (refuse_if (not b) refusal.OtherStands Fine)) l c in
+      → let f = taken_on (refuse_if a refusal.AlreadyKept (refuse_if (not b) refusal.OtherStands (Ok tt))) l c in
       ((step_panel f.answer).number ≡ 0) ⊎ ((step_panel f.answer).number ≡ 7) → KeptIn f.ledger kind c.slot c.block
   unfolding refuse_if taken_on fed_with refused_with step_panel refusal_number kept_verdict
   taken_by_lem true b ea eb some x = repeat_kept l kind c.slot c.block ea
   taken_by_lem false true ea eb some x =
-      newly_kept (λ i. refuse_if (ea i) refusal.AlreadyKept (refuse_if (not (eb i)) refusal.OtherStands Fine)) some
+      newly_kept (λ i. refuse_if (ea i) refusal.AlreadyKept (refuse_if (not (eb i)) refusal.OtherStands (Ok tt))) some
   taken_by_lem false false ea eb some (inl x) = absurd (omega (arith, x))
   taken_by_lem false false ea eb some (inr x) = absurd (omega (arith, x))
 
@@ -215,7 +215,7 @@ pub single_taken : (l : Ledger) (packet : List ℕ) (a : Accepted) (g : Single (
 unfolding take_packet one_at one_of judged taken_from
 single_taken l packet a g =
     ap (λ (x : Found). taken_from l packet (one_of (table_of l) x)) g.read
-    ∙ ap (λ (v : Verdict). taken_from l packet (judged v g.first (length packet))) g.fine
+    ∙ ap (λ (v : Result ⊤ Refusal). taken_from l packet (judged v g.first (length packet))) g.fine
     ∙ given_on (not (ltb (length packet) (length packet))) (refused_with l refusal.BadLength) (λ _. taken l g.first) (ap not (le-ltb (length packet) (length packet) (omega arith)))
 
 -- ---- what is kept stays

@@ -1,4 +1,5 @@
 -- A certificate that was read of a packet is written the same wherever it stands; and what was taken is held.
+use Rattle.std.specs.Prelude.{Result, Ok, Err}
 use mathlib.Core.Path.{◌≡◌, refl, sym, ap, ◌∙◌, subst}
 use mathlib.Core.Bool.{Bool, true, false, not, ◌&&◌, ◌||◌}
 use mathlib.Core.List.{List, [], ◌∷◌, ◌++◌, append-nil}
@@ -13,10 +14,7 @@ use borrow.Author.Tests.{eqb-true, eq-eqb, leb-true, le-leb, le-ltb, not-false}
 use Rattle.rulebook.specs.declared.Accepted.{Accepted}
 use Rattle.rulebook.specs.declared.CertificateKind.{CertificateKind}
 use Rattle.rulebook.specs.declared.CertificateKind.TheVariants as certificate
-use Rattle.rulebook.specs.declared.CheckAnswer.{CheckAnswer}
-use Rattle.rulebook.specs.declared.CheckAnswer.TheVariants as check
 use Rattle.rulebook.specs.declared.Refusal.TheVariants as refusal
-use Rattle.rulebook.specs.declared.Verdict.TheVariants as verdict
 use Rattle.rulebook.specs.Weights.{slot_ok, stakes_fit}
 use Rattle.rulebook.specs.Certificates.{Certificate}
 use Rattle.rulebook.specs.Certificates as found
@@ -41,7 +39,6 @@ use Rattle.safety.specs.Ring.{after_all}
 use Rattle.safety.proofs.Lives.{Sized, life_ready, fresh_ready}
 use Rattle.safety.proofs.Tests.{true_t, T-left, T-right, T_and}
 use Rattle.safety.proofs.Written.{count_is, stakes_are}
-use Rattle.vouched_packets.specs.declared.SplitAnswer.{SplitAnswer}
 use Rattle.vouched_packets.specs.Asked.{end_in, first_end}
 use Rattle.vouched_packets.specs.Split.{split_by, split_on, split_panel}
 use Rattle.vouched_packets.proofs.Splitting.{split_sound}
@@ -54,6 +51,7 @@ use Rattle.calls.specs.Life.{next, Calls, none, then, not_started, not_watched}
 use Rattle.calls.proofs.Life.{many}
 use Rattle.told.specs.Parts.{Parts, whole, halves, Splits, SplitIsParts, HalvesMakeFinal, WholeMakesFinal, SecondIsTaken}
 use Rattle.told.proofs.Held.{right, single_taken, number_taken, taken_is_held}
+use Rattle.rulebook.specs.declared.Refusal.{Refusal}
 
 -- ---- the parts of a packet
 
@@ -83,22 +81,22 @@ module _ (packet : List ℕ) (bytes : (i : ℕ) → get_or packet i 0 < 256) whe
 
 -- A packet that is one certificate, which the checker judges fine, is accepted.
 accepts : (stakes packet : List ℕ) (c : Certificate) → stakes_fit stakes (length stakes) ≡ true → certificate_at packet 0 ≡ found.Whole c (length packet)
-    → judge stakes c ≡ verdict.Fine → check_certificate stakes packet ≡ check.Accepted (accepted_of stakes c)
+    → judge stakes c ≡ Ok tt → check_certificate stakes packet ≡ Ok (accepted_of stakes c)
 unfolding check_certificate single_of one_at one_of judged ended
 accepts stakes packet c fits e j =
-    given_on (stakes_fit stakes (length stakes)) (check.Refused refusal.BadSizes) (λ _. single_of stakes packet (one_at stakes packet 0)) fits
-    ∙ rw (e, j) (given_on (not (ltb (length packet) (length packet))) (check.Refused refusal.BadLength) (λ _. check.Accepted (accepted_of stakes c)) (ap not (le-ltb (length packet) (length packet) (omega arith))))
+    given_on (stakes_fit stakes (length stakes)) (Err refusal.BadSizes) (λ _. single_of stakes packet (one_at stakes packet 0)) fits
+    ∙ rw (e, j) (given_on (not (ltb (length packet) (length packet))) (Err refusal.BadLength) (λ _. Ok (accepted_of stakes c)) (ap not (le-ltb (length packet) (length packet) (omega arith))))
 
-as_accepted : (stakes packet : List ℕ) (c : Certificate) (k : CertificateKind) (s b : ℕ) → check_certificate stakes packet ≡ check.Accepted (accepted_of stakes c)
+as_accepted : (stakes packet : List ℕ) (c : Certificate) (k : CertificateKind) (s b : ℕ) → check_certificate stakes packet ≡ Ok (accepted_of stakes c)
     → kind_in (length stakes) c.kind ≡ k → c.slot ≡ s → c.block ≡ b → AcceptedAs (check_certificate stakes packet) k s b
 unfolding accepted_of
 as_accepted stakes packet c k s b e p q r = record { what = accepted_of stakes c; accepted = e; kind_is = p; slot_is = q; block_is = r }
 
 -- A certificate of kind 5 names no block.
-final_none : (stakes : List ℕ) (d : Certificate) → judge stakes d ≡ verdict.Fine → kind_in (length stakes) d.kind ≡ certificate.Final → d.block ≡ 0
+final_none : (stakes : List ℕ) (d : Certificate) → judge stakes d ≡ Ok tt → kind_in (length stakes) d.kind ≡ certificate.Final → d.block ≡ 0
 unfolding judge judge_kind block_misfits
 final_none stakes d e p =
-    let j : judge_kind stakes certificate.Final d ≡ verdict.Fine = subst (λ (k : CertificateKind). judge_kind stakes k d ≡ verdict.Fine) p e in
+    let j : judge_kind stakes certificate.Final d ≡ (Ok tt) = subst (λ (k : CertificateKind). judge_kind stakes k d ≡ Ok tt) p e in
     let slot = refuse_fine (is_other_kind certificate.Final) refusal.BadKind _ j in
     let block = refuse_fine (not (slot_ok d.slot)) refusal.BadSlot _ slot.1 in
     let none_is = refuse_fine (not (ledger.none d.block)) refusal.BadBlock _ block.1 in
@@ -125,11 +123,11 @@ parts_of stakes packet a fits bytes (two c d n e j k f i l t q) =
     (t ∙ ap (λ (x : Accepted). x.slot.0) q) (final_none stakes d i l)))
 
 -- A proof is accepted only with a table that fits.
-table_fits : (stakes packet : List ℕ) (a : Accepted) → check_proof stakes packet ≡ check.Accepted a → stakes_fit stakes (length stakes) ≡ true
+table_fits : (stakes packet : List ℕ) (a : Accepted) → check_proof stakes packet ≡ Ok a → stakes_fit stakes (length stakes) ≡ true
 unfolding check_proof
 table_fits stakes packet a e =
     by_test (stakes_fit stakes (length stakes)) (λ t. t)
-    (λ t. let q : check.Refused refusal.BadSizes ≡ check.Accepted a = sym (given_off (stakes_fit stakes (length stakes)) (check.Refused refusal.BadSizes) _ t) ∙ e in
+    (λ t. let q : Err refusal.BadSizes ≡ Ok a = sym (given_off (stakes_fit stakes (length stakes)) (Err refusal.BadSizes) _ t) ∙ e in
     let z : ◌≡◌ {A = ℕ} 0 1 = cc in absurd (omega arith))
 
 -- ---- the promises
@@ -148,18 +146,18 @@ split_is_parts stakes genesis v alive packet bytes first r = go (check_proof (ta
     answer = sym (split_sound v.words packet common.lived.sound)
 
     number : 0 ≡ (split_panel (split_by packet (check_proof (table_of (ledger_in v)) packet))).number
-    number = r.numbered ∙ ap (λ (a : SplitAnswer). (split_panel a).number) answer
+    number = r.numbered ∙ ap (λ (a : Result ℕ Refusal). (split_panel a).number) answer
 
     values : first ∷ [] ≡ (split_panel (split_by packet (check_proof (table_of (ledger_in v)) packet))).values
-    values = r.valued ∙ ap (λ (a : SplitAnswer). (split_panel a).values) answer
+    values = r.valued ∙ ap (λ (a : Result ℕ Refusal). (split_panel a).values) answer
 
-    go : (x : CheckAnswer) → check_proof (table_of (ledger_in v)) packet ≡ x → Splits stakes packet first
-    go (check.Accepted a) e =
-        let p : check_proof stakes packet ≡ check.Accepted a = subst (λ (ts : List ℕ). check_proof ts packet ≡ check.Accepted a) table e in
-        let f : first ∷ [] ≡ first_end packet ∷ [] = values ∙ ap (λ (x : CheckAnswer). (split_panel (split_by packet x)).values) e in
+    go : (x : Result Accepted Refusal) → check_proof (table_of (ledger_in v)) packet ≡ x → Splits stakes packet first
+    go (Ok a) e =
+        let p : check_proof stakes packet ≡ Ok a = subst (λ (ts : List ℕ). check_proof ts packet ≡ Ok a) table e in
+        let f : first ∷ [] ≡ first_end packet ∷ [] = values ∙ ap (λ (x : Result Accepted Refusal). (split_panel (split_by packet x)).values) e in
         let g : first ≡ first_end packet = cc in
         record { what = a; proven = p; parts = subst (λ (m : ℕ). Parts stakes packet m a.slot.0 a.block) (sym g) (parts_of stakes packet a (table_fits stakes packet a p) bytes (accepted_proof stakes packet a p)) }
-    go (check.Refused x) e = refusal_above x (sym (number ∙ ap (λ (y : CheckAnswer). (split_panel (split_by packet y)).number) e))
+    go (Err x) e = refusal_above x (sym (number ∙ ap (λ (y : Result Accepted Refusal). (split_panel (split_by packet y)).number) e))
 
 -- What was accepted is named by the check.
 checks : (stakes packet : List ℕ) (k : CertificateKind) (s b : ℕ) (a : AcceptedAs (check_certificate stakes packet) k s b)
@@ -227,7 +225,7 @@ module _ (stakes : List ℕ) (me genesis : ℕ) (size : Sized stakes me) (came :
 
 -- What meets a repeat or a free place is answered 7 or 0.
 answered_by : (repeat room : Bool) (l : Ledger) (c : Certificate) → (room ≡ false → repeat ≡ true)
-    → let n = (step_panel (taken_on (refuse_if repeat refusal.AlreadyKept (refuse_if (not room) refusal.OtherStands verdict.Fine)) l c).answer).number in (n ≡ 0) ⊎ (n ≡ 7)
+    → let n = (step_panel (taken_on (refuse_if repeat refusal.AlreadyKept (refuse_if (not room) refusal.OtherStands (Ok tt))) l c).answer).number in (n ≡ 0) ⊎ (n ≡ 7)
 unfolding refuse_if taken_on fed_with refused_with step_panel refusal_number
 answered_by true room l c f = inr refl
 answered_by false true l c f = inl refl

@@ -1,9 +1,8 @@
 -- A PROOF HANDED OVER IN ITS PARTS: what qr_split_proof answers of a packet, and that the block is final where qr_take took them. Each promise is a
 -- statement that proofs/ proves under the same name in small letters.
-use Rattle.std.specs.Prelude.{◌≡◌, List, ◌⊎◌, ℕ, ◌≤◌, ◌<◌, T, length, get_or, take, drop}
+use Rattle.std.specs.Prelude.{◌≡◌, List, ◌⊎◌, ℕ, ◌≤◌, ◌<◌, T, length, get_or, take, drop, Ok}
 use Rattle.rulebook.specs.declared.Accepted.{Accepted}
 use Rattle.rulebook.specs.declared.CertificateKind.TheVariants as certificate
-use Rattle.rulebook.specs.declared.CheckAnswer.TheVariants as check
 use Rattle.rulebook.specs.Rules.{is_final}
 use Rattle.rulebook.specs.Checker.{check_certificate, check_proof}
 use Rattle.rulebook.specs.WellFormed.{outbox_words}
@@ -24,7 +23,7 @@ pub data Parts (stakes packet : List ℕ) (first s b : ℕ) : Type 0 where
 -- What qr_split_proof says where it answers 0: the proof checker accepts the packet with the life's table, and these are its parts.
 pub record Splits (stakes packet : List ℕ) (first : ℕ) : Type 0 where
   pub what : Accepted
-  pub proven : check_proof stakes packet ≡ check.Accepted what
+  pub proven : check_proof stakes packet ≡ Ok what
   pub parts : Parts stakes packet first what.slot.0 what.block
 
 abbrev pub SplitIsParts : Type 0

@@ -1,11 +1,9 @@
 -- A tray: a run of votes taken in one call, four words a vote.
-use Rattle.std.specs.Prelude.{◌&&◌, List, [], ◌∷◌, ◌++◌, ℕ, ◌/◌, ◌%◌, length, eqb, leb}
+use Rattle.std.specs.Prelude.{◌&&◌, List, [], ◌∷◌, ◌++◌, ℕ, ◌/◌, ◌%◌, length, eqb, leb, Result, Ok, Err}
 use Rattle.rulebook.specs.declared.Vote.{Vote}
 use Rattle.rulebook.specs.declared.Input.TheVariants as input
 use Rattle.rulebook.specs.declared.Refusal.{Refusal}
 use Rattle.rulebook.specs.declared.Refusal.TheVariants as refusal
-use Rattle.rulebook.specs.declared.StepAnswer.{StepAnswer}
-use Rattle.rulebook.specs.declared.StepAnswer.TheVariants as answer
 use Rattle.rulebook.specs.Tools.{whenever}
 use Rattle.rulebook.specs.PaperNumbers.{step_panel}
 use Rattle.rulebook.specs.Ledger.{Ledger}
@@ -45,16 +43,16 @@ serve l (v ∷ vs) =
 
 -- The tray's own answer beside what its votes leave.
 pub record Tray : Type 0 where
-  pub answer : StepAnswer
+  pub answer : Result ℕ Refusal
   pub served : Served
 
 -- A refused tray takes nothing.
 unfoldable pub tray_refused : Ledger → Refusal → Tray
-tray_refused l r = record { answer = answer.Refused r; served = serve l [] }
+tray_refused l r = record { answer = Err r; served = serve l [] }
 
 -- The number of records of all votes together.
 unfoldable pub tray_served : Served → Tray
-tray_served t = record { answer = answer.Done (length t.records); served = t }
+tray_served t = record { answer = Ok (length t.records); served = t }
 
 -- "17 and 9 are tested once at the start; 9 also when the answer buffer has fewer places than the run has whole votes"; then "a part
 -- of a vote at the end is 12": a tray for a node whose outbox has so many words and whose answer buffer so many places.

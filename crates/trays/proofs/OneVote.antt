@@ -1,4 +1,5 @@
 -- One vote of a tray: stored, its records behind those of the votes before, as feeding it alone gives them. Assumes nothing.
+use Rattle.std.specs.Prelude.{Ok, Err}
 use mathlib.Core.Path.{◌≡◌, refl, sym, ap, ◌∙◌, subst}
 use mathlib.Core.List.{List, [], ◌++◌, reverse-reverse}
 use Prim.Native.Nat.{ℕ}
@@ -7,7 +8,6 @@ use lib.ListN.{length}
 use Rattle.rulebook.specs.declared.Vote.{Vote}
 use Rattle.rulebook.specs.declared.Input.TheVariants as input
 use Rattle.rulebook.specs.declared.Refusal.{Refusal}
-use Rattle.rulebook.specs.declared.Verdict.TheVariants.{Fine, Refused}
 use Rattle.rulebook.specs.PaperNumbers.{refusal_number, step_panel}
 use Rattle.rulebook.specs.Ledger.{Ledger}
 use Rattle.rulebook.specs.Votes.{store_vote}
@@ -102,7 +102,7 @@ module _ {ws out : List ℕ} {made : ℕ} (v : Vote) (h : Serving ws out made) w
   serving_counted = sound_counted ws h.sound
 
   -- Refused.
-  pub vote_refused : (r : Refusal) (n : ℕ) → vote_verdict (ledger_of ws) v ≡ Refused r → n ≡ refusal_number r
+  pub vote_refused : (r : Refusal) (n : ℕ) → vote_verdict (ledger_of ws) v ≡ Err r → n ≡ refusal_number r
       → VoteServed ws out made v ws out (record { made = made; number = n })
   unfolding verdict refused_with step_panel
   vote_refused r n e is =
@@ -113,7 +113,7 @@ module _ {ws out : List ℕ} {made : ℕ} (v : Vote) (h : Serving ws out made) w
       }
 
   -- Taken.
-  pub vote_taken : {ws' left : List ℕ} (m : ℕ) → vote_verdict (ledger_of ws) v ≡ Fine
+  pub vote_taken : {ws' left : List ℕ} (m : ℕ) → vote_verdict (ledger_of ws) v ≡ Ok tt
       → Onward ws out made ws' left m (run (state_of (with_vote (ledger_of ws) v) (records_in out made)))
       → VoteServed ws out made v ws' left (record { made = m; number = 0 })
   unfolding verdict intake fed_with step_panel

@@ -1,5 +1,6 @@
 -- What a tray promises, from its definition alone: one result; the votes as if they came singly; an empty run; at most 132 records; a sound
 -- record again.
+use Rattle.std.specs.Prelude.{Result, Ok}
 use mathlib.Core.Path.{◌≡◌, refl, sym, ap, ◌∙◌}
 use mathlib.Core.Bool.{true, ◌&&◌}
 use mathlib.Core.List.{List, [], ◌∷◌, ◌++◌, map}
@@ -12,8 +13,6 @@ use Rattle.rulebook.specs.declared.Vote.{Vote}
 use Rattle.rulebook.specs.declared.Input.TheVariants as input
 use Rattle.rulebook.specs.declared.Refusal.{Refusal}
 use Rattle.rulebook.specs.declared.Refusal.TheVariants as refusal
-use Rattle.rulebook.specs.declared.StepAnswer.{StepAnswer}
-use Rattle.rulebook.specs.declared.StepAnswer.TheVariants as answer
 use Rattle.rulebook.specs.PaperNumbers.{step_panel}
 use Rattle.rulebook.specs.Ledger.{Ledger}
 use Rattle.rulebook.specs.Rules.{Record}
@@ -36,7 +35,7 @@ use Rattle.tray_rules.specs.Trays.{votes_in, whole_votes, Served, Tray, ahead, s
 use Rattle.trays.specs.Lent.{Leaves, as_found, as_served, tray_leaves, TrayOf}
 
 -- Any two results that a tray allows are equal: answer, record, outbox and answer buffer.
-pub tray_one : (ws out votes places : List ℕ) (r r' : StepAnswer) (left left' box box' told told' : List ℕ)
+pub tray_one : (ws out votes places : List ℕ) (r r' : Result ℕ Refusal) (left left' box box' told told' : List ℕ)
     → TrayOf ws out votes places r left box told → TrayOf ws out votes places r' left' box' told'
     → (r ≡ r') × (left ≡ left') × (box ≡ box') × (told ≡ told')
 tray_one ws out votes places r r' left left' box box' told told' a b =
@@ -86,7 +85,7 @@ tray_sound l room places votes h =
     (λ _. given_keeps kept (eqb (length votes % 4) 0) _ _ (same refusal.BadLength) (λ _. serve_sound l (votes_in votes) h)))
 
 -- What a tray leaves of a sound record is sound again, refused or served: it is never answered 17 later.
-pub tray_leaves_sound : (ws out votes places : List ℕ) (r : StepAnswer) (left box told : List ℕ)
+pub tray_leaves_sound : (ws out votes places : List ℕ) (r : Result ℕ Refusal) (left box told : List ℕ)
     → sound_words ws ≡ true → TrayOf ws out votes places r left box told → sound_words left ≡ true
 unfolding tray_leaves
 tray_leaves_sound ws out votes places r left box told s h =
@@ -98,7 +97,7 @@ tray_leaves_sound ws out votes places r left box told s h =
 
 -- "An empty run does nothing and answers 0; unlike a look it runs no rule."
 pub tray_empty : (l : Ledger) (room places : ℕ) → well_formed l ≡ true → outbox_words ≤ room
-    → tray l room places [] ≡ record { answer = answer.Done 0; served = record { numbers = []; ledger = l; records = [] } }
+    → tray l room places [] ≡ record { answer = Ok 0; served = record { numbers = []; ledger = l; records = [] } }
 unfolding tray tray_served serve votes_in
 tray_empty l room places h b =
     given_on (well_formed l) (tray_refused l refusal.BadRecord) _ h

@@ -1,4 +1,5 @@
 -- Each way through a tray is what the definition says, word for word. Assumes nothing.
+use Rattle.std.specs.Prelude.{Result, Ok, Err}
 use mathlib.Core.Path.{◌≡◌, refl, sym, ap, ◌∙◌}
 use mathlib.Core.Bool.{Bool, true, false, ◌&&◌}
 use mathlib.Core.List.{List}
@@ -8,8 +9,6 @@ use lib.Dec.{eqb, leb}
 use borrow.Author.Tests.{eq-eqb, ne_eqb, le-leb, lt-leb}
 use Rattle.rulebook.specs.declared.Refusal.{Refusal}
 use Rattle.rulebook.specs.declared.Refusal.TheVariants as refusal
-use Rattle.rulebook.specs.declared.StepAnswer.{StepAnswer}
-use Rattle.rulebook.specs.declared.StepAnswer.TheVariants as answer
 use Rattle.rulebook.specs.Tools.{whenever}
 use Rattle.rulebook.specs.WellFormed.{well_formed, outbox_words}
 use Rattle.rulebook.specs.Writers.{over}
@@ -29,7 +28,7 @@ second_off true b e = e
 second_off false b e = refl
 
 -- Whatever equals the definition is allowed.
-tray_of : {ws out votes places ws' out' places' : List ℕ} {r : StepAnswer} (f : Leaves) → f ≡ tray_leaves ws out votes places
+tray_of : {ws out votes places ws' out' places' : List ℕ} {r : Result ℕ Refusal} (f : Leaves) → f ≡ tray_leaves ws out votes places
     → r ≡ f.answer → ws' ≡ f.words → out' ≡ f.outbox → places' ≡ f.answers → TrayOf ws out votes places r ws' out' places'
 tray_of f e a b c d =
     record {
@@ -58,12 +57,12 @@ module _ (ws out votes places : List ℕ) where
   served_none r e = ap (λ (x : List ℕ). as_found r x out places) (spelled_words ws e)
 
   refused_by_lem : (r : Refusal) → is_spelled ws ≡ true → tray (ledger_of ws) (length out) (length places) votes ≡ tray_refused (ledger_of ws) r
-      → TrayOf ws out votes places (answer.Refused r) ws out places
+      → TrayOf ws out votes places (Err r) ws out places
   refused_by_lem r e is =
       tray_of (as_found r ws out places) (sym (served_none r e) ∙ ap (λ (f : Tray). as_served f out places) (sym is) ∙ leaves_spelled e) refl refl refl refl
 
   -- 17.
-  pub tray_unsound : sound_words ws ≡ false → TrayOf ws out votes places (answer.Refused refusal.BadRecord) ws out places
+  pub tray_unsound : sound_words ws ≡ false → TrayOf ws out votes places (Err refusal.BadRecord) ws out places
   unfolding sound_words tray
   tray_unsound e =
       by_test (is_spelled ws)
@@ -77,18 +76,18 @@ module _ (ws out votes places : List ℕ) where
     formed_on f = given_on (well_formed (ledger_of ws)) (tray_refused (ledger_of ws) refusal.BadRecord) f (sound_formed ws s)
 
     cramped : (leb outbox_words (length out) && leb (whole_votes votes) (length places)) ≡ false
-        → TrayOf ws out votes places (answer.Refused refusal.NoRoom) ws out places
+        → TrayOf ws out votes places (Err refusal.NoRoom) ws out places
     unfolding tray
     cramped e =
         refused_by_lem refusal.NoRoom (words_spelled ws s)
         (formed_on _ ∙ given_off (leb outbox_words (length out) && leb (whole_votes votes) (length places)) (tray_refused (ledger_of ws) refusal.NoRoom) _ e)
 
     -- 9 for the outbox.
-    pub outbox_cramped : length out < outbox_words → TrayOf ws out votes places (answer.Refused refusal.NoRoom) ws out places
+    pub outbox_cramped : length out < outbox_words → TrayOf ws out votes places (Err refusal.NoRoom) ws out places
     outbox_cramped h = cramped (rw (lt-leb outbox_words (length out) h))
 
     -- 9 for the answer buffer.
-    pub answers_cramped : length places < whole_votes votes → TrayOf ws out votes places (answer.Refused refusal.NoRoom) ws out places
+    pub answers_cramped : length places < whole_votes votes → TrayOf ws out votes places (Err refusal.NoRoom) ws out places
     answers_cramped h =
         cramped (second_off (leb outbox_words (length out)) (leb (whole_votes votes) (length places)) (lt-leb (whole_votes votes) (length places) h))
 
@@ -100,7 +99,7 @@ module _ (ws out votes places : List ℕ) where
           (both_and (leb outbox_words (length out)) (leb (whole_votes votes) (length places)) (le-leb outbox_words (length out) room) (le-leb (whole_votes votes) (length places) enough))
 
       -- 12.
-      pub tray_part : (length votes % 4 ≡ 0 → ⊥) → TrayOf ws out votes places (answer.Refused refusal.BadLength) ws out places
+      pub tray_part : (length votes % 4 ≡ 0 → ⊥) → TrayOf ws out votes places (Err refusal.BadLength) ws out places
       unfolding tray
       tray_part q =
           refused_by_lem refusal.BadLength (words_spelled ws s)
@@ -108,11 +107,11 @@ module _ (ws out votes places : List ℕ) where
 
       -- Each vote served.
       pub tray_done : {ws' out' places' : List ℕ} {n : ℕ} → length votes % 4 ≡ 0 → AllServed ws out votes places ws' out' places' n
-          → TrayOf ws out votes places (answer.Done n) ws' out' places'
+          → TrayOf ws out votes places (Ok n) ws' out' places'
       unfolding tray tray_served
       tray_done q a =
           let is : tray (ledger_of ws) (length out) (length places) votes ≡ tray_served (serve (ledger_of ws) (votes_in votes)) =
           formed_on _ ∙ room_on _ ∙ given_on (eqb (length votes % 4) 0) (tray_refused (ledger_of ws) refusal.BadLength) _ (eq-eqb (length votes % 4) 0 q) in
           tray_of (as_served (tray_served (serve (ledger_of ws) (votes_in votes))) out places)
           (ap (λ (f : Tray). as_served f out places) (sym is) ∙ leaves_spelled (words_spelled ws s))
-          (ap answer.Done a.many) a.words a.outbox a.answers
+          (ap Ok a.many) a.words a.outbox a.answers

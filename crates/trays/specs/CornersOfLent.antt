@@ -1,8 +1,7 @@
 -- Computed cases of what a tray leaves in lent memory: records from the outbox's front, numbers from the answer buffer's, the words past
 -- them, and all as found where a tray is refused.
-use Rattle.std.specs.Prelude.{◌≡◌, true, false, List, [], ◌∷◌, ◌++◌, ℕ, replicate, T}
+use Rattle.std.specs.Prelude.{◌≡◌, true, false, List, [], ◌∷◌, ◌++◌, ℕ, replicate, T, Err}
 use Rattle.rulebook.specs.declared.Refusal.TheVariants as refusal
-use Rattle.rulebook.specs.declared.StepAnswer.TheVariants as answer
 use Rattle.rulebook.specs.PaperNumbers.{step_panel}
 use Rattle.rulebook.specs.Ledger.{fresh}
 use Rattle.rulebook.specs.Scripts.{equals}
@@ -45,6 +44,6 @@ tray_left ws whole holds = rw (whole, holds) tt
 
 -- Words that spell no ledger are 17, whatever the votes and the buffers, and stay.
 unread_left : (ws out votes answers : List ℕ) → is_spelled ws ≡ false
-    → tray_leaves ws out votes answers ≡ record { answer = answer.Refused refusal.BadRecord; words = ws; outbox = out; answers = answers }
+    → tray_leaves ws out votes answers ≡ record { answer = Err refusal.BadRecord; words = ws; outbox = out; answers = answers }
 unfolding rules tray_leaves
 unread_left ws out votes answers broken = rw broken

@@ -1,12 +1,9 @@
 -- What a tray does with the lent record, outbox and answer buffer, word for word, and what its parts ask and leave.
-use Rattle.std.specs.Prelude.{◌≡◌, true, List, ◌++◌, reverse, ℕ, ◌*◌, ◌≤◌, length, drop}
+use Rattle.std.specs.Prelude.{◌≡◌, true, List, ◌++◌, reverse, ℕ, ◌*◌, ◌≤◌, length, drop, Result, Ok, Err}
 use Rattle.rulebook.specs.declared.Vote.{Vote}
 use Rattle.rulebook.specs.declared.Input.TheVariants as input
 use Rattle.rulebook.specs.declared.Refusal.{Refusal}
 use Rattle.rulebook.specs.declared.Refusal.TheVariants as refusal
-use Rattle.rulebook.specs.declared.StepAnswer.{StepAnswer}
-use Rattle.rulebook.specs.declared.StepAnswer.TheVariants as answer
-use Rattle.rulebook.specs.declared.Verdict.TheVariants.{Fine}
 use Rattle.rulebook.specs.Tools.{whenever}
 use Rattle.rulebook.specs.PaperNumbers.{step_panel}
 use Rattle.rulebook.specs.Rules.{Record, State, state_of}
@@ -24,14 +21,14 @@ use Rattle.tray_rules.specs.Trays.{Tray, votes_in, whole_votes, serve, tray}
 
 -- What a tray leaves: its answer, the record's words, the outbox's words, the answer buffer's words.
 pub record Leaves : Type 0 where
-  pub answer : StepAnswer
+  pub answer : Result ℕ Refusal
   pub words : List ℕ
   pub outbox : List ℕ
   pub answers : List ℕ
 
 -- A refused tray leaves all lent memory as found.
 abbrev pub as_found : Refusal → List ℕ → List ℕ → List ℕ → Leaves
-as_found r ws out places = record { answer = answer.Refused r; words = ws; outbox = out; answers = places }
+as_found r ws out places = record { answer = Err r; words = ws; outbox = out; answers = places }
 
 -- The records from the outbox's front, one number per vote from the answer buffer's front; the words past them stay.
 abbrev pub as_served : Tray → List ℕ → List ℕ → Leaves
@@ -51,7 +48,7 @@ tray_leaves ws out votes places =
     (as_found refusal.BadRecord ws out places)
 
 -- What a tray answers, and all memory afterwards.
-pub record TrayOf (ws out votes places : List ℕ) (r : StepAnswer) (ws' out' places' : List ℕ) : Type 0 where
+pub record TrayOf (ws out votes places : List ℕ) (r : Result ℕ Refusal) (ws' out' places' : List ℕ) : Type 0 where
   pub answered : r ≡ (tray_leaves ws out votes places).answer
   pub words : ws' ≡ (tray_leaves ws out votes places).words
   pub outbox : out' ≡ (tray_leaves ws out votes places).outbox
@@ -67,7 +64,7 @@ pub record Serving (ws out : List ℕ) (made : ℕ) : Type 0 where
 -- Likewise, and nothing refuses the vote.
 pub record Taking (ws out : List ℕ) (made : ℕ) (v : Vote) : Type 0 where
   pub serving : Serving ws out made
-  pub fine : vote_verdict (ledger_of ws) v ≡ Fine
+  pub fine : vote_verdict (ledger_of ws) v ≡ Ok tt
 
 -- A fed node, its records on top of those of the votes before, newest first.
 abbrev pub on_top : Fed → List Record → State

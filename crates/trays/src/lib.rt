@@ -16,7 +16,7 @@ ghost use Rattle.trays.specs.Lent.{TrayOf, Serving, Taking, VoteServed, Ready, A
 use inputs::vote_of;
 use kinds::refusal_number;
 use looks::{first_looks, note_vote};
-use rulebook::{Node, Refusal, Slot, StepAnswer, Verdict, Vote};
+use rulebook::{Node, Refusal, Slot, Vote};
 use run::settle_with;
 use soundness::sound;
 use storing::store_vote;
@@ -65,11 +65,11 @@ fn serve_vote(rec: &mut [u64], outbox: &mut [u64], looks: &mut [u64], made: usiz
     ensures { Bounds (ledger_of rec.new) looks.new × VoteServed rec.old outbox.old made v rec.new outbox.new result }
 {
     match vote_verdict(rec, v) {
-        Verdict::Refused(r) => Taken {
+        Err(r) => Taken {
             made,
             number: refusal_number(r),
         },
-        Verdict::Fine => Taken {
+        Ok(()) => Taken {
             made: take_vote(rec, outbox, looks, made, v),
             number: 0,
         },
@@ -94,20 +94,20 @@ fn serve_votes(rec: &mut [u64], outbox: &mut [u64], votes: &[u64], answers: &mut
 
 // A run of votes, four words each, with one answer per vote: refused with 17, 9 or 12 and all memory as found, or each vote is
 // answered and taken as if it came alone.
-pub fn tray(rec: &mut [u64], outbox: &mut [u64], votes: &[u64], answers: &mut [u64]) -> StepAnswer
+pub fn tray(rec: &mut [u64], outbox: &mut [u64], votes: &[u64], answers: &mut [u64]) -> Result<usize, Refusal>
     ensures { TrayOf rec.old outbox.old votes.now answers.old result rec.new outbox.new answers.new }
 {
     if !sound(rec) {
-        return StepAnswer::Refused(Refusal::BadRecord);
+        return Err(Refusal::BadRecord);
     }
     if outbox.len() < OUTBOX_WORDS {
-        return StepAnswer::Refused(Refusal::NoRoom);
+        return Err(Refusal::NoRoom);
     }
     if answers.len() < votes.len() / 4 {
-        return StepAnswer::Refused(Refusal::NoRoom);
+        return Err(Refusal::NoRoom);
     }
     if votes.len() % 4 != 0 {
-        return StepAnswer::Refused(Refusal::BadLength);
+        return Err(Refusal::BadLength);
     }
-    StepAnswer::Done(serve_votes(rec, outbox, votes, answers))
+    Ok(serve_votes(rec, outbox, votes, answers))
 }

@@ -1,4 +1,5 @@
 -- The lines of a packet by what the code has read. Assumes nothing.
+use Rattle.std.specs.Prelude.{Result, Ok, Err}
 use mathlib.Core.Path.{◌≡◌, refl, sym, ap, ◌∙◌}
 use mathlib.Core.Bool.{true, false, not}
 use mathlib.Core.List.{List, []}
@@ -8,13 +9,9 @@ use lib.ListN.{length, get_or, length-append, take, get_or-eq_default}
 use lib.Dec.{ltb}
 use borrow.Author.Tests.{lt-ltb, le-ltb}
 use Rattle.rulebook.specs.declared.Cell.{Cell}
-use Rattle.rulebook.specs.declared.CheckAnswer.{CheckAnswer}
-use Rattle.rulebook.specs.declared.CheckAnswer.TheVariants as check
 use Rattle.rulebook.specs.declared.Accepted.{Accepted}
 use Rattle.rulebook.specs.declared.Refusal.{Refusal}
 use Rattle.rulebook.specs.declared.Refusal.TheVariants as refusal
-use Rattle.rulebook.specs.declared.Found.{Found}
-use Rattle.rulebook.specs.declared.Found.TheVariants as read
 use Rattle.rulebook.specs.declared.Heading.{Heading}
 use Rattle.rulebook.specs.Certificates as found
 use Rattle.rulebook.specs.Weights.{last_slot}
@@ -38,21 +35,23 @@ use Rattle.signer_lines.specs.declared.Signer.{Signer}
 use Rattle.signer_lines.specs.Signers.{lacks}
 use Rattle.signer_lines.proofs.Laws.{signer_lacks_lem, signer_most}
 use Rattle.vouched_packets.specs.Asked.{end_in, first_end, check_packet, read_lacks, packet_lacks, checked_on, packet_on, PacketOf}
+use Rattle.rulebook.specs.declared.Unread.{Unread}
+use Rattle.rulebook.specs.declared.Unread.TheVariants.{Early, Malformed}
 
 -- ---- where the first certificate ends
 
-module _ (packet : List ℕ) (f : found.Found) (h : Found) (a b : List ℕ) (e : found_as h a b ≡ f) where
-  pub end_whole : (x : Heading) (next : ℕ) → h ≡ read.Whole x next → next ≡ end_in packet f
+module _ (packet : List ℕ) (f : found.Found) (h : Result (Heading × ℕ) Unread) (a b : List ℕ) (e : found_as h a b ≡ f) where
+  pub end_whole : (x : Heading) (next : ℕ) → h ≡ Ok (x, next) → next ≡ end_in packet f
   unfolding found_as end_in
-  end_whole x next k = sym (ap (λ (g : Found). end_in packet (found_as g a b)) k) ∙ ap (end_in packet) e
+  end_whole x next k = sym (ap (λ (g : Result (Heading × ℕ) Unread). end_in packet (found_as g a b)) k) ∙ ap (end_in packet) e
 
-  pub end_early : h ≡ read.Early → length packet ≡ end_in packet f
+  pub end_early : h ≡ Err Early → length packet ≡ end_in packet f
   unfolding found_as end_in
-  end_early k = sym (ap (λ (g : Found). end_in packet (found_as g a b)) k) ∙ ap (end_in packet) e
+  end_early k = sym (ap (λ (g : Result (Heading × ℕ) Unread). end_in packet (found_as g a b)) k) ∙ ap (end_in packet) e
 
-  pub end_malformed : h ≡ read.Malformed → length packet ≡ end_in packet f
+  pub end_malformed : h ≡ Err Malformed → length packet ≡ end_in packet f
   unfolding found_as end_in
-  end_malformed k = sym (ap (λ (g : Found). end_in packet (found_as g a b)) k) ∙ ap (end_in packet) e
+  end_malformed k = sym (ap (λ (g : Result (Heading × ℕ) Unread). end_in packet (found_as g a b)) k) ∙ ap (end_in packet) e
 
 -- ---- the check
 
@@ -83,20 +82,20 @@ no_votes_lem ws s h =
 
 -- ---- a certificate
 
-module _ (r : Ledger) (f : found.Found) (h : Found) (a b : List ℕ) (e : found_as h a b ≡ f) {list : List ℕ} {at : ℕ} where
-  pub found_early : h ≡ read.Early → Laid list at (found_lacks r f) list at
+module _ (r : Ledger) (f : found.Found) (h : Result (Heading × ℕ) Unread) (a b : List ℕ) (e : found_as h a b ≡ f) {list : List ℕ} {at : ℕ} where
+  pub found_early : h ≡ Err Early → Laid list at (found_lacks r f) list at
   unfolding found_as found_lacks
-  found_early k = laid_as (sym (ap (λ (g : Found). found_lacks r (found_as g a b)) k) ∙ ap (found_lacks r) e) (laid_none list at)
+  found_early k = laid_as (sym (ap (λ (g : Result (Heading × ℕ) Unread). found_lacks r (found_as g a b)) k) ∙ ap (found_lacks r) e) (laid_none list at)
 
-  pub found_malformed : h ≡ read.Malformed → Laid list at (found_lacks r f) list at
+  pub found_malformed : h ≡ Err Malformed → Laid list at (found_lacks r f) list at
   unfolding found_as found_lacks
-  found_malformed k = laid_as (sym (ap (λ (g : Found). found_lacks r (found_as g a b)) k) ∙ ap (found_lacks r) e) (laid_none list at)
+  found_malformed k = laid_as (sym (ap (λ (g : Result (Heading × ℕ) Unread). found_lacks r (found_as g a b)) k) ∙ ap (found_lacks r) e) (laid_none list at)
 
-  pub found_put : (x : Heading) (p w : ℕ) {left : List ℕ} {next : ℕ} → h ≡ read.Whole x p → w ≡ words_in x.kind
+  pub found_put : (x : Heading) (p w : ℕ) {left : List ℕ} {next : ℕ} → h ≡ Ok (x, p) → w ≡ words_in x.kind
       → Laid list at (read_lacks r (certificate_of x (take w a) (take w b))) left next → Laid list at (found_lacks r f) left next
   unfolding found_as found_lacks
   found_put x p w k n y =
-      laid_as (ap (λ (m : ℕ). read_lacks r (certificate_of x (take m a) (take m b))) n ∙ sym (ap (λ (g : Found). found_lacks r (found_as g a b)) k) ∙ ap (found_lacks r) e) y
+      laid_as (ap (λ (m : ℕ). read_lacks r (certificate_of x (take m a) (take m b))) n ∙ sym (ap (λ (g : Result (Heading × ℕ) Unread). found_lacks r (found_as g a b)) k) ∙ ap (found_lacks r) e) y
 
 pub found_most : (r : Ledger) (f : found.Found) → length (found_lacks r f) ≤ 2
 unfolding found_lacks
@@ -143,17 +142,17 @@ module _ (ws packet list : List ℕ) where
       told_as (packet_on ws packet (length list)) (refused_by (answer.Refused refusal.BadRecord)) (given_off (sound_words ws) (refused_by (answer.Refused refusal.BadRecord)) judged e)
       (told_refused list (answer.Refused refusal.BadRecord))
 
-  module _ (e : sound_words ws ≡ true) {c : CheckAnswer} (k : c ≡ check_packet (table_of (ledger_of ws)) packet) where
+  module _ (e : sound_words ws ≡ true) {c : Result Accepted Refusal} (k : c ≡ check_packet (table_of (ledger_of ws)) packet) where
     onward : packet_on ws packet (length list) ≡ checked_on (ledger_of ws) packet (length list) c
     unfolding packet_on
     onward = given_on (sound_words ws) (refused_by (answer.Refused refusal.BadRecord)) judged e ∙ ap (checked_on (ledger_of ws) packet (length list)) (sym k)
 
-    pub refused_told : (r : Refusal) → c ≡ check.Refused r → PacketOf ws packet list (answer.Refused r) list
+    pub refused_told : (r : Refusal) → c ≡ Err r → PacketOf ws packet list (answer.Refused r) list
     unfolding checked_on
     refused_told r d =
         told_as (packet_on ws packet (length list)) (refused_by (answer.Refused r)) (onward ∙ ap (checked_on (ledger_of ws) packet (length list)) d) (told_refused list (answer.Refused r))
 
-    module _ (a : Accepted) (d : c ≡ check.Accepted a) where
+    module _ (a : Accepted) (d : c ≡ Ok a) where
       listed : (xs : List Line) → packet_lacks (ledger_of ws) packet ≡ xs → packet_on ws packet (length list) ≡ listed_in (length list) xs
       unfolding checked_on
       listed xs x = onward ∙ ap (checked_on (ledger_of ws) packet (length list)) d ∙ ap (listed_in (length list)) x

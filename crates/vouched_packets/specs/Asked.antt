@@ -1,7 +1,5 @@
 -- What is answered about a lent record and a packet, and the lent list afterwards.
-use Rattle.std.specs.Prelude.{not, List, [], ℕ, ◌+◌, ◌≤◌, length, ltb}
-use Rattle.rulebook.specs.declared.CheckAnswer.{CheckAnswer}
-use Rattle.rulebook.specs.declared.CheckAnswer.TheVariants as check
+use Rattle.std.specs.Prelude.{not, List, [], ℕ, ◌+◌, ◌≤◌, length, ltb, Result, Ok, Err}
 use Rattle.rulebook.specs.declared.Refusal.TheVariants as refusal
 use Rattle.rulebook.specs.Certificates.{Certificate, Found}
 use Rattle.rulebook.specs.Certificates as found
@@ -17,6 +15,8 @@ use Rattle.inquest.specs.Lists.{signer_lacks, lacking_in}
 use Rattle.inquest_lines.specs.declared.ListAnswer.{ListAnswer}
 use Rattle.inquest_lines.specs.declared.ListAnswer.TheVariants as answer
 use Rattle.inquest_lines.specs.Lent.{Told, refused_by, listed_in, ToldIn, most_lines}
+use Rattle.rulebook.specs.declared.Accepted.{Accepted}
+use Rattle.rulebook.specs.declared.Refusal.{Refusal}
 
 -- Where a certificate that was found ends; the packet's end where there is none.
 unfoldable pub end_in : List ℕ → Found → ℕ
@@ -29,7 +29,7 @@ abbrev pub first_end : List ℕ → ℕ
 first_end packet = end_in packet (certificate_at packet 0)
 
 -- A packet of one certificate is checked as one, a longer one as a proof.
-unfoldable pub check_packet : List ℕ → List ℕ → CheckAnswer
+unfoldable pub check_packet : List ℕ → List ℕ → Result Accepted Refusal
 check_packet stakes packet =
     whenever (ltb (first_end packet) (length packet)) (λ _. check_proof stakes packet) (check_certificate stakes packet)
 
@@ -38,9 +38,9 @@ unfoldable pub packet_lacks : Ledger → List ℕ → List Line
 packet_lacks r packet = whenever (not (is_watcher r)) (λ _. lacking_in r packet) []
 
 -- The checker's refusal; else the lines, or 9 with how many there are.
-unfoldable pub checked_on : Ledger → List ℕ → ℕ → CheckAnswer → Told
-checked_on r packet room (check.Refused e) = refused_by (answer.Refused e)
-checked_on r packet room (check.Accepted a) = listed_in room (packet_lacks r packet)
+unfoldable pub checked_on : Ledger → List ℕ → ℕ → Result Accepted Refusal → Told
+checked_on r packet room (Err e) = refused_by (answer.Refused e)
+checked_on r packet room (Ok a) = listed_in room (packet_lacks r packet)
 
 -- 17 for words that are no record; then what the checker says of the packet under the record's stakes.
 unfoldable pub packet_on : List ℕ → List ℕ → ℕ → Told

@@ -1,7 +1,5 @@
 -- Where the first certificate of a finality proof ends: what is answered of a lent record and a packet, and its number and value on the panel.
-use Rattle.std.specs.Prelude.{List, [], ◌∷◌, ℕ}
-use Rattle.rulebook.specs.declared.CheckAnswer.{CheckAnswer}
-use Rattle.rulebook.specs.declared.CheckAnswer.TheVariants as check
+use Rattle.std.specs.Prelude.{List, [], ◌∷◌, ℕ, Result, Ok, Err}
 use Rattle.rulebook.specs.declared.Refusal.TheVariants as refusal
 use Rattle.rulebook.specs.Tools.{whenever}
 use Rattle.rulebook.specs.PaperNumbers.{Panel, refusal_number}
@@ -9,20 +7,20 @@ use Rattle.rulebook.specs.Ledger.{table_of}
 use Rattle.rulebook.specs.Checker.{check_proof}
 use Rattle.record.specs.Layout.{ledger_of}
 use Rattle.soundness.specs.Sound.{sound_words}
-use Rattle.vouched_packets.specs.declared.SplitAnswer.{SplitAnswer}
-use Rattle.vouched_packets.specs.declared.SplitAnswer.TheVariants as split
 use Rattle.vouched_packets.specs.Asked.{first_end}
+use Rattle.rulebook.specs.declared.Accepted.{Accepted}
+use Rattle.rulebook.specs.declared.Refusal.{Refusal}
 
 -- The checker's refusal; else as many bytes as the first certificate has. Of a proof of one certificate these are all.
-unfoldable pub split_by : List ℕ → CheckAnswer → SplitAnswer
-split_by packet (check.Accepted a) = split.First (first_end packet)
-split_by packet (check.Refused r) = split.Refused r
+unfoldable pub split_by : List ℕ → Result Accepted Refusal → Result ℕ Refusal
+split_by packet (Ok a) = Ok (first_end packet)
+split_by packet (Err r) = Err r
 
 -- 17 for words that are no record; then what the proof checker says of the packet under the record's stakes.
-unfoldable pub split_on : List ℕ → List ℕ → SplitAnswer
-split_on ws packet = whenever (sound_words ws) (λ _. split_by packet (check_proof (table_of (ledger_of ws)) packet)) (split.Refused refusal.BadRecord)
+unfoldable pub split_on : List ℕ → List ℕ → Result ℕ Refusal
+split_on ws packet = whenever (sound_words ws) (λ _. split_by packet (check_proof (table_of (ledger_of ws)) packet)) (Err refusal.BadRecord)
 
 -- The number, and beside it the bytes of the first certificate; 0 beside a refusal.
-unfoldable pub split_panel : SplitAnswer → Panel
-split_panel (split.First n) = record { number = 0; values = n ∷ [] }
-split_panel (split.Refused r) = record { number = refusal_number r; values = 0 ∷ [] }
+unfoldable pub split_panel : Result ℕ Refusal → Panel
+split_panel (Ok n) = record { number = 0; values = n ∷ [] }
+split_panel (Err r) = record { number = refusal_number r; values = 0 ∷ [] }

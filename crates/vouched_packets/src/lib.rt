@@ -16,7 +16,7 @@ use checker::{check_certificate, check_proof};
 use inquest_lines::ListAnswer;
 use kinds::kind_in;
 use record::{LAST_SLOT, count, is_watcher, own, own_cell, stakes_of};
-use rulebook::{Cell, CheckAnswer, Found, Heading, Refusal, Slot};
+use rulebook::{Accepted, Unread, Cell, Heading, Refusal, Slot};
 use signer_lines::{Signer, names, put_signer};
 use soundness::sound;
 
@@ -31,21 +31,14 @@ fn first_end(packet: &[u8]) -> usize
     let mut b = [0u64; MOST_WORDS];
     let found = read_certificate(packet, 0, &mut a, &mut b);
     match found {
-        Found::Early => packet.len(),
-        Found::Malformed => packet.len(),
-        Found::Whole(_, next) => next,
+        Err(Unread::Early) => packet.len(),
+        Err(Unread::Malformed) => packet.len(),
+        Ok((_, next)) => next,
     }
 }
 
-// How many bytes the first certificate of a proof has, or why the packet is none.
-#[derive(Clone, Copy)]
-pub enum SplitAnswer {
-    First(usize),
-    Refused(Refusal),
-}
-
 // A packet of one certificate is checked as one, a longer one as a proof.
-fn check_packet(stakes: &[u64], packet: &[u8]) -> CheckAnswer
+fn check_packet(stakes: &[u64], packet: &[u8]) -> Result<Accepted, Refusal>
     ensures { result ≡ check_packet stakes.now packet.now }
 {
     if first_end(packet) < packet.len() {
@@ -100,9 +93,9 @@ fn put_found(list: &mut [u64], at: usize, rec: &[u64], packet: &[u8], from: usiz
     let mut b = [0u64; MOST_WORDS];
     let found = read_certificate(packet, from, &mut a, &mut b);
     match found {
-        Found::Early => at,
-        Found::Malformed => at,
-        Found::Whole(c, _) => {
+        Err(Unread::Early) => at,
+        Err(Unread::Malformed) => at,
+        Ok((c, _)) => {
             let words = words_in(c.kind);
             put_read(list, at, rec, c, &a[..words], &b[..words])
         }
@@ -144,8 +137,8 @@ pub fn vouched_packet(rec: &[u64], packet: &[u8], list: &mut [u64]) -> ListAnswe
     }
     let checked = check_packet(stakes_of(rec), packet);
     match checked {
-        CheckAnswer::Refused(r) => ListAnswer::Refused(r),
-        CheckAnswer::Accepted(_) => {
+        Err(r) => ListAnswer::Refused(r),
+        Ok(_) => {
             if is_watcher(rec) {
                 return ListAnswer::Listed(0);
             }
@@ -156,15 +149,15 @@ pub fn vouched_packet(rec: &[u64], packet: &[u8], list: &mut [u64]) -> ListAnswe
 
 // Where a finality proof falls into its certificates, each of which a node takes by itself: the bytes of the first, all of them where it is
 // the only one. Refused with 17, or as the proof checker refuses the packet under the record's stakes.
-pub fn split_proof(rec: &[u64], packet: &[u8]) -> SplitAnswer
+pub fn split_proof(rec: &[u64], packet: &[u8]) -> Result<usize, Refusal>
     ensures { result ≡ split_on rec.now packet.now }
 {
     if !sound(rec) {
-        return SplitAnswer::Refused(Refusal::BadRecord);
+        return Err(Refusal::BadRecord);
     }
     let checked = check_proof(stakes_of(rec), packet);
     match checked {
-        CheckAnswer::Refused(r) => SplitAnswer::Refused(r),
-        CheckAnswer::Accepted(_) => SplitAnswer::First(first_end(packet)),
+        Err(r) => Err(r),
+        Ok(_) => Ok(first_end(packet)),
     }
 }

@@ -1,4 +1,5 @@
 -- Beside a voting node a watcher that is shown what the node accepts, and the votes that it casts, keeps the node's pool. Assumes nothing.
+use Rattle.std.specs.Prelude.{⊤, Result, Ok, Err}
 use mathlib.Core.Path.{◌≡◌, refl, sym, ap, ◌∙◌, subst}
 use mathlib.Core.Bool.{true, false, not, ◌&&◌, ◌||◌}
 use mathlib.Core.List.{List, [], ◌∷◌, ◌++◌, reverse}
@@ -14,8 +15,6 @@ use Rattle.rulebook.specs.declared.Input.TheVariants as input
 use Rattle.rulebook.specs.declared.Place.TheVariants.{Free}
 use Rattle.rulebook.specs.declared.Refusal.{Refusal}
 use Rattle.rulebook.specs.declared.Refusal.TheVariants as refusal
-use Rattle.rulebook.specs.declared.Verdict.{Verdict}
-use Rattle.rulebook.specs.declared.Verdict.TheVariants.{Fine, Refused}
 use Rattle.rulebook.specs.declared.Vote.{Vote}
 use Rattle.rulebook.specs.declared.VoteKind.{VoteKind}
 use Rattle.rulebook.specs.Tools.{whenever}
@@ -85,7 +84,7 @@ module _ {l m : Ledger} (g : Sound l) (b : Beside l m) where
       let there : n < m.count = omega (arith, e.count) in
       let place : place_of (cell_at m s n) k x ≡ Free = ap (λ (cs : List Cell). place_of (get_or cs n no_cell) k x) (e.cells s) ∙ free in
       let slot : slot_ok s ≡ true = both_and (leb 1 s) (leb s last_slot) (le-leb 1 s low) (le-leb s last_slot high) in
-      let fine : vote_verdict m v ≡ Fine = rw (kind, slot, lt-leb m.count n there, ne_eqb n m.own (other_number n node), fits, place) in
+      let fine : vote_verdict m v ≡ (Ok tt) = rw (kind, slot, lt-leb m.count n there, ne_eqb n m.own (other_number n node), fits, place) in
       let p = watcher_serves (served m (of_input (input.Vote v))) (intake m (input.Vote v)) (feed_fine m (input.Vote v) fine)
       (record {
         sound = sound_vote m b.sound s low high n k x there place fits (λ q. absurd (other_number n node q));
@@ -94,7 +93,7 @@ module _ {l m : Ledger} (g : Sound l) (b : Beside l m) where
       }) in
       shown_one_lem m (of_input (input.Vote v)) (store_vote l s n k x) p.0 p.1
 
-  block_shown : (s : ℕ) (x : Block) → block_verdict l s x ≡ Fine → ShownTo m (of_input (input.Block (record { 0 = s }) x) ∷ []) (keep_block l s x)
+  block_shown : (s : ℕ) (x : Block) → block_verdict l s x ≡ Ok tt → ShownTo m (of_input (input.Block (record { 0 = s }) x) ∷ []) (keep_block l s x)
   unfolding served verdict intake is_watcher keep_block block_verdict bad_parent
   block_shown s x f =
       let c : Input = input.Block (record { 0 = s }) x in
@@ -103,7 +102,7 @@ module _ {l m : Ledger} (g : Sound l) (b : Beside l m) where
       (refuse_if (none x.number || none x.parent) refusal.BadBlock
       (refuse_if (leb s x.parentslot.0 || (none x.parentslot.0 && not (eqb x.parent (e.genesis i)))) refusal.BadParent
       (refuse_if (some_block (λ k. same_block k x) (e.blocks s i)) refusal.AlreadyKept
-      (refuse_if (stands_against x (e.blocks s i)) refusal.OtherStands Fine))))) in
+      (refuse_if (stands_against x (e.blocks s i)) refusal.OtherStands (Ok tt)))))) in
       let d = block_fine l s x f in
       let p = watcher_serves (served m (of_input c)) (intake m c) (feed_fine m c (same ∙ f))
       (record {
@@ -114,11 +113,11 @@ module _ {l m : Ledger} (g : Sound l) (b : Beside l m) where
       shown_one_lem m (of_input c) (keep_block l s x) p.0 p.1
 
   packet_shown : (packet : List ℕ) (c : Certificate) (next : ℕ) → one_at (table_of l) packet 0 ≡ good c next → length packet ≤ next
-      → kept_verdict (certificates_at l c.slot) (kind_for l c) c.block ≡ Fine → ShownTo m (of_packet packet ∷ []) (keep_certificate l c)
+      → kept_verdict (certificates_at l c.slot) (kind_for l c) c.block ≡ Ok tt → ShownTo m (of_packet packet ∷ []) (keep_certificate l c)
   unfolding served is_watcher keep_certificate
   packet_shown packet c next o long f =
       let read : one_at (table_of m) packet 0 ≡ good c next = ap (λ (ws : List ℕ). one_at ws packet 0) (pool_table e) ∙ o in
-      let kept : kept_verdict (certificates_at m c.slot) (kind_for m c) c.block ≡ Fine =
+      let kept : kept_verdict (certificates_at m c.slot) (kind_for m c) c.block ≡ (Ok tt) =
       (λ i. kept_verdict (e.certificates c.slot i) (kind_in (e.count i) c.kind) c.block) ∙ f in
       let d = taken_fine m b.sound c (one_good (table_of m) packet 0 c next read).1 kept in
       let p = watcher_serves (served m (of_packet packet)) (state_of (keep_certificate m c) []) (packet_whole m packet c next read long ∙ taken_kept m c kept)
@@ -197,7 +196,7 @@ module _ (l m : Ledger) (g : Sound l) (b : Beside l m) where
   unfolding shown_of is_done fed_with whenever
   done_shown c o t h = shown_then m (passed_on c) _ _ t (run_keeps (Following me (after m (passed_on c))) (following_lawful me (after m (passed_on c))) o h).shown
 
-  input_shown : (i : Input) → verdict l i ≡ Fine → Served (of_input i) (fed_with (run (intake l i)))
+  input_shown : (i : Input) → verdict l i ≡ Ok tt → Served (of_input i) (fed_with (run (intake l i)))
   unfolding intake verdict passed_on after all_taken store_vote keep_block time_out is_watcher
   input_shown (input.Vote w) f =
       let d = vote_fine l w f in
@@ -219,21 +218,21 @@ module _ (l m : Ledger) (g : Sound l) (b : Beside l m) where
   input_served : (i : Input) → Served (of_input i) (feed l i)
   input_served i = go (verdict l i) refl
     where
-      go : (v : Verdict) → verdict l i ≡ v → Served (of_input i) (feed l i)
-      go Fine f = subst (Served (of_input i)) (sym (feed_fine l i f)) (input_shown i f)
-      go (Refused r) f = subst (Served (of_input i)) (sym (feed_refused l i r f)) (refused_shown (of_input i) r)
+      go : (v : Result ⊤ Refusal) → verdict l i ≡ v → Served (of_input i) (feed l i)
+      go (Ok tt) f = subst (Served (of_input i)) (sym (feed_fine l i f)) (input_shown i f)
+      go (Err r) f = subst (Served (of_input i)) (sym (feed_refused l i r f)) (refused_shown (of_input i) r)
 
   module _ (packet : List ℕ) where
     kept_served : (c : Certificate) (next : ℕ) → one_at (table_of l) packet 0 ≡ good c next → length packet ≤ next → Served (of_packet packet) (taken l c)
     unfolding passed_on keep_certificate
     kept_served c next o long = go (kept_verdict (certificates_at l c.slot) (kind_for l c) c.block) refl
       where
-        go : (v : Verdict) → kept_verdict (certificates_at l c.slot) (kind_for l c) c.block ≡ v → Served (of_packet packet) (taken l c)
-        go Fine f =
+        go : (v : Result ⊤ Refusal) → kept_verdict (certificates_at l c.slot) (kind_for l c) c.block ≡ v → Served (of_packet packet) (taken l c)
+        go (Ok tt) f =
             let s = packet_shown g b packet c next o long f in
             let d = taken_fine l g c (one_good (table_of l) packet 0 c next o).1 f in
             subst (Served (of_packet packet)) (sym (taken_kept l c f)) (done_shown (of_packet packet) _ s.taken (begins me m _ _ (sound_certificate l g c d) refl s))
-        go (Refused r) f = subst (Served (of_packet packet)) (sym (taken_refused l c r f)) (refused_shown (of_packet packet) r)
+        go (Err r) f = subst (Served (of_packet packet)) (sym (taken_refused l c r f)) (refused_shown (of_packet packet) r)
 
     packet_served : Served (of_packet packet) (take_packet l packet)
     packet_served = go (one_at (table_of l) packet 0) refl
@@ -263,11 +262,11 @@ life_follows (c ∷ cs) l m g b =
     (life_follows cs (served l c).ledger (after m (shown_of l.own c (served l c))) (served_sound l g c) s.beside)
 
 -- A fresh watcher stands beside a fresh node of its table.
-fresh_beside : (stakes : List ℕ) (me genesis : ℕ) → start_verdict stakes me genesis ≡ Fine → Beside (fresh stakes me genesis) (fresh stakes (length stakes) genesis)
+fresh_beside : (stakes : List ℕ) (me genesis : ℕ) → start_verdict stakes me genesis ≡ Ok tt → Beside (fresh stakes me genesis) (fresh stakes (length stakes) genesis)
 unfolding fresh is_watcher watch_verdict refuse_if
 fresh_beside stakes me genesis e =
     let f = start_fine stakes me genesis e in
-    let w : watch_verdict stakes genesis ≡ Fine = rw (f.0, f.2) in
+    let w : watch_verdict stakes genesis ≡ (Ok tt) = rw (f.0, f.2) in
     record {
       sound = watching_sound stakes genesis w;
       watcher = eq-eqb (length stakes) (length stakes) refl;

@@ -1,4 +1,5 @@
 -- A watcher tells of no vote, whatever arrives. Assumes nothing.
+use Rattle.std.specs.Prelude.{⊤, Result, Ok, Err}
 use mathlib.Core.Path.{◌≡◌, refl, ap, ◌∙◌}
 use mathlib.Core.Bool.{true}
 use mathlib.Core.List.{List, [], ◌∷◌, ◌++◌, reverse}
@@ -8,8 +9,6 @@ use lib.Dec.{eqb}
 use borrow.Author.Tests.{eq-eqb}
 use Rattle.rulebook.specs.declared.Input.{Input}
 use Rattle.rulebook.specs.declared.Input.TheVariants as input
-use Rattle.rulebook.specs.declared.Verdict.{Verdict}
-use Rattle.rulebook.specs.declared.Verdict.TheVariants.{Fine, Refused}
 use Rattle.rulebook.specs.Certificates.{Certificate}
 use Rattle.rulebook.specs.Ledger.{Ledger, is_watcher, table_of, certificates_at, fresh}
 use Rattle.rulebook.specs.Votes.{store_vote}
@@ -29,6 +28,7 @@ use Rattle.settling.proofs.Life.{taken_fine, served_paid}
 use Rattle.settling.proofs.Start.{watching_sound}
 use Rattle.watchers.specs.Watching.{tells_vote, as_votes, WatcherNeverVotes}
 use Rattle.watchers.proofs.ShownLaws.{votes_append, told_none}
+use Rattle.rulebook.specs.declared.Refusal.{Refusal}
 
 -- ---- the rules
 
@@ -56,24 +56,24 @@ silent_lawful n =
 
 module _ (n : ℕ) (m : Ledger) (h : Sound m) (w : is_watcher m ≡ true) where
   -- An accepted input tells of nothing before the rules; a timeout is none.
-  intake_silent : (i : Input) → verdict m i ≡ Fine → Silent n (intake m i)
+  intake_silent : (i : Input) → verdict m i ≡ Ok tt → Silent n (intake m i)
   unfolding intake verdict as_votes store_vote keep_block is_watcher
   intake_silent (input.Vote v) e = record { sound = intake_sound m h (input.Vote v) e; watcher = w; told = refl }
   intake_silent (input.Block s b) e = record { sound = intake_sound m h (input.Block s b) e; watcher = w; told = refl }
   intake_silent (input.Timeout s) e = true_not_false (is_watcher m) w (timeout_fine m s.0 e).votes
   intake_silent input.Look e = record { sound = h; watcher = w; told = refl }
 
-  fed_on_silent : (v : Verdict) (i : Input) → verdict m i ≡ v → as_votes n (fed_on v m i).records ≡ []
+  fed_on_silent : (v : Result ⊤ Refusal) (i : Input) → verdict m i ≡ v → as_votes n (fed_on v m i).records ≡ []
   unfolding fed_on fed_with refused_with as_votes
-  fed_on_silent Fine i e = (run_keeps (Silent n) (silent_lawful n) (intake m i) (intake_silent i e)).told
-  fed_on_silent (Refused r) i e = refl
+  fed_on_silent (Ok tt) i e = (run_keeps (Silent n) (silent_lawful n) (intake m i) (intake_silent i e)).told
+  fed_on_silent (Err r) i e = refl
 
-  taken_on_silent : (v : Verdict) (c : Certificate) → judge (table_of m) c ≡ Fine → kept_verdict (certificates_at m c.slot) (kind_for m c) c.block ≡ v
+  taken_on_silent : (v : Result ⊤ Refusal) (c : Certificate) → judge (table_of m) c ≡ Ok tt → kept_verdict (certificates_at m c.slot) (kind_for m c) c.block ≡ v
       → as_votes n (taken_on v m c).records ≡ []
   unfolding taken_on fed_with refused_with as_votes keep_certificate is_watcher
-  taken_on_silent Fine c j e =
+  taken_on_silent (Ok tt) c j e =
       (run_keeps (Silent n) (silent_lawful n) (state_of (keep_certificate m c) []) (record { sound = sound_certificate m h c (taken_fine m h c j e); watcher = w; told = refl })).told
-  taken_on_silent (Refused r) c j e = refl
+  taken_on_silent (Err r) c j e = refl
 
   packet_silent : (packet : List ℕ) → as_votes n (take_packet m packet).records ≡ []
   unfolding taken refused_with as_votes

@@ -1,10 +1,7 @@
 -- A watcher beside a voting node: what it is shown of the node's life, and what the two then have in common.
-use Rattle.std.specs.Prelude.{◌≡◌, Bool, true, false, ◌&&◌, List, [], ◌∷◌, ◌++◌, ℕ, length, leb}
+use Rattle.std.specs.Prelude.{◌≡◌, Bool, true, false, ◌&&◌, List, [], ◌∷◌, ◌++◌, ℕ, length, leb, Result, Ok, Err}
 use Rattle.rulebook.specs.declared.CertificateKind.{CertificateKind}
 use Rattle.rulebook.specs.declared.Input.TheVariants as input
-use Rattle.rulebook.specs.declared.StepAnswer.{StepAnswer}
-use Rattle.rulebook.specs.declared.StepAnswer.TheVariants as step
-use Rattle.rulebook.specs.declared.Verdict.TheVariants.{Fine}
 use Rattle.rulebook.specs.declared.Vote.{Vote}
 use Rattle.rulebook.specs.Tools.{whenever}
 use Rattle.rulebook.specs.PaperNumbers.{vote_kind}
@@ -14,6 +11,7 @@ use Rattle.rulebook.specs.Rules.{Record}
 use Rattle.rulebook.specs.Inputs.{Fed, start_verdict, watch_verdict}
 use Rattle.rulebook.specs.Taking.{Arrival, of_input, of_packet, served}
 use Rattle.settling.specs.Steps.{after, life}
+use Rattle.rulebook.specs.declared.Refusal.{Refusal}
 
 -- ---- what a watcher is shown
 
@@ -39,9 +37,9 @@ passed_on (of_input input.Look) = []
 passed_on (of_packet bytes) = of_packet bytes ∷ []
 
 -- Answered 0.
-unfoldable pub is_done : StepAnswer → Bool
-is_done (step.Done n) = true
-is_done (step.Refused r) = false
+unfoldable pub is_done : Result ℕ Refusal → Bool
+is_done (Ok n) = true
+is_done (Err r) = false
 
 -- Node n has served an arrival: where it is accepted the watcher is shown it, and then the votes that the node cast.
 unfoldable pub shown_of : ℕ → Arrival → Fed → List Arrival
@@ -82,11 +80,11 @@ pub record Followed (l m : Ledger) (cs : List Arrival) : Type 0 where
 -- included as ordinary ones."
 abbrev pub WatcherFollows : Type 0
 WatcherFollows =
-    (stakes : List ℕ) (me genesis : ℕ) → start_verdict stakes me genesis ≡ Fine → (cs : List Arrival)
+    (stakes : List ℕ) (me genesis : ℕ) → start_verdict stakes me genesis ≡ Ok tt → (cs : List Arrival)
     → Followed (after (fresh stakes me genesis) cs) (fresh stakes (length stakes) genesis) (shown (fresh stakes me genesis) cs)
 
 -- "A node that never votes": whatever arrives, no record of a watcher tells of a vote.
 abbrev pub WatcherNeverVotes : Type 0
 WatcherNeverVotes =
-    (stakes : List ℕ) (genesis : ℕ) → watch_verdict stakes genesis ≡ Fine → (cs : List Arrival) (n : ℕ)
+    (stakes : List ℕ) (genesis : ℕ) → watch_verdict stakes genesis ≡ Ok tt → (cs : List Arrival) (n : ℕ)
     → as_votes n (life (fresh stakes (length stakes) genesis) cs) ≡ []

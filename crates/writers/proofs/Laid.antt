@@ -1,4 +1,5 @@
 -- What the writers ask of the functions that they call, and that the bytes laid are the answer. Assumes nothing.
+use Rattle.std.specs.Prelude.{⊤, Result, Err}
 use mathlib.Core.Path.{◌≡◌, refl, sym, ap, ap₂, ◌∙◌, subst}
 use mathlib.Core.Bool.{true, false, ◌&&◌}
 use mathlib.Core.List.{List, ◌++◌}
@@ -12,9 +13,6 @@ use Rattle.rulebook.specs.declared.Heading.{Heading}
 use Rattle.rulebook.specs.declared.CertificateKind.{CertificateKind}
 use Rattle.rulebook.specs.declared.CertificateKind.TheVariants as certificate
 use Rattle.rulebook.specs.declared.Refusal.TheVariants as refusal
-use Rattle.rulebook.specs.declared.Verdict.{Verdict}
-use Rattle.rulebook.specs.declared.Verdict.TheVariants.{Refused}
-use Rattle.rulebook.specs.declared.WriteAnswer.TheVariants as write
 use Rattle.rulebook.specs.Weights.{last_slot, slot_ok}
 use Rattle.rulebook.specs.Ledger.{Ledger, most_certificates, places, certificates_at, kept_at, is_kept}
 use Rattle.rulebook.specs.Pool.{reached, kept_as, held, missing_to}
@@ -44,6 +42,7 @@ use Rattle.pool.specs.Weighing.{Weighing, Carded}
 use Rattle.signers.specs.Masks.{Naming}
 use Rattle.writers.proofs.Verdicts.{slot_row}
 use Rattle.writers.specs.Writing.{unsound, kind_on, certificate_on, proof_on, kept_certificate, Laying}
+use Rattle.rulebook.specs.declared.Refusal.{Refusal}
 
 -- ---- what the inner functions ask
 
@@ -249,7 +248,7 @@ laid_slow l s b {buffer} {mid} {left} {p} {n} e h r w v =
 -- ---- the two operations
 
 -- The buffer as found.
-pub writes_unsound : (wrote : Wrote) (buffer : List ℕ) → wrote ≡ unsound → Writes wrote buffer (write.Refused refusal.BadRecord) buffer
+pub writes_unsound : (wrote : Wrote) (buffer : List ℕ) → wrote ≡ unsound → Writes wrote buffer (Err refusal.BadRecord) buffer
 unfolding unsound over
 writes_unsound wrote buffer e = rw e (record { answered = refl; bytes = refl })
 
@@ -259,7 +258,7 @@ module _ (ws : List ℕ) (room kind s b : ℕ) where
   unfolding certificate_on
   certificate_unsound e = given_off _ _ _ e
 
-  pub certificate_judged : (k : CertificateKind) → k ≡ kind_on ws kind → (v : Verdict) → sound_words ws ≡ true
+  pub certificate_judged : (k : CertificateKind) → k ≡ kind_on ws kind → (v : Result ⊤ Refusal) → sound_words ws ≡ true
       → v ≡ certificate_verdict (ledger_of ws) room k s b → certificate_on ws room kind s b ≡ wrote_on v (certificate_bytes (certificate_for (ledger_of ws) k s b))
   unfolding certificate_on write_certificate
   certificate_judged k q v e f =
@@ -267,14 +266,14 @@ module _ (ws : List ℕ) (room kind s b : ℕ) where
       let n = kind_on ws kind in
       given_on (sound_words ws) unsound (λ _. wrote_on (certificate_verdict l room n s b) (certificate_bytes (certificate_for l n s b))) e
       ∙ ap (λ (x : CertificateKind). wrote_on (certificate_verdict l room x s b) (certificate_bytes (certificate_for l x s b))) (sym q)
-      ∙ ap (λ (x : Verdict). wrote_on x (certificate_bytes (certificate_for l k s b))) (sym f)
+      ∙ ap (λ (x : Result ⊤ Refusal). wrote_on x (certificate_bytes (certificate_for l k s b))) (sym f)
 
 module _ (ws : List ℕ) (room s b : ℕ) where
   pub proof_unsound : sound_words ws ≡ false → proof_on ws room s b ≡ unsound
   unfolding proof_on
   proof_unsound e = given_off _ _ _ e
 
-  pub proof_judged : (v : Verdict) → sound_words ws ≡ true → v ≡ proof_verdict (ledger_of ws) room s b
+  pub proof_judged : (v : Result ⊤ Refusal) → sound_words ws ≡ true → v ≡ proof_verdict (ledger_of ws) room s b
       → proof_on ws room s b ≡ wrote_on v (proof_bytes (ledger_of ws) s b)
   unfolding proof_on write_proof
   proof_judged v e f =

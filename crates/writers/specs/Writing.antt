@@ -1,8 +1,7 @@
 -- The writers on a node's words and lent bytes: their answers and all memory afterwards, for every input.
-use Rattle.std.specs.Prelude.{◌≡◌, true, false, List, [], ℕ, ◌≤◌, length}
+use Rattle.std.specs.Prelude.{◌≡◌, true, false, List, [], ℕ, ◌≤◌, length, Err}
 use Rattle.rulebook.specs.declared.CertificateKind.{CertificateKind}
 use Rattle.rulebook.specs.declared.Refusal.TheVariants as refusal
-use Rattle.rulebook.specs.declared.WriteAnswer.TheVariants as write
 use Rattle.rulebook.specs.Tools.{whenever}
 use Rattle.rulebook.specs.Weights.{slot_ok}
 use Rattle.rulebook.specs.Certificates.{Certificate}
@@ -18,7 +17,7 @@ use Rattle.soundness.specs.Sound.{sound_words}
 
 -- 17, and nothing is written.
 unfoldable pub unsound : Wrote
-unsound = record { answer = write.Refused refusal.BadRecord; bytes = [] }
+unsound = record { answer = Err refusal.BadRecord; bytes = [] }
 
 -- The kind that a number stands for in the table of a node's words.
 abbrev pub kind_on : List ℕ → ℕ → CertificateKind

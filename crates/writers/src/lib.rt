@@ -16,7 +16,7 @@ use kept_certificates::{mask_a, mask_b};
 use kinds::{block_misfits, is_other, kind_in, number_in, slot_ok};
 use pool::{held, missing_to};
 use record::count;
-use rulebook::{CertificateKind, Heading, Refusal, Slot, Verdict, WriteAnswer};
+use rulebook::{CertificateKind, Heading, Refusal, Slot};
 use signers::{certificate_for, kept_place};
 use soundness::sound;
 
@@ -40,48 +40,48 @@ fn proof_room(count: usize) -> usize
 }
 
 // 9, 4, 3, 5, 18, in this order, for a certificate.
-fn judge_certificate(rec: &[u64], room: usize, kind: CertificateKind, s: Slot, b: u64) -> Verdict
+fn judge_certificate(rec: &[u64], room: usize, kind: CertificateKind, s: Slot, b: u64) -> Result<(), Refusal>
     requires { sound_words rec.now ≡ true }
     ensures { result ≡ certificate_verdict (ledger_of rec.now) room kind s.0 b }
 {
     let least = certificate_room(count(rec));
     if room < least {
-        return Verdict::Refused(Refusal::NoRoom);
+        return Err(Refusal::NoRoom);
     }
     if is_other(kind) {
-        return Verdict::Refused(Refusal::BadKind);
+        return Err(Refusal::BadKind);
     }
     if !slot_ok(s) {
-        return Verdict::Refused(Refusal::BadSlot);
+        return Err(Refusal::BadSlot);
     }
     if block_misfits(kind, b) {
-        return Verdict::Refused(Refusal::BadBlock);
+        return Err(Refusal::BadBlock);
     }
     if !held(rec, kind, s, b) {
-        return Verdict::Refused(Refusal::NotHeld);
+        return Err(Refusal::NotHeld);
     }
-    Verdict::Fine
+    Ok(())
 }
 
 // 9, 3, 5, 18, in this order, for a proof.
-fn judge_proof(rec: &[u64], room: usize, s: Slot, b: u64) -> Verdict
+fn judge_proof(rec: &[u64], room: usize, s: Slot, b: u64) -> Result<(), Refusal>
     requires { sound_words rec.now ≡ true }
     ensures { result ≡ proof_verdict (ledger_of rec.now) room s.0 b }
 {
     let least = proof_room(count(rec));
     if room < least {
-        return Verdict::Refused(Refusal::NoRoom);
+        return Err(Refusal::NoRoom);
     }
     if !slot_ok(s) {
-        return Verdict::Refused(Refusal::BadSlot);
+        return Err(Refusal::BadSlot);
     }
     if b == 0 {
-        return Verdict::Refused(Refusal::BadBlock);
+        return Err(Refusal::BadBlock);
     }
     if !is_final(rec, s, b) {
-        return Verdict::Refused(Refusal::NotHeld);
+        return Err(Refusal::NotHeld);
     }
-    Verdict::Fine
+    Ok(())
 }
 
 // Writes the certificate of the stored signers from a place of the buffer on and answers the place after it; its masks stand in words
@@ -165,32 +165,32 @@ pub fn write_certificate(
     kind: u64,
     slot: Slot,
     block: u64,
-) -> WriteAnswer
+) -> Result<usize, Refusal>
     ensures { Writes (certificate_on rec.now (length buffer.old) kind slot.0 block) buffer.old result buffer.new }
 {
     if !sound(rec) {
-        return WriteAnswer::Refused(Refusal::BadRecord);
+        return Err(Refusal::BadRecord);
     }
     let asked = kind_in(count(rec), kind);
     let v = judge_certificate(rec, buffer.len(), asked, slot, block);
     match v {
-        Verdict::Refused(r) => WriteAnswer::Refused(r),
-        Verdict::Fine => {
-            WriteAnswer::Written(lay_certificate(rec, buffer, 0, asked, slot, block))
+        Err(r) => Err(r),
+        Ok(()) => {
+            Ok(lay_certificate(rec, buffer, 0, asked, slot, block))
         }
     }
 }
 
 // Writes the finality proof of a block in a slot, where it is held.
-pub fn write_proof(rec: &[u64], buffer: &mut [u8], slot: Slot, block: u64) -> WriteAnswer
+pub fn write_proof(rec: &[u64], buffer: &mut [u8], slot: Slot, block: u64) -> Result<usize, Refusal>
     ensures { Writes (proof_on rec.now (length buffer.old) slot.0 block) buffer.old result buffer.new }
 {
     if !sound(rec) {
-        return WriteAnswer::Refused(Refusal::BadRecord);
+        return Err(Refusal::BadRecord);
     }
     let v = judge_proof(rec, buffer.len(), slot, block);
     match v {
-        Verdict::Refused(r) => WriteAnswer::Refused(r),
-        Verdict::Fine => WriteAnswer::Written(lay_proof(rec, buffer, slot, block)),
+        Err(r) => Err(r),
+        Ok(()) => Ok(lay_proof(rec, buffer, slot, block)),
     }
 }

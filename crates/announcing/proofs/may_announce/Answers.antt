@@ -16,14 +16,14 @@ pub is_due-requires : goal.is_due-requires
 is_due-requires c =
     let a = c.args in
     carded a.rec.now a.s.0 ((sym c.sound.ensures ∙ c.if-not-sound.false))
-    (fine_slot (ledger_of a.rec.now) a.s.0 a.b (sym c.block_verdict-verdict.ensures ∙ c.in-Fine.is))
+    (fine_slot (ledger_of a.rec.now) a.s.0 a.b (sym c.block_verdict-verdict.ensures ∙ c.in-Ok.is))
 
-pub returns-in-Refused : goal.returns-in-Refused
-returns-in-Refused c =
+pub returns-in-Err : goal.returns-in-Err
+returns-in-Err c =
     let a = c.args in
-    asked_refused a.rec.now a.s.0 a.b ((sym c.sound.ensures ∙ c.if-not-sound.false)) _ (sym c.in-Refused.is ∙ c.block_verdict-verdict.ensures)
+    asked_refused a.rec.now a.s.0 a.b ((sym c.sound.ensures ∙ c.if-not-sound.false)) _ (sym c.in-Err.is ∙ c.block_verdict-verdict.ensures)
 
-pub returns-in-Fine : goal.returns-in-Fine
-returns-in-Fine c =
+pub returns-in-Ok : goal.returns-in-Ok
+returns-in-Ok c =
     let a = c.args in
-    asked_fine a.rec.now a.s.0 a.b ((sym c.sound.ensures ∙ c.if-not-sound.false)) (sym c.in-Fine.is ∙ c.block_verdict-verdict.ensures) _ c.is_due.ensures
+    asked_fine a.rec.now a.s.0 a.b ((sym c.sound.ensures ∙ c.if-not-sound.false)) (sym c.in-Ok.is ∙ c.block_verdict-verdict.ensures) _ c.is_due.ensures

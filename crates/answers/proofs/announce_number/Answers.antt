@@ -3,10 +3,10 @@ use Rattle.announcing.specs.Asked.{announce_panel}
 use borrow.Author.Rules.{rules}
 use Rattle.answers.proofs.announce_number.Goals as goal
 
-pub returns-in-Now : goal.returns-in-Now
+pub returns-in-Ok : goal.returns-in-Ok
 unfolding announce_panel
-returns-in-Now c = search rules
+returns-in-Ok c = search rules
 
-pub returns-in-Refused : goal.returns-in-Refused
+pub returns-in-Err : goal.returns-in-Err
 unfolding announce_panel
-returns-in-Refused c = simp c.in-Refused.is c.refusal_number.ensures
+returns-in-Err c = simp c.in-Err.is c.refusal_number.ensures

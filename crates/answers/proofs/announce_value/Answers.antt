@@ -6,10 +6,10 @@ use Rattle.announcing.specs.Asked.{announce_panel}
 use borrow.Author.Rules.{rules}
 use Rattle.answers.proofs.announce_value.Goals as goal
 
-pub returns-in-Now : goal.returns-in-Now
+pub returns-in-Ok : goal.returns-in-Ok
 unfolding announce_panel
-returns-in-Now c = simp c.in-Now.is (ap (λ (x : ℕ). x ∷ []) c.mark.ensures)
+returns-in-Ok c = simp c.in-Ok.is (ap (λ (x : ℕ). x ∷ []) c.mark.ensures)
 
-pub returns-in-Refused : goal.returns-in-Refused
+pub returns-in-Err : goal.returns-in-Err
 unfolding announce_panel
-returns-in-Refused c = search rules
+returns-in-Err c = search rules

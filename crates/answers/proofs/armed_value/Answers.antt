@@ -6,10 +6,10 @@ use Rattle.readers.specs.Asked.{armed_panel}
 use borrow.Author.Rules.{rules}
 use Rattle.answers.proofs.armed_value.Goals as goal
 
-pub returns-in-Armed : goal.returns-in-Armed
+pub returns-in-Ok : goal.returns-in-Ok
 unfolding armed_panel
-returns-in-Armed c = simp c.in-Armed.is (ap (λ (x : ℕ). x ∷ []) c.mark.ensures)
+returns-in-Ok c = simp c.in-Ok.is (ap (λ (x : ℕ). x ∷ []) c.mark.ensures)
 
-pub returns-in-Refused : goal.returns-in-Refused
+pub returns-in-Err : goal.returns-in-Err
 unfolding armed_panel
-returns-in-Refused c = search rules
+returns-in-Err c = search rules

@@ -3,10 +3,10 @@ use Rattle.readers.specs.Asked.{blocks_panel}
 use borrow.Author.Rules.{rules}
 use Rattle.answers.proofs.blocks_values.Goals as goal
 
-pub returns-in-Blocks : goal.returns-in-Blocks
+pub returns-in-Ok : goal.returns-in-Ok
 unfolding blocks_panel
-returns-in-Blocks c = simp c.in-Blocks.is c.kept_values.ensures
+returns-in-Ok c = simp c.in-Ok.is c.kept_values.ensures
 
-pub returns-in-Refused : goal.returns-in-Refused
+pub returns-in-Err : goal.returns-in-Err
 unfolding blocks_panel
-returns-in-Refused c = search rules
+returns-in-Err c = search rules

@@ -3,10 +3,10 @@ use Rattle.cards.specs.Asked.{card_panel}
 use borrow.Author.Rules.{rules}
 use Rattle.answers.proofs.card_number.Goals as goal
 
-pub returns-in-Card : goal.returns-in-Card
+pub returns-in-Ok : goal.returns-in-Ok
 unfolding card_panel
-returns-in-Card c = search rules
+returns-in-Ok c = search rules
 
-pub returns-in-Refused : goal.returns-in-Refused
+pub returns-in-Err : goal.returns-in-Err
 unfolding card_panel
-returns-in-Refused c = simp c.in-Refused.is c.refusal_number.ensures
+returns-in-Err c = simp c.in-Err.is c.refusal_number.ensures

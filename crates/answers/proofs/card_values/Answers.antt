@@ -3,10 +3,10 @@ use Rattle.cards.specs.Asked.{card_panel}
 use borrow.Author.Rules.{rules}
 use Rattle.answers.proofs.card_values.Goals as goal
 
-pub returns-in-Card : goal.returns-in-Card
+pub returns-in-Ok : goal.returns-in-Ok
 unfolding card_panel
-returns-in-Card c = simp c.in-Card.is c.tally_values.ensures
+returns-in-Ok c = simp c.in-Ok.is c.tally_values.ensures
 
-pub returns-in-Refused : goal.returns-in-Refused
+pub returns-in-Err : goal.returns-in-Err
 unfolding card_panel
-returns-in-Refused c = search rules
+returns-in-Err c = search rules

@@ -3,10 +3,10 @@ use Rattle.rulebook.specs.PaperNumbers.{check_missing}
 use borrow.Author.Rules.{rules}
 use Rattle.answers.proofs.check_missing.Goals as goal
 
-pub returns-in-Accepted : goal.returns-in-Accepted
+pub returns-in-Ok : goal.returns-in-Ok
 unfolding check_missing
-returns-in-Accepted c = search rules
+returns-in-Ok c = search rules
 
-pub returns-in-Refused : goal.returns-in-Refused
+pub returns-in-Err : goal.returns-in-Err
 unfolding check_missing
-returns-in-Refused c = simp c.in-Refused.is c.refusal_missing.ensures
+returns-in-Err c = simp c.in-Err.is c.refusal_missing.ensures

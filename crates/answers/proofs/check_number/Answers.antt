@@ -3,10 +3,10 @@ use Rattle.rulebook.specs.PaperNumbers.{check_number}
 use borrow.Author.Rules.{rules}
 use Rattle.answers.proofs.check_number.Goals as goal
 
-pub returns-in-Accepted : goal.returns-in-Accepted
+pub returns-in-Ok : goal.returns-in-Ok
 unfolding check_number
-returns-in-Accepted c = search rules
+returns-in-Ok c = search rules
 
-pub returns-in-Refused : goal.returns-in-Refused
+pub returns-in-Err : goal.returns-in-Err
 unfolding check_number
-returns-in-Refused c = simp c.in-Refused.is c.refusal_number.ensures
+returns-in-Err c = simp c.in-Err.is c.refusal_number.ensures

@@ -3,10 +3,10 @@ use Rattle.rulebook.specs.PaperNumbers.{check_values}
 use borrow.Author.Rules.{rules}
 use Rattle.answers.proofs.check_values.Goals as goal
 
-pub returns-in-Accepted : goal.returns-in-Accepted
+pub returns-in-Ok : goal.returns-in-Ok
 unfolding check_values
-returns-in-Accepted c = simp c.in-Accepted.is c.accepted_values.ensures
+returns-in-Ok c = simp c.in-Ok.is c.accepted_values.ensures
 
-pub returns-in-Refused : goal.returns-in-Refused
+pub returns-in-Err : goal.returns-in-Err
 unfolding check_values
-returns-in-Refused c = search rules
+returns-in-Err c = search rules

@@ -7,6 +7,6 @@ pub returns-in-Block : goal.returns-in-Block
 unfolding final_panel
 returns-in-Block c = search rules
 
-pub returns-in-Refused : goal.returns-in-Refused
+pub returns-in-Err : goal.returns-in-Err
 unfolding final_panel
-returns-in-Refused c = simp c.in-Refused.is c.refusal_number.ensures
+returns-in-Err c = simp c.in-Err.is c.refusal_number.ensures

@@ -3,10 +3,10 @@ use Rattle.readers.specs.Asked.{head_panel}
 use borrow.Author.Rules.{rules}
 use Rattle.answers.proofs.head_values.Goals as goal
 
-pub returns-in-Head : goal.returns-in-Head
+pub returns-in-Ok : goal.returns-in-Ok
 unfolding head_panel
-returns-in-Head c = simp c.in-Head.is c.facts_values.ensures
+returns-in-Ok c = simp c.in-Ok.is c.facts_values.ensures
 
-pub returns-in-Refused : goal.returns-in-Refused
+pub returns-in-Err : goal.returns-in-Err
 unfolding head_panel
-returns-in-Refused c = search rules
+returns-in-Err c = search rules

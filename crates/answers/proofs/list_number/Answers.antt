@@ -10,9 +10,9 @@ pub returns-in-BadRecord : goal.returns-in-BadRecord
 unfolding list_panel
 returns-in-BadRecord c = simp c.in-BadRecord.is c.refusal_number.ensures
 
-pub returns-in-Refused : goal.returns-in-Refused
+pub returns-in-Err : goal.returns-in-Err
 unfolding list_panel
-returns-in-Refused c = simp c.in-Refused.is c.refusal_number-in-Refused.ensures
+returns-in-Err c = simp c.in-Err.is c.refusal_number-in-Err.ensures
 
 pub returns-in-NoRoom : goal.returns-in-NoRoom
 unfolding list_panel

@@ -14,9 +14,9 @@ pub returns-in-BadRecord : goal.returns-in-BadRecord
 unfolding list_panel
 returns-in-BadRecord c = simp c.in-BadRecord.is (ap (λ (x : ℕ). x ∷ []) c.side_number.ensures)
 
-pub returns-in-Refused : goal.returns-in-Refused
+pub returns-in-Err : goal.returns-in-Err
 unfolding list_panel
-returns-in-Refused c = simp c.in-Refused.is
+returns-in-Err c = simp c.in-Err.is
 
 pub returns-in-NoRoom : goal.returns-in-NoRoom
 unfolding list_panel

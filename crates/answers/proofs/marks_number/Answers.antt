@@ -3,10 +3,10 @@ use Rattle.readers.specs.Asked.{marks_panel}
 use borrow.Author.Rules.{rules}
 use Rattle.answers.proofs.marks_number.Goals as goal
 
-pub returns-in-Marks : goal.returns-in-Marks
+pub returns-in-Ok : goal.returns-in-Ok
 unfolding marks_panel
-returns-in-Marks c = search rules
+returns-in-Ok c = search rules
 
-pub returns-in-Refused : goal.returns-in-Refused
+pub returns-in-Err : goal.returns-in-Err
 unfolding marks_panel
-returns-in-Refused c = simp c.in-Refused.is c.refusal_number.ensures
+returns-in-Err c = simp c.in-Err.is c.refusal_number.ensures

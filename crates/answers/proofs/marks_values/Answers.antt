@@ -3,10 +3,10 @@ use Rattle.readers.specs.Asked.{marks_panel}
 use borrow.Author.Rules.{rules}
 use Rattle.answers.proofs.marks_values.Goals as goal
 
-pub returns-in-Marks : goal.returns-in-Marks
+pub returns-in-Ok : goal.returns-in-Ok
 unfolding marks_panel
-returns-in-Marks c = simp c.in-Marks.is c.mark_values.ensures
+returns-in-Ok c = simp c.in-Ok.is c.mark_values.ensures
 
-pub returns-in-Refused : goal.returns-in-Refused
+pub returns-in-Err : goal.returns-in-Err
 unfolding marks_panel
-returns-in-Refused c = search rules
+returns-in-Err c = search rules

@@ -3,10 +3,10 @@ use Rattle.pieces.specs.Pieces.{piece_panel}
 use borrow.Author.Rules.{rules}
 use Rattle.answers.proofs.piece_number.Goals as goal
 
-pub returns-in-More : goal.returns-in-More
+pub returns-in-Ok : goal.returns-in-Ok
 unfolding piece_panel
-returns-in-More c = search rules
+returns-in-Ok c = search rules
 
-pub returns-in-Refused : goal.returns-in-Refused
+pub returns-in-Err : goal.returns-in-Err
 unfolding piece_panel
-returns-in-Refused c = simp c.in-Refused.is c.refusal_number.ensures
+returns-in-Err c = simp c.in-Err.is c.refusal_number.ensures

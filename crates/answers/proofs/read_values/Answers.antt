@@ -3,10 +3,10 @@ use Rattle.rulebook.specs.PaperNumbers.{read_panel}
 use borrow.Author.Rules.{rules}
 use Rattle.answers.proofs.read_values.Goals as goal
 
-pub returns-in-Read : goal.returns-in-Read
+pub returns-in-Ok : goal.returns-in-Ok
 unfolding read_panel
-returns-in-Read c = simp c.in-Read.is c.vote_values.ensures
+returns-in-Ok c = simp c.in-Ok.is c.vote_values.ensures
 
-pub returns-in-Refused : goal.returns-in-Refused
+pub returns-in-Err : goal.returns-in-Err
 unfolding read_panel
-returns-in-Refused c = search rules
+returns-in-Err c = search rules

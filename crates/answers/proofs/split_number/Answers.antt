@@ -3,10 +3,10 @@ use Rattle.vouched_packets.specs.Split.{split_panel}
 use borrow.Author.Rules.{rules}
 use Rattle.answers.proofs.split_number.Goals as goal
 
-pub returns-in-First : goal.returns-in-First
+pub returns-in-Ok : goal.returns-in-Ok
 unfolding split_panel
-returns-in-First c = search rules
+returns-in-Ok c = search rules
 
-pub returns-in-Refused : goal.returns-in-Refused
+pub returns-in-Err : goal.returns-in-Err
 unfolding split_panel
-returns-in-Refused c = simp c.in-Refused.is c.refusal_number.ensures
+returns-in-Err c = simp c.in-Err.is c.refusal_number.ensures

@@ -3,10 +3,10 @@ use Rattle.rulebook.specs.PaperNumbers.{start_panel}
 use borrow.Author.Rules.{rules}
 use Rattle.answers.proofs.start_number.Goals as goal
 
-pub returns-in-Started : goal.returns-in-Started
+pub returns-in-Ok : goal.returns-in-Ok
 unfolding start_panel
-returns-in-Started c = search rules
+returns-in-Ok c = search rules
 
-pub returns-in-Refused : goal.returns-in-Refused
+pub returns-in-Err : goal.returns-in-Err
 unfolding start_panel
-returns-in-Refused c = simp c.in-Refused.is c.refusal_number.ensures
+returns-in-Err c = simp c.in-Err.is c.refusal_number.ensures

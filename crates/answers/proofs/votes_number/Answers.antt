@@ -3,10 +3,10 @@ use Rattle.readers.specs.Asked.{votes_panel}
 use borrow.Author.Rules.{rules}
 use Rattle.answers.proofs.votes_number.Goals as goal
 
-pub returns-in-Votes : goal.returns-in-Votes
+pub returns-in-Ok : goal.returns-in-Ok
 unfolding votes_panel
-returns-in-Votes c = search rules
+returns-in-Ok c = search rules
 
-pub returns-in-Refused : goal.returns-in-Refused
+pub returns-in-Err : goal.returns-in-Err
 unfolding votes_panel
-returns-in-Refused c = simp c.in-Refused.is c.refusal_number.ensures
+returns-in-Err c = simp c.in-Err.is c.refusal_number.ensures

@@ -3,10 +3,10 @@ use Rattle.readers.specs.Asked.{votes_panel}
 use borrow.Author.Rules.{rules}
 use Rattle.answers.proofs.votes_values.Goals as goal
 
-pub returns-in-Votes : goal.returns-in-Votes
+pub returns-in-Ok : goal.returns-in-Ok
 unfolding votes_panel
-returns-in-Votes c = simp c.in-Votes.is c.cell_values.ensures
+returns-in-Ok c = simp c.in-Ok.is c.cell_values.ensures
 
-pub returns-in-Refused : goal.returns-in-Refused
+pub returns-in-Err : goal.returns-in-Err
 unfolding votes_panel
-returns-in-Refused c = search rules
+returns-in-Err c = search rules

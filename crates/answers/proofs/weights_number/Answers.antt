@@ -3,10 +3,10 @@ use Rattle.readers.specs.Weighed.{weights_panel}
 use borrow.Author.Rules.{rules}
 use Rattle.answers.proofs.weights_number.Goals as goal
 
-pub returns-in-Weights : goal.returns-in-Weights
+pub returns-in-Ok : goal.returns-in-Ok
 unfolding weights_panel
-returns-in-Weights c = search rules
+returns-in-Ok c = search rules
 
-pub returns-in-Refused : goal.returns-in-Refused
+pub returns-in-Err : goal.returns-in-Err
 unfolding weights_panel
-returns-in-Refused c = simp c.in-Refused.is c.refusal_number.ensures
+returns-in-Err c = simp c.in-Err.is c.refusal_number.ensures

@@ -3,10 +3,10 @@ use Rattle.readers.specs.Weighed.{weights_panel}
 use borrow.Author.Rules.{rules}
 use Rattle.answers.proofs.weights_values.Goals as goal
 
-pub returns-in-Weights : goal.returns-in-Weights
+pub returns-in-Ok : goal.returns-in-Ok
 unfolding weights_panel
-returns-in-Weights c = simp c.in-Weights.is c.four_weights.ensures
+returns-in-Ok c = simp c.in-Ok.is c.four_weights.ensures
 
-pub returns-in-Refused : goal.returns-in-Refused
+pub returns-in-Err : goal.returns-in-Err
 unfolding weights_panel
-returns-in-Refused c = search rules
+returns-in-Err c = search rules

@@ -3,10 +3,10 @@ use Rattle.rulebook.specs.PaperNumbers.{write_panel}
 use borrow.Author.Rules.{rules}
 use Rattle.answers.proofs.write_number.Goals as goal
 
-pub returns-in-Written : goal.returns-in-Written
+pub returns-in-Ok : goal.returns-in-Ok
 unfolding write_panel
-returns-in-Written c = search rules
+returns-in-Ok c = search rules
 
-pub returns-in-Refused : goal.returns-in-Refused
+pub returns-in-Err : goal.returns-in-Err
 unfolding write_panel
-returns-in-Refused c = simp c.in-Refused.is c.refusal_number.ensures
+returns-in-Err c = simp c.in-Err.is c.refusal_number.ensures

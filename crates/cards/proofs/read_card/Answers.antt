@@ -1,6 +1,6 @@
 -- Each way through the question.
+use Rattle.std.specs.Prelude.{Ok}
 use mathlib.Core.Path.{sym, ap, ◌∙◌}
-use Rattle.cards.specs.declared.CardAnswer.TheVariants as answer
 use Rattle.cards.proofs.Ways.{unsound_card, slotless_card, card_there, card_placed}
 use Rattle.cards.proofs.read_card.Goals as goal
 
@@ -17,5 +17,5 @@ load_card-requires c =
 
 pub returns : goal.returns
 returns c =
-    ap answer.Card c.load_card.ensures
+    ap Ok c.load_card.ensures
     ∙ sym (card_there _ _ (sym c.sound.ensures ∙ c.if-not-sound.false) (sym c.slot_ok.ensures ∙ c.if-not-slot_ok.false))

@@ -23,7 +23,7 @@ returns-in_default-m1 c =
     let a = c.args.a.now in
     let n = c.words_in-words.result in
     rw c.failed_mask.ensures
-    (first_fell bytes c.args.at _ _ n (sym c.read_heading-h.ensures ∙ c.in-Whole.is) c.words_in-words.ensures _ _ _ _ (opened c.in_default-m1.in_default-m1-own.keys2)
+    (first_fell bytes c.args.at _ _ n (sym c.read_heading-h.ensures ∙ c.in-Ok.is) c.words_in-words.ensures _ _ _ _ (opened c.in_default-m1.in_default-m1-own.keys2)
     (part_read bytes _ n a _ (lent_enough a _ _ c.requires.long_a c.words_in-words.ensures) c.read_mask-m1.ensures))
 
 pub slice_bounds-read_mask-end-3 : goal.slice_bounds-read_mask-end-3
@@ -40,8 +40,8 @@ returns-in_default-m2 c =
     let b = c.args.b.now in
     let n = c.words_in-words.result in
     rw c.failed_mask-in_default-m2.ensures
-    (second_fell bytes c.args.at _ _ n (sym c.read_heading-h.ensures ∙ c.in-Whole.is) c.words_in-words.ensures _ _
-    (rw c.in-Upto.is at (part_read bytes _ n a _ (lent_enough a _ _ c.requires.long_a c.words_in-words.ensures) c.read_mask-m1.ensures)) _ _ _ _ (opened c.in_default-m2.in_default-m2-own.keys2)
+    (second_fell bytes c.args.at _ _ n (sym c.read_heading-h.ensures ∙ c.in-Ok.is) c.words_in-words.ensures _ _
+    (rw c.in-Ok.is at (part_read bytes _ n a _ (lent_enough a _ _ c.requires.long_a c.words_in-words.ensures) c.read_mask-m1.ensures)) _ _ _ _ (opened c.in_default-m2.in_default-m2-own.keys2)
     (part_read bytes _ n b _ (lent_enough b _ _ c.requires.long_b c.words_in-words.ensures) c.read_mask-m2.ensures))
 
 pub returns : goal.returns
@@ -54,7 +54,7 @@ returns c =
     let y = c.read_mask-m2.new.mask in
     let enoughA = lent_enough a _ _ c.requires.long_a c.words_in-words.ensures in
     let enoughB = lent_enough b _ _ c.requires.long_b c.words_in-words.ensures in
-    all_read bytes c.args.at _ _ n (sym c.read_heading-h.ensures ∙ c.in-Whole.is) c.words_in-words.ensures _ _
-    (rw c.in-Upto.is at (part_read bytes _ n a _ enoughA c.read_mask-m1.ensures)) _ _ x y _ _
-    (rw c.in-Upto-m2.is at (part_read bytes _ n b _ enoughB c.read_mask-m2.ensures)) refl refl
+    all_read bytes c.args.at _ _ n (sym c.read_heading-h.ensures ∙ c.in-Ok.is) c.words_in-words.ensures _ _
+    (rw c.in-Ok.is at (part_read bytes _ n a _ enoughA c.read_mask-m1.ensures)) _ _ x y _ _
+    (rw c.in-Ok-m2.is at (part_read bytes _ n b _ enoughB c.read_mask-m2.ensures)) refl refl
     (part_long n a x enoughA c.read_mask-m1.auto.mask) (part_long n b y enoughB c.read_mask-m2.auto.mask)

@@ -24,20 +24,20 @@ weigh_in-requires c =
     let wide = judge_wide s.stakes.now s.t c.requires.0 s.c s.a.now s.b.now c.requires.1 _ heard (sym c.is_other.ensures ∙ c.if-is_other.false) (length s.stakes.now) refl in
     record { fit = c.requires.0; kind = heard; wide = wide }
 
-pub returns-in-Refused : goal.returns-in-Refused
-returns-in-Refused c =
+pub returns-in-Err : goal.returns-in-Err
+returns-in-Err c =
     let s = c.args in
     let heard = kind_heard s.stakes.now s.t c.requires.0 _ _ c.kind_in-k.ensures in
     let known = sym c.is_other.ensures ∙ c.if-is_other.false in
     let faults = fault_same _ _ _ _ _ _ c.slot_ok-slot.ensures c.block_misfits-block.ensures (c.bad_signers-masks.ensures s.c) _ c.first_fault-fault.ensures in
     let told = judge_is s.stakes.now s.t c.requires.0 _ (certificate_of s.c s.a.now s.b.now) s.next heard known _ faults in
-    sym (told ∙ unless_refused _ _ _ c.in-Refused.is)
+    sym (told ∙ unless_refused _ _ _ c.in-Err.is)
 
-pub returns-in-Fine : goal.returns-in-Fine
-returns-in-Fine c =
+pub returns-in-Ok : goal.returns-in-Ok
+returns-in-Ok c =
     let s = c.args in
     let heard = kind_heard s.stakes.now s.t c.requires.0 _ _ c.kind_in-k.ensures in
     let known = sym c.is_other.ensures ∙ c.if-is_other.false in
     let faults = fault_same _ _ _ _ _ _ c.slot_ok-slot.ensures c.block_misfits-block.ensures (c.bad_signers-masks.ensures s.c) _ c.first_fault-fault.ensures in
     let told = judge_is s.stakes.now s.t c.requires.0 _ (certificate_of s.c s.a.now s.b.now) s.next heard known _ faults in
-    c.weigh_in.ensures ∙ sym (told ∙ unless_fine _ _ c.in-Fine.is)
+    c.weigh_in.ensures ∙ sym (told ∙ unless_fine _ _ c.in-Ok.is)

@@ -18,8 +18,8 @@ pub slice_bounds-b-end : goal.slice_bounds-b-end
 slice_bounds-b-end c =
     lent_enough c.read_certificate-found.new.b _ _ c.read_certificate-found.auto.b c.words_in-words.ensures
 
-pub slice_bounds-judge-end-in-Whole : goal.slice_bounds-judge-end-in-Whole
-slice_bounds-judge-end-in-Whole c =
+pub slice_bounds-judge-end-in-Ok : goal.slice_bounds-judge-end-in-Ok
+slice_bounds-judge-end-in-Ok c =
     sym (length-take-le _ c.read_certificate-found.new.b (lent_enough c.read_certificate-found.new.b _ _ c.read_certificate-found.auto.b c.words_in-words.ensures))
 
 pub judge-requires : goal.judge-requires
@@ -44,8 +44,8 @@ unfolding one_at
 returns-in-Malformed c =
     found_malformed c.args.stakes.now c.read_certificate-found.new.a c.read_certificate-found.new.b _ _ c.read_certificate-found.ensures c.in-Malformed.is
 
-pub returns-in-Whole : goal.returns-in-Whole
+pub returns-in-Ok : goal.returns-in-Ok
 unfolding one_at
-returns-in-Whole c =
+returns-in-Ok c =
     c.judge.ensures
-    ∙ found_whole c.args.stakes.now c.read_certificate-found.new.a c.read_certificate-found.new.b _ _ c.read_certificate-found.ensures _ _ _ c.in-Whole.is c.words_in-words.ensures
+    ∙ found_whole c.args.stakes.now c.read_certificate-found.new.a c.read_certificate-found.new.b _ _ c.read_certificate-found.ensures _ _ _ c.in-Ok.is c.words_in-words.ensures

@@ -4,10 +4,10 @@ use Rattle.checker.specs.InPacket.{alone}
 use Rattle.checker.proofs.Laws.{single_answer}
 use Rattle.checker.proofs.certificate_on.Goals as goal
 
-pub returns-in-Bad : goal.returns-in-Bad
+pub returns-in-Err : goal.returns-in-Err
 unfolding alone
-returns-in-Bad c = sym (single_answer _ _ _ c.one_at-one.ensures ∙ ap (alone _) c.in-Bad.is)
+returns-in-Err c = sym (single_answer _ _ _ c.one_at-one.ensures ∙ ap (alone _) c.in-Err.is)
 
-pub returns-in-Good : goal.returns-in-Good
+pub returns-in-Ok : goal.returns-in-Ok
 unfolding alone
-returns-in-Good c = c.finish.ensures ∙ sym (single_answer _ _ _ c.one_at-one.ensures ∙ ap (alone _) c.in-Good.is)
+returns-in-Ok c = c.finish.ensures ∙ sym (single_answer _ _ _ c.one_at-one.ensures ∙ ap (alone _) c.in-Ok.is)

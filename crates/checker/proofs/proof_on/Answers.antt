@@ -4,11 +4,11 @@ use Rattle.checker.specs.InPacket.{proven}
 use Rattle.checker.proofs.Laws.{proof_answer}
 use Rattle.checker.proofs.proof_on.Goals as goal
 
-pub returns-in-Bad : goal.returns-in-Bad
+pub returns-in-Err : goal.returns-in-Err
 unfolding proven
-returns-in-Bad c = sym (proof_answer _ _ _ c.one_at-first.ensures ∙ ap (proven _ _) c.in-Bad.is)
+returns-in-Err c = sym (proof_answer _ _ _ c.one_at-first.ensures ∙ ap (proven _ _) c.in-Err.is)
 
-pub returns-in-Good : goal.returns-in-Good
+pub returns-in-Ok : goal.returns-in-Ok
 unfolding proven
-returns-in-Good c =
-    c.after_first.ensures ∙ sym (proof_answer _ _ _ c.one_at-first.ensures ∙ ap (proven _ _) c.in-Good.is)
+returns-in-Ok c =
+    c.after_first.ensures ∙ sym (proof_answer _ _ _ c.one_at-first.ensures ∙ ap (proven _ _) c.in-Ok.is)

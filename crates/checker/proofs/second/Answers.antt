@@ -4,15 +4,15 @@ use Rattle.rulebook.specs.Tools.{whenever}
 use mathlib.Core.Path.{sym}
 use Rattle.checker.proofs.second.Goals as goal
 
-pub returns-in-Bad : goal.returns-in-Bad
+pub returns-in-Err : goal.returns-in-Err
 unfolding followed
-returns-in-Bad c = simp c.in-Bad.is
+returns-in-Err c = simp c.in-Err.is
 
 pub returns-then-is_final-of_that_slot : goal.returns-then-is_final-of_that_slot
 unfolding followed whenever
 returns-then-is_final-of_that_slot c =
-    simp (c.in-Good.is, sym c.is_final.ensures, c.if-is_final-of_that_slot.true) c.finish.ensures
+    simp (c.in-Ok.is, sym c.is_final.ensures, c.if-is_final-of_that_slot.true) c.finish.ensures
 
 pub returns-else-is_final-of_that_slot : goal.returns-else-is_final-of_that_slot
 unfolding followed whenever
-returns-else-is_final-of_that_slot c = simp (c.in-Good.is, sym c.is_final.ensures, c.if-is_final-of_that_slot.false)
+returns-else-is_final-of_that_slot c = simp (c.in-Ok.is, sym c.is_final.ensures, c.if-is_final-of_that_slot.false)

@@ -50,9 +50,9 @@ pub returns-in-CheckProof : goal.returns-in-CheckProof
 unfolding arguments_fit
 returns-in-CheckProof c = simp (c.in-CheckProof.is, c.packet_and_stakes-in-CheckProof.ensures)
 
-pub returns-in-Card : goal.returns-in-Card
+pub returns-in-Ok : goal.returns-in-Ok
 unfolding arguments_fit
-returns-in-Card c = simp (c.in-Card.is, c.exactly-in-Card.ensures)
+returns-in-Ok c = simp (c.in-Ok.is, c.exactly-in-Ok.ensures)
 
 pub returns-in-Pack : goal.returns-in-Pack
 unfolding arguments_fit
@@ -87,9 +87,9 @@ unfolding arguments_fit
 returns-in-Board c =
     simp (c.in-Board.is, c.exactly-in-Board.ensures, c.exactly-in-Board-2.ensures, c.exactly-in-Board-3.ensures)
 
-pub returns-in-Votes : goal.returns-in-Votes
+pub returns-in-Ok : goal.returns-in-Ok
 unfolding arguments_fit
-returns-in-Votes c = simp (c.in-Votes.is, c.exactly-in-Votes.ensures, c.exactly-in-Votes-2.ensures)
+returns-in-Ok c = simp (c.in-Ok.is, c.exactly-in-Ok.ensures, c.exactly-in-Ok-2.ensures)
 
 pub returns-in-Why : goal.returns-in-Why
 unfolding arguments_fit

@@ -2,25 +2,25 @@
 use Rattle.commands.specs.Commands.{reading_fits}
 use Rattle.commands.proofs.reading_fits.Goals as goal
 
-pub returns-in-Blocks : goal.returns-in-Blocks
+pub returns-in-Ok : goal.returns-in-Ok
 unfolding reading_fits
-returns-in-Blocks c = simp (c.in-Blocks.is, c.exactly.ensures)
+returns-in-Ok c = simp (c.in-Ok.is, c.exactly.ensures)
 
-pub returns-in-Marks : goal.returns-in-Marks
+pub returns-in-Ok : goal.returns-in-Ok
 unfolding reading_fits
-returns-in-Marks c = simp (c.in-Marks.is, c.exactly-in-Marks.ensures)
+returns-in-Ok c = simp (c.in-Ok.is, c.exactly-in-Ok.ensures)
 
-pub returns-in-Head : goal.returns-in-Head
+pub returns-in-Ok : goal.returns-in-Ok
 unfolding reading_fits
-returns-in-Head c = simp (c.in-Head.is, c.exactly-in-Head.ensures)
+returns-in-Ok c = simp (c.in-Ok.is, c.exactly-in-Ok.ensures)
 
 pub returns-in-Certificates : goal.returns-in-Certificates
 unfolding reading_fits
 returns-in-Certificates c = simp (c.in-Certificates.is, c.exactly-in-Certificates.ensures)
 
-pub returns-in-Weights : goal.returns-in-Weights
+pub returns-in-Ok : goal.returns-in-Ok
 unfolding reading_fits
-returns-in-Weights c = simp (c.in-Weights.is, c.exactly-in-Weights.ensures)
+returns-in-Ok c = simp (c.in-Ok.is, c.exactly-in-Ok.ensures)
 
 pub returns-in-Parents : goal.returns-in-Parents
 unfolding reading_fits

@@ -2,9 +2,9 @@
 use Rattle.difference_lines.specs.Lines.{side_number}
 use Rattle.differences.proofs.side_number.Goals as goal
 
-pub returns-in-First : goal.returns-in-First
+pub returns-in-Ok : goal.returns-in-Ok
 unfolding side_number
-returns-in-First c = simp c.in-First.is
+returns-in-Ok c = simp c.in-Ok.is
 
 pub returns-in-Second : goal.returns-in-Second
 unfolding side_number

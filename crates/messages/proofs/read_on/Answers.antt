@@ -2,10 +2,10 @@
 use Rattle.rulebook.specs.Messages.{read_on}
 use Rattle.messages.proofs.read_on.Goals as goal
 
-pub returns-in-Fine : goal.returns-in-Fine
+pub returns-in-Ok : goal.returns-in-Ok
 unfolding read_on
-returns-in-Fine c = simp c.in-Fine.is
+returns-in-Ok c = simp c.in-Ok.is
 
-pub returns-in-Refused : goal.returns-in-Refused
+pub returns-in-Err : goal.returns-in-Err
 unfolding read_on
-returns-in-Refused c = simp c.in-Refused.is
+returns-in-Err c = simp c.in-Err.is

@@ -20,26 +20,26 @@ pub returns-in_default-n2 : goal.returns-in_default-n2
 unfolding read_vote whenever as_read
 returns-in_default-n2 c =
     rw (sym c.count_fits.ensures ∙ c.if-not-count_fits.false)
-    (simp (sym c.read_number-n1.ensures ∙ c.in-Number.is)
+    (simp (sym c.read_number-n1.ensures ∙ c.in-Ok.is)
     (c.unread-in_default-n2.ensures ∙ fell _ _ _ (opened c.in_default-n2.in_default-n2-own.keys2) c.read_number-n2.ensures))
 
 pub returns-in_default-n3 : goal.returns-in_default-n3
 unfolding read_vote whenever as_read
 returns-in_default-n3 c =
     rw (sym c.count_fits.ensures ∙ c.if-not-count_fits.false)
-    (simp (sym c.read_number-n1.ensures ∙ c.in-Number.is, sym c.read_number-n2.ensures ∙ c.in-Number-n2.is)
+    (simp (sym c.read_number-n1.ensures ∙ c.in-Ok.is, sym c.read_number-n2.ensures ∙ c.in-Ok-n2.is)
     (c.unread-in_default-n3.ensures ∙ fell _ _ _ (opened c.in_default-n3.in_default-n3-own.keys2) c.read_number-n3.ensures))
 
 pub returns-in_default-n4 : goal.returns-in_default-n4
 unfolding read_vote whenever as_read
 returns-in_default-n4 c =
     rw (sym c.count_fits.ensures ∙ c.if-not-count_fits.false)
-    (simp (sym c.read_number-n1.ensures ∙ c.in-Number.is, sym c.read_number-n2.ensures ∙ c.in-Number-n2.is, sym c.read_number-n3.ensures ∙ c.in-Number-n3.is)
+    (simp (sym c.read_number-n1.ensures ∙ c.in-Ok.is, sym c.read_number-n2.ensures ∙ c.in-Ok-n2.is, sym c.read_number-n3.ensures ∙ c.in-Ok-n3.is)
     (c.unread-in_default-n4.ensures ∙ fell _ _ _ (opened c.in_default-n4.in_default-n4-own.keys2) c.read_number-n4.ensures))
 
 pub returns : goal.returns
 unfolding read_vote whenever as_read read_to
 returns c =
     rw (sym c.count_fits.ensures ∙ c.if-not-count_fits.false)
-    (simp (sym c.read_number-n1.ensures ∙ c.in-Number.is, sym c.read_number-n2.ensures ∙ c.in-Number-n2.is, sym c.read_number-n3.ensures ∙ c.in-Number-n3.is, sym c.read_number-n4.ensures ∙ c.in-Number-n4.is)
+    (simp (sym c.read_number-n1.ensures ∙ c.in-Ok.is, sym c.read_number-n2.ensures ∙ c.in-Ok-n2.is, sym c.read_number-n3.ensures ∙ c.in-Ok-n3.is, sym c.read_number-n4.ensures ∙ c.in-Ok-n4.is)
     (rw (← c.vote_of-v.ensures, ← c.left_over.ensures, ← c.vote_tests.ensures) c.read_on.ensures))

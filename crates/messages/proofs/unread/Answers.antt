@@ -7,5 +7,5 @@ returns-in-Early c = simp c.in-Early.is
 pub returns-in-Malformed : goal.returns-in-Malformed
 returns-in-Malformed c = simp c.in-Malformed.is
 
-pub returns-in-Number : goal.returns-in-Number
-returns-in-Number c = simp c.in-Number.is
+pub returns-in-Ok : goal.returns-in-Ok
+returns-in-Ok c = simp c.in-Ok.is

@@ -7,15 +7,15 @@ use Rattle.messages.proofs.write_vote.Goals as goal
 
 pub lay_vote-requires : goal.lay_vote-requires
 lay_vote-requires c =
-    message_room c.args.count c.args.v c.args.buffer.now (sym c.message_verdict-found.ensures ∙ c.in-Fine.is)
+    message_room c.args.count c.args.v c.args.buffer.now (sym c.message_verdict-found.ensures ∙ c.in-Ok.is)
 
-pub returns-in-Refused : goal.returns-in-Refused
-returns-in-Refused c =
+pub returns-in-Err : goal.returns-in-Err
+returns-in-Err c =
     writes_refused _ _ c.args.buffer.now _
-    (message_judged c.args.count (length c.args.buffer.now) c.args.v _ (sym c.in-Refused.is ∙ c.message_verdict-found.ensures))
+    (message_judged c.args.count (length c.args.buffer.now) c.args.v _ (sym c.in-Err.is ∙ c.message_verdict-found.ensures))
 
-pub returns-in-Fine : goal.returns-in-Fine
-returns-in-Fine c =
+pub returns-in-Ok : goal.returns-in-Ok
+returns-in-Ok c =
     writes_laid _ _
-    (message_judged c.args.count (length c.args.buffer.now) c.args.v _ (sym c.in-Fine.is ∙ c.message_verdict-found.ensures))
+    (message_judged c.args.count (length c.args.buffer.now) c.args.v _ (sym c.in-Ok.is ∙ c.message_verdict-found.ensures))
     c.lay_vote.ensures

@@ -17,12 +17,12 @@ judge_input-requires c = sound_counted c.args.rec.now (sym c.sound.ensures ∙ c
 
 pub act-requires : goal.act-requires
 act-requires c =
-    record { sound = sym c.sound.ensures ∙ c.if-not-sound.false; room = c.if-outbox-lt-OUTBOX_WORDS.false; fine = sym c.judge_input.ensures ∙ c.in-Fine.is }
+    record { sound = sym c.sound.ensures ∙ c.if-not-sound.false; room = c.if-outbox-lt-OUTBOX_WORDS.false; fine = sym c.judge_input.ensures ∙ c.in-Ok.is }
 
-pub returns-in-Refused : goal.returns-in-Refused
-returns-in-Refused c =
-    let a = c.args in step_refused a.rec.now a.outbox.now a.input (sym c.sound.ensures ∙ c.if-not-sound.false) c.if-outbox-lt-OUTBOX_WORDS.false _ (sym c.judge_input.ensures ∙ c.in-Refused.is)
+pub returns-in-Err : goal.returns-in-Err
+returns-in-Err c =
+    let a = c.args in step_refused a.rec.now a.outbox.now a.input (sym c.sound.ensures ∙ c.if-not-sound.false) c.if-outbox-lt-OUTBOX_WORDS.false _ (sym c.judge_input.ensures ∙ c.in-Err.is)
 
-pub returns-in-Fine : goal.returns-in-Fine
-returns-in-Fine c =
-    let a = c.args in let q = c.act in step_done a.rec.now a.outbox.now a.input (sym c.sound.ensures ∙ c.if-not-sound.false) c.if-outbox-lt-OUTBOX_WORDS.false (sym c.judge_input.ensures ∙ c.in-Fine.is) (λ n. (c.slice_known-in-Fine-1.given n).fits) q.auto.outbox q.ensures
+pub returns-in-Ok : goal.returns-in-Ok
+returns-in-Ok c =
+    let a = c.args in let q = c.act in step_done a.rec.now a.outbox.now a.input (sym c.sound.ensures ∙ c.if-not-sound.false) c.if-outbox-lt-OUTBOX_WORDS.false (sym c.judge_input.ensures ∙ c.in-Ok.is) (λ n. (c.slice_known-in-Ok-1.given n).fits) q.auto.outbox q.ensures

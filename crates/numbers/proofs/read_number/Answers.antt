@@ -1,4 +1,5 @@
 -- The reading loop: what is left to read, above the bits read so far, is the whole number.
+use Rattle.std.specs.Prelude.{Ok}
 use mathlib.Core.Path.{refl, sym, ap, ◌∙◌, subst}
 use Prim.Native.Nat.{ℕ, ◌+◌, ◌*◌, ◌%◌, ◌^◌, ◌≤◌, ◌<◌}
 use native.Mathlib.Omega.{arith}
@@ -6,7 +7,6 @@ use native.Mathlib.Nat.{mod-lt}
 use lib.ListN.{drop}
 use lib.Bits.{and_mask, bit_or}
 use lib.Dec.{lit<, lit≤}
-use Rattle.rulebook.specs.declared.Reading.TheVariants as reading
 use Rattle.rulebook.specs.Packets.{number_from}
 use Rattle.numbers.proofs.Turns.{onto, at_start, read_end, read_more, read_long, read_misfit, read_last, or_group, group_fits, group_lt, last_group_fits}
 use Rattle.numbers.proofs.read_number.Goals as goal
@@ -25,7 +25,7 @@ returns-then-last_fits c =
     let l = c.loop-i in
     let hb = c.if-b-lt128.true in
     let ok = sym c.last_fits.ensures ∙ c.if-last_fits.true in
-    ap (λ (x : ℕ). reading.Number x (l.i + 1)) (or_group l.v c.wide-b.result l.k l.invariant.2 (last_group_fits c.wide-b.result l.k l.invariant.0 l.invariant.1 hb ok))
+    ap (λ (x : ℕ). Ok (x, l.i + 1)) (or_group l.v c.wide-b.result l.k l.invariant.2 (last_group_fits c.wide-b.result l.k l.invariant.0 l.invariant.1 hb ok))
     ∙ sym (l.invariant.3 ∙ read_last _ l.i l.k l.v _ c.wide-b.ensures c.loop-i-test.true hb ok)
 
 pub returns-then-b-lt128 : goal.returns-then-b-lt128

@@ -8,15 +8,15 @@ use Rattle.readback.proofs.proof_read_back.Goals as goal
 
 pub stakes_of-requires : goal.stakes_of-requires
 stakes_of-requires c =
-    sound_counted c.args.rec.now (proof_sound c.args.rec.now (length c.args.buffer.now) c.args.slot.0 c.args.block _ (sym c.write_proof-w.ensures.answered ∙ c.in-Written.is))
+    sound_counted c.args.rec.now (proof_sound c.args.rec.now (length c.args.buffer.now) c.args.slot.0 c.args.block _ (sym c.write_proof-w.ensures.answered ∙ c.in-Ok.is))
 
 pub slice_bounds-check_proof-end : goal.slice_bounds-check_proof-end
 slice_bounds-check_proof-end c =
-    proof_inside c.args.rec.now c.args.buffer.now c.args.slot.0 c.args.block _ c.write_proof-w.ensures c.in-Written.is
+    proof_inside c.args.rec.now c.args.buffer.now c.args.slot.0 c.args.block _ c.write_proof-w.ensures c.in-Ok.is
 
-pub returns-in-Refused : goal.returns-in-Refused
-returns-in-Refused c = refused_back _ _ c.write_proof-w.ensures c.in-Refused.is
+pub returns-in-Err : goal.returns-in-Err
+returns-in-Err c = refused_back _ _ c.write_proof-w.ensures c.in-Err.is
 
-pub returns-in-Written : goal.returns-in-Written
-returns-in-Written c =
-    proof_back c.args.rec.now c.args.buffer.now c.args.slot.0 c.args.block _ c.ranges.block.fits c.write_proof-w.ensures c.in-Written.is c.stakes_of.ensures refl c.check_proof.ensures
+pub returns-in-Ok : goal.returns-in-Ok
+returns-in-Ok c =
+    proof_back c.args.rec.now c.args.buffer.now c.args.slot.0 c.args.block _ c.ranges.block.fits c.write_proof-w.ensures c.in-Ok.is c.stakes_of.ensures refl c.check_proof.ensures

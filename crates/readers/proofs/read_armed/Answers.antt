@@ -1,18 +1,18 @@
 -- Each way through the question.
+use Rattle.std.specs.Prelude.{Ok, Err}
 use mathlib.Core.Path.{sym, ap, ◌∙◌}
-use Rattle.readers.specs.declared.ArmedAnswer.TheVariants as armed
 use Rattle.readers.specs.Asked.{armed_on}
 use Rattle.readers.proofs.Ways.{slot_unsound, slot_none, slot_asked, window_placed}
 use Rattle.readers.proofs.read_armed.Goals as goal
 
 pub returns-then-not-sound : goal.returns-then-not-sound
 unfolding armed_on
-returns-then-not-sound c = sym (slot_unsound armed.Refused _ _ _ (sym c.sound.ensures ∙ c.if-not-sound.true))
+returns-then-not-sound c = sym (slot_unsound Err _ _ _ (sym c.sound.ensures ∙ c.if-not-sound.true))
 
 pub returns-then-not-slot_ok : goal.returns-then-not-slot_ok
 unfolding armed_on
 returns-then-not-slot_ok c =
-    sym (slot_none armed.Refused _ _ _ (sym c.sound.ensures ∙ c.if-not-sound.false) (sym c.slot_ok.ensures ∙ c.if-not-slot_ok.true))
+    sym (slot_none Err _ _ _ (sym c.sound.ensures ∙ c.if-not-sound.false) (sym c.slot_ok.ensures ∙ c.if-not-slot_ok.true))
 
 pub is_armed-requires : goal.is_armed-requires
 is_armed-requires c =
@@ -21,5 +21,5 @@ is_armed-requires c =
 pub returns : goal.returns
 unfolding armed_on
 returns c =
-    ap armed.Armed c.is_armed.ensures
-    ∙ sym (slot_asked armed.Refused _ _ _ (sym c.sound.ensures ∙ c.if-not-sound.false) (sym c.slot_ok.ensures ∙ c.if-not-slot_ok.false))
+    ap Ok c.is_armed.ensures
+    ∙ sym (slot_asked Err _ _ _ (sym c.sound.ensures ∙ c.if-not-sound.false) (sym c.slot_ok.ensures ∙ c.if-not-slot_ok.false))

@@ -1,18 +1,18 @@
 -- Each way through the question.
+use Rattle.std.specs.Prelude.{Ok, Err}
 use mathlib.Core.Path.{sym, ap, ◌∙◌}
-use Rattle.readers.specs.declared.BlocksAnswer.TheVariants as blocks
 use Rattle.readers.specs.Asked.{blocks_on}
 use Rattle.readers.proofs.Ways.{slot_unsound, slot_none, slot_asked, slot_placed}
 use Rattle.readers.proofs.read_blocks.Goals as goal
 
 pub returns-then-not-sound : goal.returns-then-not-sound
 unfolding blocks_on
-returns-then-not-sound c = sym (slot_unsound blocks.Refused _ _ _ (sym c.sound.ensures ∙ c.if-not-sound.true))
+returns-then-not-sound c = sym (slot_unsound Err _ _ _ (sym c.sound.ensures ∙ c.if-not-sound.true))
 
 pub returns-then-not-slot_ok : goal.returns-then-not-slot_ok
 unfolding blocks_on
 returns-then-not-slot_ok c =
-    sym (slot_none blocks.Refused _ _ _ (sym c.sound.ensures ∙ c.if-not-sound.false) (sym c.slot_ok.ensures ∙ c.if-not-slot_ok.true))
+    sym (slot_none Err _ _ _ (sym c.sound.ensures ∙ c.if-not-sound.false) (sym c.slot_ok.ensures ∙ c.if-not-slot_ok.true))
 
 pub load_blocks-requires : goal.load_blocks-requires
 load_blocks-requires c =
@@ -21,5 +21,5 @@ load_blocks-requires c =
 pub returns : goal.returns
 unfolding blocks_on
 returns c =
-    ap blocks.Blocks c.load_blocks.ensures
-    ∙ sym (slot_asked blocks.Refused _ _ _ (sym c.sound.ensures ∙ c.if-not-sound.false) (sym c.slot_ok.ensures ∙ c.if-not-slot_ok.false))
+    ap Ok c.load_blocks.ensures
+    ∙ sym (slot_asked Err _ _ _ (sym c.sound.ensures ∙ c.if-not-sound.false) (sym c.slot_ok.ensures ∙ c.if-not-slot_ok.false))

@@ -1,7 +1,7 @@
 -- Each way through the question.
+use Rattle.std.specs.Prelude.{Ok}
 use mathlib.Core.Path.{sym, ap, ◌∙◌}
 use Rattle.soundness.proofs.Laws.{sound_long}
-use Rattle.readers.specs.declared.HeadAnswer.TheVariants as head
 use Rattle.readers.proofs.Ways.{head_unsound, head_asked}
 use Rattle.readers.proofs.read_head.Goals as goal
 
@@ -13,4 +13,4 @@ load_head-requires c = sound_long _ (sym c.sound.ensures ∙ c.if-not-sound.fals
 
 pub returns : goal.returns
 returns c =
-    ap head.Head c.load_head.ensures ∙ sym (head_asked _ (sym c.sound.ensures ∙ c.if-not-sound.false))
+    ap Ok c.load_head.ensures ∙ sym (head_asked _ (sym c.sound.ensures ∙ c.if-not-sound.false))

@@ -1,18 +1,18 @@
 -- Each way through the question.
+use Rattle.std.specs.Prelude.{Ok, Err}
 use mathlib.Core.Path.{sym, ap, ◌∙◌}
-use Rattle.readers.specs.declared.MarksAnswer.TheVariants as marks
 use Rattle.readers.specs.Asked.{marks_on}
 use Rattle.readers.proofs.Ways.{slot_unsound, slot_none, slot_asked, slot_placed}
 use Rattle.readers.proofs.read_marks.Goals as goal
 
 pub returns-then-not-sound : goal.returns-then-not-sound
 unfolding marks_on
-returns-then-not-sound c = sym (slot_unsound marks.Refused _ _ _ (sym c.sound.ensures ∙ c.if-not-sound.true))
+returns-then-not-sound c = sym (slot_unsound Err _ _ _ (sym c.sound.ensures ∙ c.if-not-sound.true))
 
 pub returns-then-not-slot_ok : goal.returns-then-not-slot_ok
 unfolding marks_on
 returns-then-not-slot_ok c =
-    sym (slot_none marks.Refused _ _ _ (sym c.sound.ensures ∙ c.if-not-sound.false) (sym c.slot_ok.ensures ∙ c.if-not-slot_ok.true))
+    sym (slot_none Err _ _ _ (sym c.sound.ensures ∙ c.if-not-sound.false) (sym c.slot_ok.ensures ∙ c.if-not-slot_ok.true))
 
 pub load_marks-requires : goal.load_marks-requires
 load_marks-requires c =
@@ -21,5 +21,5 @@ load_marks-requires c =
 pub returns : goal.returns
 unfolding marks_on
 returns c =
-    ap marks.Marks c.load_marks.ensures
-    ∙ sym (slot_asked marks.Refused _ _ _ (sym c.sound.ensures ∙ c.if-not-sound.false) (sym c.slot_ok.ensures ∙ c.if-not-slot_ok.false))
+    ap Ok c.load_marks.ensures
+    ∙ sym (slot_asked Err _ _ _ (sym c.sound.ensures ∙ c.if-not-sound.false) (sym c.slot_ok.ensures ∙ c.if-not-slot_ok.false))

@@ -19,7 +19,7 @@ returns-in_default c =
 
 pub loop-place-preserved : goal.loop-place-preserved
 loop-place-preserved c = (
-  c.loop-place.invariant.0 ∙ turn_more _ _ _ _ c.word_at-w.result c.word_at-w.ensures c.loop-place-test.true (omega (arith, c.loop-place.invariant.1, c.loop-place-test.true)) _ _ (omega (arith, c.if-to-from.false)) (sym c.in-Value.is ∙ c.read_decimal-d.ensures) c.put_word.ensures,
+  c.loop-place.invariant.0 ∙ turn_more _ _ _ _ c.word_at-w.result c.word_at-w.ensures c.loop-place-test.true (omega (arith, c.loop-place.invariant.1, c.loop-place-test.true)) _ _ (omega (arith, c.if-to-from.false)) (sym c.in-Some.is ∙ c.read_decimal-d.ensures) c.put_word.ensures,
   omega (arith, c.if-to-from.false, c.word_at-w.ensures.from.low, c.loop-place.invariant.1),
   c.put_word.auto.words ∙ c.loop-place.invariant.2,
 )

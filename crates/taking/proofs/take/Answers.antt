@@ -20,35 +20,35 @@ stakes_of-requires c =
     let a = c.args in
     sound_counted a.rec.now (sym c.sound.ensures ∙ c.if-not-sound.false)
 
-pub returns-in-Refused : goal.returns-in-Refused
-returns-in-Refused c =
+pub returns-in-Err : goal.returns-in-Err
+returns-in-Err c =
     let a = c.args in
-    take_bad a.rec.now a.outbox.now a.packet.now (sym c.sound.ensures ∙ c.if-not-sound.false) c.if-outbox-lt-OUTBOX_WORDS.false _ (checked_as a.rec.now a.packet.now c.stakes_of.ensures c.check_certificate-checked.ensures c.in-Refused.is)
+    take_bad a.rec.now a.outbox.now a.packet.now (sym c.sound.ensures ∙ c.if-not-sound.false) c.if-outbox-lt-OUTBOX_WORDS.false _ (checked_as a.rec.now a.packet.now c.stakes_of.ensures c.check_certificate-checked.ensures c.in-Err.is)
 
 pub kept_verdict-requires : goal.kept_verdict-requires
 kept_verdict-requires c =
     let a = c.args in
-    told_placed a.rec.now a.packet.now _ (record { sound = (sym c.sound.ensures ∙ c.if-not-sound.false); checked = (checked_as a.rec.now a.packet.now c.stakes_of.ensures c.check_certificate-checked.ensures c.in-Accepted.is) })
+    told_placed a.rec.now a.packet.now _ (record { sound = (sym c.sound.ensures ∙ c.if-not-sound.false); checked = (checked_as a.rec.now a.packet.now c.stakes_of.ensures c.check_certificate-checked.ensures c.in-Ok.is) })
 
 pub act-requires : goal.act-requires
 act-requires c =
     let a = c.args in
     record {
-      accepting = record { sound = (sym c.sound.ensures ∙ c.if-not-sound.false); checked = (checked_as a.rec.now a.packet.now c.stakes_of.ensures c.check_certificate-checked.ensures c.in-Accepted.is) };
+      accepting = record { sound = (sym c.sound.ensures ∙ c.if-not-sound.false); checked = (checked_as a.rec.now a.packet.now c.stakes_of.ensures c.check_certificate-checked.ensures c.in-Ok.is) };
       room = c.if-outbox-lt-OUTBOX_WORDS.false;
-      fine = sym c.kept_verdict.ensures ∙ c.in-Fine.is;
+      fine = sym c.kept_verdict.ensures ∙ c.in-Ok.is;
     }
 
-pub returns-in-Refused-kept_verdict : goal.returns-in-Refused-kept_verdict
-returns-in-Refused-kept_verdict c =
+pub returns-in-Err-kept_verdict : goal.returns-in-Err-kept_verdict
+returns-in-Err-kept_verdict c =
     let a = c.args in
-    take_kept a.rec.now a.outbox.now a.packet.now (sym c.sound.ensures ∙ c.if-not-sound.false) c.if-outbox-lt-OUTBOX_WORDS.false _ (checked_as a.rec.now a.packet.now c.stakes_of.ensures c.check_certificate-checked.ensures c.in-Accepted.is) _
-    (sym c.kept_verdict.ensures ∙ c.in-Refused-kept_verdict.is)
+    take_kept a.rec.now a.outbox.now a.packet.now (sym c.sound.ensures ∙ c.if-not-sound.false) c.if-outbox-lt-OUTBOX_WORDS.false _ (checked_as a.rec.now a.packet.now c.stakes_of.ensures c.check_certificate-checked.ensures c.in-Ok.is) _
+    (sym c.kept_verdict.ensures ∙ c.in-Err-kept_verdict.is)
 
-pub returns-in-Fine : goal.returns-in-Fine
-returns-in-Fine c =
+pub returns-in-Ok : goal.returns-in-Ok
+returns-in-Ok c =
     let a = c.args in
     let q = c.act in
-    take_done a.rec.now a.outbox.now a.packet.now (sym c.sound.ensures ∙ c.if-not-sound.false) c.if-outbox-lt-OUTBOX_WORDS.false _ (checked_as a.rec.now a.packet.now c.stakes_of.ensures c.check_certificate-checked.ensures c.in-Accepted.is)
-    (sym c.kept_verdict.ensures ∙ c.in-Fine.is)
-    (λ n. (c.slice_known-in-Fine-1.given n).fits) q.auto.outbox q.ensures
+    take_done a.rec.now a.outbox.now a.packet.now (sym c.sound.ensures ∙ c.if-not-sound.false) c.if-outbox-lt-OUTBOX_WORDS.false _ (checked_as a.rec.now a.packet.now c.stakes_of.ensures c.check_certificate-checked.ensures c.in-Ok.is)
+    (sym c.kept_verdict.ensures ∙ c.in-Ok.is)
+    (λ n. (c.slice_known-in-Ok-1.given n).fits) q.auto.outbox q.ensures

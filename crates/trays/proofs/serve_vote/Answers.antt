@@ -8,13 +8,13 @@ vote_verdict-requires c = serving_counted c.args.v c.requires.0
 
 pub take_vote-requires : goal.take_vote-requires
 take_vote-requires c =
-    (record { serving = c.requires.0; fine = sym c.vote_verdict.ensures ∙ c.in-Fine.is }, c.requires.1)
+    (record { serving = c.requires.0; fine = sym c.vote_verdict.ensures ∙ c.in-Ok.is }, c.requires.1)
 
-pub returns-in-Refused : goal.returns-in-Refused
-returns-in-Refused c =
-    (c.requires.1, vote_refused c.args.v c.requires.0 _ _ (sym c.vote_verdict.ensures ∙ c.in-Refused.is) c.refusal_number.ensures)
+pub returns-in-Err : goal.returns-in-Err
+returns-in-Err c =
+    (c.requires.1, vote_refused c.args.v c.requires.0 _ _ (sym c.vote_verdict.ensures ∙ c.in-Err.is) c.refusal_number.ensures)
 
-pub returns-in-Fine : goal.returns-in-Fine
-returns-in-Fine c =
+pub returns-in-Ok : goal.returns-in-Ok
+returns-in-Ok c =
     let taken = c.take_vote.ensures in
-    (taken.0, vote_taken c.args.v c.requires.0 _ (sym c.vote_verdict.ensures ∙ c.in-Fine.is) taken.1)
+    (taken.0, vote_taken c.args.v c.requires.0 _ (sym c.vote_verdict.ensures ∙ c.in-Ok.is) taken.1)

@@ -15,8 +15,8 @@ returns-in-Malformed c =
     let p = c.args.packet.now in
     end_malformed p (certificate_at p 0) _ r.new.a r.new.b r.ensures c.in-Malformed.is
 
-pub returns-in-Whole : goal.returns-in-Whole
-returns-in-Whole c =
+pub returns-in-Ok : goal.returns-in-Ok
+returns-in-Ok c =
     let r = c.read_certificate-found in
     let p = c.args.packet.now in
-    end_whole p (certificate_at p 0) _ r.new.a r.new.b r.ensures _ _ c.in-Whole.is
+    end_whole p (certificate_at p 0) _ r.new.a r.new.b r.ensures _ _ c.in-Ok.is

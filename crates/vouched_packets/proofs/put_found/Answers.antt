@@ -19,8 +19,8 @@ pub slice_bounds-b-end : goal.slice_bounds-b-end
 slice_bounds-b-end c =
     lent_enough c.read_certificate-found.new.b _ _ c.read_certificate-found.auto.b c.words_in-words.ensures
 
-pub slice_bounds-put_read-end-in-Whole : goal.slice_bounds-put_read-end-in-Whole
-slice_bounds-put_read-end-in-Whole c =
+pub slice_bounds-put_read-end-in-Ok : goal.slice_bounds-put_read-end-in-Ok
+slice_bounds-put_read-end-in-Ok c =
     sym (length-take-le _ c.read_certificate-found.new.b (lent_enough c.read_certificate-found.new.b _ _ c.read_certificate-found.auto.b c.words_in-words.ensures))
 
 pub returns-in-Early : goal.returns-in-Early
@@ -35,8 +35,8 @@ returns-in-Malformed c =
     let a = c.args in
     found_malformed (ledger_of a.rec.now) (certificate_at a.packet.now a.from) _ r.new.a r.new.b r.ensures c.in-Malformed.is
 
-pub returns-in-Whole : goal.returns-in-Whole
-returns-in-Whole c =
+pub returns-in-Ok : goal.returns-in-Ok
+returns-in-Ok c =
     let r = c.read_certificate-found in
     let a = c.args in
-    found_put (ledger_of a.rec.now) (certificate_at a.packet.now a.from) _ r.new.a r.new.b r.ensures _ _ _ c.in-Whole.is c.words_in-words.ensures c.put_read.ensures
+    found_put (ledger_of a.rec.now) (certificate_at a.packet.now a.from) _ r.new.a r.new.b r.ensures _ _ _ c.in-Ok.is c.words_in-words.ensures c.put_read.ensures

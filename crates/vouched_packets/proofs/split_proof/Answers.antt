@@ -15,12 +15,12 @@ returns-then-not-sound c =
 pub stakes_of-requires : goal.stakes_of-requires
 stakes_of-requires c = sound_counted _ ((sym c.sound.ensures ∙ c.if-not-sound.false))
 
-pub returns-in-Refused : goal.returns-in-Refused
-returns-in-Refused c =
+pub returns-in-Err : goal.returns-in-Err
+returns-in-Err c =
     let a = c.args in
-    split_refused a.rec.now a.packet.now ((sym c.sound.ensures ∙ c.if-not-sound.false)) _ (sym c.in-Refused.is ∙ (c.check_proof-checked.ensures ∙ ap (λ (ws : List ℕ). check_proof ws c.args.packet.now) c.stakes_of.ensures))
+    split_refused a.rec.now a.packet.now ((sym c.sound.ensures ∙ c.if-not-sound.false)) _ (sym c.in-Err.is ∙ (c.check_proof-checked.ensures ∙ ap (λ (ws : List ℕ). check_proof ws c.args.packet.now) c.stakes_of.ensures))
 
-pub returns-in-Accepted : goal.returns-in-Accepted
-returns-in-Accepted c =
+pub returns-in-Ok : goal.returns-in-Ok
+returns-in-Ok c =
     let a = c.args in
-    split_there a.rec.now a.packet.now ((sym c.sound.ensures ∙ c.if-not-sound.false)) _ (sym c.in-Accepted.is ∙ (c.check_proof-checked.ensures ∙ ap (λ (ws : List ℕ). check_proof ws c.args.packet.now) c.stakes_of.ensures)) _ c.first_end.ensures
+    split_there a.rec.now a.packet.now ((sym c.sound.ensures ∙ c.if-not-sound.false)) _ (sym c.in-Ok.is ∙ (c.check_proof-checked.ensures ∙ ap (λ (ws : List ℕ). check_proof ws c.args.packet.now) c.stakes_of.ensures)) _ c.first_end.ensures

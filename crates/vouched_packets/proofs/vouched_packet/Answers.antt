@@ -21,17 +21,17 @@ is_watcher-requires c = sound_long _ ((sym c.sound.ensures ∙ c.if-not-sound.fa
 pub returns-then-is_watcher : goal.returns-then-is_watcher
 returns-then-is_watcher c =
     let a = c.args in
-    watcher_told a.rec.now a.packet.now a.list.now ((sym c.sound.ensures ∙ c.if-not-sound.false)) ((c.check_packet-checked.ensures ∙ ap (λ (ws : List ℕ). check_packet ws c.args.packet.now) c.stakes_of.ensures)) _ c.in-Accepted.is (sym c.is_watcher.ensures ∙ c.if-is_watcher.true)
+    watcher_told a.rec.now a.packet.now a.list.now ((sym c.sound.ensures ∙ c.if-not-sound.false)) ((c.check_packet-checked.ensures ∙ ap (λ (ws : List ℕ). check_packet ws c.args.packet.now) c.stakes_of.ensures)) _ c.in-Ok.is (sym c.is_watcher.ensures ∙ c.if-is_watcher.true)
 
 pub list_packet-requires : goal.list_packet-requires
 list_packet-requires c = sound_long _ ((sym c.sound.ensures ∙ c.if-not-sound.false))
 
-pub returns-in-Refused : goal.returns-in-Refused
-returns-in-Refused c =
+pub returns-in-Err : goal.returns-in-Err
+returns-in-Err c =
     let a = c.args in
-    refused_told a.rec.now a.packet.now a.list.now ((sym c.sound.ensures ∙ c.if-not-sound.false)) ((c.check_packet-checked.ensures ∙ ap (λ (ws : List ℕ). check_packet ws c.args.packet.now) c.stakes_of.ensures)) _ c.in-Refused.is
+    refused_told a.rec.now a.packet.now a.list.now ((sym c.sound.ensures ∙ c.if-not-sound.false)) ((c.check_packet-checked.ensures ∙ ap (λ (ws : List ℕ). check_packet ws c.args.packet.now) c.stakes_of.ensures)) _ c.in-Err.is
 
 pub returns-else-is_watcher : goal.returns-else-is_watcher
 returns-else-is_watcher c =
     let a = c.args in
-    firm_told a.rec.now a.packet.now a.list.now ((sym c.sound.ensures ∙ c.if-not-sound.false)) ((c.check_packet-checked.ensures ∙ ap (λ (ws : List ℕ). check_packet ws c.args.packet.now) c.stakes_of.ensures)) _ c.in-Accepted.is (sym c.is_watcher.ensures ∙ c.if-is_watcher.false) c.list_packet.ensures
+    firm_told a.rec.now a.packet.now a.list.now ((sym c.sound.ensures ∙ c.if-not-sound.false)) ((c.check_packet-checked.ensures ∙ ap (λ (ws : List ℕ). check_packet ws c.args.packet.now) c.stakes_of.ensures)) _ c.in-Ok.is (sym c.is_watcher.ensures ∙ c.if-is_watcher.false) c.list_packet.ensures

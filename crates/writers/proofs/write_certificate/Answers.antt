@@ -1,8 +1,8 @@
 -- 17, the refusals of the written rules, or the certificate's bytes.
+use Rattle.std.specs.Prelude.{Ok}
 use mathlib.Core.Path.{sym, ◌∙◌}
 use lib.ListN.{length}
 use borrow.Author.Rules.{rules}
-use Rattle.rulebook.specs.declared.Verdict.TheVariants.{Fine}
 use Rattle.record.specs.Layout.{ledger_of}
 use Rattle.soundness.proofs.Laws.{sound_long}
 use Rattle.numbers.proofs.Stores.{writes_refused, writes_laid}
@@ -25,7 +25,7 @@ judge_certificate-v-requires c = sym c.sound.ensures ∙ c.if-not-sound.false
 pub lay_certificate-requires : goal.lay_certificate-requires
 lay_certificate-requires c =
     let s = c.args in
-    let f = certificate_fine (ledger_of s.rec.now) (length s.buffer.now) _ s.slot.0 s.block (sym c.judge_certificate-v.ensures ∙ c.in-Fine.is) in (
+    let f = certificate_fine (ledger_of s.rec.now) (length s.buffer.now) _ s.slot.0 s.block (sym c.judge_certificate-v.ensures ∙ c.in-Ok.is) in (
       record {
         sound = sym c.sound.ensures ∙ c.if-not-sound.false;
         kind = f.kind;
@@ -35,17 +35,17 @@ lay_certificate-requires c =
       f.there,
     )
 
-pub returns-in-Refused : goal.returns-in-Refused
-returns-in-Refused c =
+pub returns-in-Err : goal.returns-in-Err
+returns-in-Err c =
     let s = c.args in
     writes_refused _ _ s.buffer.now _
     (certificate_judged s.rec.now (length s.buffer.now) s.kind s.slot.0 s.block _ (kind_asked s.rec.now s.kind c.kind_in-asked.ensures c.count.ensures) _ (sym c.sound.ensures ∙ c.if-not-sound.false)
-    (sym c.in-Refused.is ∙ c.judge_certificate-v.ensures))
+    (sym c.in-Err.is ∙ c.judge_certificate-v.ensures))
 
-pub returns-in-Fine : goal.returns-in-Fine
-returns-in-Fine c =
+pub returns-in-Ok : goal.returns-in-Ok
+returns-in-Ok c =
     let s = c.args in
     writes_laid _ _
-    (certificate_judged s.rec.now (length s.buffer.now) s.kind s.slot.0 s.block _ (kind_asked s.rec.now s.kind c.kind_in-asked.ensures c.count.ensures) Fine (sym c.sound.ensures ∙ c.if-not-sound.false)
-    (sym c.in-Fine.is ∙ c.judge_certificate-v.ensures))
+    (certificate_judged s.rec.now (length s.buffer.now) s.kind s.slot.0 s.block _ (kind_asked s.rec.now s.kind c.kind_in-asked.ensures c.count.ensures) (Ok tt) (sym c.sound.ensures ∙ c.if-not-sound.false)
+    (sym c.in-Ok.is ∙ c.judge_certificate-v.ensures))
     c.lay_certificate.ensures

@@ -1,7 +1,7 @@
 -- 17, the refusals of the written rules, or the proof's bytes.
+use Rattle.std.specs.Prelude.{Ok}
 use mathlib.Core.Path.{sym, ◌∙◌}
 use lib.ListN.{length}
-use Rattle.rulebook.specs.declared.Verdict.TheVariants.{Fine}
 use Rattle.record.specs.Layout.{ledger_of}
 use Rattle.writers.proofs.Verdicts.{proof_fine}
 use Rattle.numbers.proofs.Stores.{writes_refused, writes_laid}
@@ -18,13 +18,13 @@ judge_proof-v-requires c = sym c.sound.ensures ∙ c.if-not-sound.false
 
 pub lay_proof-requires : goal.lay_proof-requires
 lay_proof-requires c =
-    let f = (proof_fine (ledger_of c.args.rec.now) (length c.args.buffer.now) c.args.slot.0 c.args.block (sym c.judge_proof-v.ensures ∙ c.in-Fine.is)) in
+    let f = (proof_fine (ledger_of c.args.rec.now) (length c.args.buffer.now) c.args.slot.0 c.args.block (sym c.judge_proof-v.ensures ∙ c.in-Ok.is)) in
     record { sound = (sym c.sound.ensures ∙ c.if-not-sound.false); slot = f.slot; final = f.final; room = f.room }
 
-pub returns-in-Refused : goal.returns-in-Refused
-returns-in-Refused c =
-    writes_refused _ _ c.args.buffer.now _ (proof_judged c.args.rec.now (length c.args.buffer.now) c.args.slot.0 c.args.block _ (sym c.sound.ensures ∙ c.if-not-sound.false) (sym c.in-Refused.is ∙ c.judge_proof-v.ensures))
+pub returns-in-Err : goal.returns-in-Err
+returns-in-Err c =
+    writes_refused _ _ c.args.buffer.now _ (proof_judged c.args.rec.now (length c.args.buffer.now) c.args.slot.0 c.args.block _ (sym c.sound.ensures ∙ c.if-not-sound.false) (sym c.in-Err.is ∙ c.judge_proof-v.ensures))
 
-pub returns-in-Fine : goal.returns-in-Fine
-returns-in-Fine c =
-    writes_laid _ _ (proof_judged c.args.rec.now (length c.args.buffer.now) c.args.slot.0 c.args.block Fine (sym c.sound.ensures ∙ c.if-not-sound.false) (sym c.in-Fine.is ∙ c.judge_proof-v.ensures)) c.lay_proof.ensures
+pub returns-in-Ok : goal.returns-in-Ok
+returns-in-Ok c =
+    writes_laid _ _ (proof_judged c.args.rec.now (length c.args.buffer.now) c.args.slot.0 c.args.block (Ok tt) (sym c.sound.ensures ∙ c.if-not-sound.false) (sym c.in-Ok.is ∙ c.judge_proof-v.ensures)) c.lay_proof.ensures
