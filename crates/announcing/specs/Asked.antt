@@ -5,7 +5,7 @@ use Rattle.rulebook.specs.declared.Refusal.TheVariants as refusal
 use Rattle.rulebook.specs.Tools.{whenever, part}
 use Rattle.rulebook.specs.Ledger.{Ledger}
 use Rattle.rulebook.specs.Inputs.{block_verdict}
-use Rattle.rulebook.specs.PaperNumbers.{Panel, refusal_number}
+use Rattle.rulebook.specs.PaperNumbers.{Panel, refusal_number, panel_of}
 use Rattle.record.specs.Layout.{ledger_of}
 use Rattle.soundness.specs.Sound.{sound_words}
 use Rattle.mail.specs.Policy.{may_announce}
@@ -27,5 +27,4 @@ announced_on ws s b =
 
 -- The number, and beside it 1 for now; 0 for not yet, and beside a refusal.
 unfoldable pub announce_panel : Result Bool Refusal → Panel
-announce_panel (Ok a) = record { number = 0; values = part a 1 ∷ [] }
-announce_panel (Err r) = record { number = refusal_number r; values = 0 ∷ [] }
+announce_panel a = panel_of (0 ∷ []) (λ now. part now 1 ∷ []) a

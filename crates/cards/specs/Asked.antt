@@ -5,7 +5,7 @@ use Rattle.rulebook.specs.declared.Refusal.TheVariants as refusal
 use Rattle.rulebook.specs.Tools.{whenever}
 use Rattle.rulebook.specs.Weights.{slot_ok}
 use Rattle.rulebook.specs.Ledger.{row_at}
-use Rattle.rulebook.specs.PaperNumbers.{Panel, refusal_number}
+use Rattle.rulebook.specs.PaperNumbers.{Panel, refusal_number, panel_of}
 use Rattle.record.specs.Layout.{ledger_of}
 use Rattle.soundness.specs.Sound.{sound_words}
 use Rattle.rulebook.specs.declared.Refusal.{Refusal}
@@ -23,5 +23,4 @@ card_values t = t.skip.0 ∷ t.finals.0 ∷ t.skipcert.0 ∷ t.leader ∷ t.weig
 
 -- The number on the panel and the card's five words beside it, zeros beside a refusal.
 unfoldable pub card_panel : Result Tally Refusal → Panel
-card_panel (Ok t) = record { number = 0; values = card_values t }
-card_panel (Err r) = record { number = refusal_number r; values = 0 ∷ 0 ∷ 0 ∷ 0 ∷ 0 ∷ [] }
+card_panel a = panel_of (0 ∷ 0 ∷ 0 ∷ 0 ∷ 0 ∷ []) card_values a

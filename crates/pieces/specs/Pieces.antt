@@ -4,7 +4,7 @@ use Rattle.std.specs.Prelude.{List, [], ◌∷◌, ◌++◌, ℕ, length, ⊤, R
 use Rattle.rulebook.specs.declared.Refusal.TheVariants as refusal
 use Rattle.rulebook.specs.Tools.{whenever}
 use Rattle.rulebook.specs.Weights.{stakes_fit}
-use Rattle.rulebook.specs.PaperNumbers.{Panel, refusal_number}
+use Rattle.rulebook.specs.PaperNumbers.{Panel, refusal_number, panel_of}
 use Rattle.rulebook.specs.Checker.{check_proof}
 use Rattle.rulebook.specs.declared.Accepted.{Accepted}
 use Rattle.rulebook.specs.declared.Refusal.{Refusal}
@@ -32,8 +32,7 @@ end_answer (since table bytes) = check_proof table bytes
 
 -- "more" is 0 on the panel, with no value beside it: the piece is done.
 unfoldable pub piece_panel : Result ⊤ Refusal → Panel
-piece_panel (Ok tt) = record { number = 0; values = [] }
-piece_panel (Err r) = record { number = refusal_number r; values = [] }
+piece_panel a = panel_of [] (λ more. []) a
 
 -- ---- a sequence of calls
 

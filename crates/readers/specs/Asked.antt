@@ -8,7 +8,7 @@ use Rattle.rulebook.specs.Tools.{whenever, part}
 use Rattle.rulebook.specs.Weights.{slot_ok}
 use Rattle.rulebook.specs.Ledger.{no_block, row_at, cell_at, blocks_at, is_armed}
 use Rattle.rulebook.specs.Inputs.{not_in_table}
-use Rattle.rulebook.specs.PaperNumbers.{Panel, refusal_number}
+use Rattle.rulebook.specs.PaperNumbers.{Panel, refusal_number, panel_of}
 use Rattle.record.specs.Layout.{ledger_of}
 use Rattle.soundness.specs.Sound.{sound_words}
 use Rattle.readers.specs.declared.KeptBlocks.{KeptBlocks}
@@ -62,13 +62,11 @@ head_on ws = whenever (sound_words ws) (λ _. Ok (head_kept ws)) (Err refusal.Ba
 
 -- The number on the panel and the block beside it, 0 beside a refusal.
 unfoldable pub final_panel : Result ℕ Refusal → Panel
-final_panel (Ok b) = record { number = 0; values = b ∷ [] }
-final_panel (Err r) = record { number = refusal_number r; values = 0 ∷ [] }
+final_panel a = panel_of (0 ∷ []) (λ b. b ∷ []) a
 
 -- The number, and beside it 1 where the window is armed; else, and beside a refusal, 0.
 unfoldable pub armed_panel : Result Bool Refusal → Panel
-armed_panel (Ok a) = record { number = 0; values = part a 1 ∷ [] }
-armed_panel (Err r) = record { number = refusal_number r; values = 0 ∷ [] }
+armed_panel a = panel_of (0 ∷ []) (λ armed. part armed 1 ∷ []) a
 
 -- The seven words of a cell: the initial vote as its notar block or the mark of a skip, "up to three different kind 2 blocks, one kind 4
 -- and one kind 5".
@@ -78,8 +76,7 @@ cell_values c =
 
 -- The number and the cell's words beside it, zeros beside a refusal.
 unfoldable pub votes_panel : Result Cell Refusal → Panel
-votes_panel (Ok c) = record { number = 0; values = cell_values c }
-votes_panel (Err r) = record { number = refusal_number r; values = 0 ∷ 0 ∷ 0 ∷ 0 ∷ 0 ∷ 0 ∷ 0 ∷ [] }
+votes_panel a = panel_of (0 ∷ 0 ∷ 0 ∷ 0 ∷ 0 ∷ 0 ∷ 0 ∷ []) cell_values a
 
 -- The three words of a block: its number, its parent's slot, its parent's number.
 abbrev pub block_values : Block → List ℕ
@@ -91,8 +88,7 @@ kept_values k = block_values k.first ++ (block_values k.second ++ (block_values 
 
 -- The number and the twelve words beside it, zeros beside a refusal.
 unfoldable pub blocks_panel : Result KeptBlocks Refusal → Panel
-blocks_panel (Ok k) = record { number = 0; values = kept_values k }
-blocks_panel (Err r) = record { number = refusal_number r; values = 0 ∷ 0 ∷ 0 ∷ 0 ∷ 0 ∷ 0 ∷ 0 ∷ 0 ∷ 0 ∷ 0 ∷ 0 ∷ 0 ∷ [] }
+blocks_panel a = panel_of (0 ∷ 0 ∷ 0 ∷ 0 ∷ 0 ∷ 0 ∷ 0 ∷ 0 ∷ 0 ∷ 0 ∷ 0 ∷ 0 ∷ []) kept_values a
 
 -- The two words of a slot's marks.
 abbrev pub mark_values : SlotMarks → List ℕ
@@ -100,8 +96,7 @@ mark_values m = m.timedout ∷ m.clash ∷ []
 
 -- The number and the two marks beside it, zeros beside a refusal.
 unfoldable pub marks_panel : Result SlotMarks Refusal → Panel
-marks_panel (Ok m) = record { number = 0; values = mark_values m }
-marks_panel (Err r) = record { number = refusal_number r; values = 0 ∷ 0 ∷ [] }
+marks_panel a = panel_of (0 ∷ 0 ∷ []) mark_values a
 
 -- The four words of a head: own number, nodes, stake, genesis.
 abbrev pub head_values : RecordHead → List ℕ
@@ -109,5 +104,4 @@ head_values h = h.own.0 ∷ h.nodes ∷ h.stake.0 ∷ h.genesis ∷ []
 
 -- The number and the four words beside it, zeros beside a refusal.
 unfoldable pub head_panel : Result RecordHead Refusal → Panel
-head_panel (Ok h) = record { number = 0; values = head_values h }
-head_panel (Err r) = record { number = refusal_number r; values = 0 ∷ 0 ∷ 0 ∷ 0 ∷ [] }
+head_panel a = panel_of (0 ∷ 0 ∷ 0 ∷ 0 ∷ []) head_values a

@@ -6,7 +6,7 @@ use Rattle.rulebook.specs.Tools.{whenever}
 use Rattle.rulebook.specs.Weights.{most_stake, missing}
 use Rattle.rulebook.specs.Ledger.{none}
 use Rattle.rulebook.specs.Pool.{weigh}
-use Rattle.rulebook.specs.PaperNumbers.{Panel, refusal_number}
+use Rattle.rulebook.specs.PaperNumbers.{Panel, refusal_number, panel_of}
 use Rattle.record.specs.Layout.{ledger_of}
 use Rattle.readers.specs.declared.BlockWeights.{BlockWeights}
 use Rattle.readers.specs.Asked.{on_slot}
@@ -40,8 +40,7 @@ weight_values w = w.notar.0 ∷ w.fallback.0 ∷ w.skip.0 ∷ w.missing.0 ∷ []
 
 -- The number and the four weights beside it, zeros beside a refusal.
 unfoldable pub weights_panel : Result BlockWeights Refusal → Panel
-weights_panel (Ok w) = record { number = 0; values = weight_values w }
-weights_panel (Err r) = record { number = refusal_number r; values = 0 ∷ 0 ∷ 0 ∷ 0 ∷ [] }
+weights_panel a = panel_of (0 ∷ 0 ∷ 0 ∷ 0 ∷ []) weight_values a
 
 -- A notar weight n and a skip weight k within the total t: their sum does not wrap.
 pub record Light (t n k : ℕ) : Type 0 where

@@ -2,7 +2,7 @@
 use Rattle.std.specs.Prelude.{List, [], ◌∷◌, ℕ, Result, Ok, Err}
 use Rattle.rulebook.specs.declared.Refusal.TheVariants as refusal
 use Rattle.rulebook.specs.Tools.{whenever}
-use Rattle.rulebook.specs.PaperNumbers.{Panel, refusal_number}
+use Rattle.rulebook.specs.PaperNumbers.{Panel, refusal_number, panel_of}
 use Rattle.rulebook.specs.Ledger.{table_of}
 use Rattle.rulebook.specs.Checker.{check_proof}
 use Rattle.record.specs.Layout.{ledger_of}
@@ -22,5 +22,4 @@ split_on ws packet = whenever (sound_words ws) (λ _. split_by packet (check_pro
 
 -- The number, and beside it the bytes of the first certificate; 0 beside a refusal.
 unfoldable pub split_panel : Result ℕ Refusal → Panel
-split_panel (Ok n) = record { number = 0; values = n ∷ [] }
-split_panel (Err r) = record { number = refusal_number r; values = 0 ∷ [] }
+split_panel a = panel_of (0 ∷ []) (λ n. n ∷ []) a
