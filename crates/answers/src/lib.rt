@@ -16,7 +16,7 @@ ghost use Rattle.answers.specs.Face.{Beside, vote_values, accepted_values};
 
 use differences::{DifferAnswer, side_number};
 use inquest_lines::ListAnswer;
-use kinds::{number_in, refusal_missing, refusal_number, vote_number};
+use kinds::{number_in, refusal_missing};
 use readers::{
     BlockWeights, KeptBlocks, RecordHead, SlotMarks, };
 use rulebook::{
@@ -29,7 +29,7 @@ pub fn start_number(a: Result<(), Refusal>) -> u64
 {
     match a {
         Ok(()) => 0,
-        Err(r) => refusal_number(r),
+        Err(r) => u64::from(r),
     }
 }
 
@@ -39,7 +39,7 @@ pub fn step_number(a: Result<usize, Refusal>) -> u64
 {
     match a {
         Ok(_) => 0,
-        Err(r) => refusal_number(r),
+        Err(r) => u64::from(r),
     }
 }
 
@@ -59,7 +59,7 @@ pub fn write_number(a: Result<usize, Refusal>) -> u64
 {
     match a {
         Ok(_) => 0,
-        Err(r) => refusal_number(r),
+        Err(r) => u64::from(r),
     }
 }
 
@@ -79,7 +79,7 @@ pub fn read_number(a: Result<Vote, Refusal>) -> u64
 {
     match a {
         Ok(_) => 0,
-        Err(r) => refusal_number(r),
+        Err(r) => u64::from(r),
     }
 }
 
@@ -100,7 +100,7 @@ fn vote_values(v: Vote) -> [u64; 4]
     let k = v.kind;
     let n = v.node;
     let s = v.slot;
-    [vote_number(k), n.0 as u64, s.0 as u64, v.block]
+    [u64::from(k), n.0 as u64, s.0 as u64, v.block]
 }
 
 // What the checker answers, as a number.
@@ -109,7 +109,7 @@ pub fn check_number(a: Result<Accepted, Refusal>) -> u64
 {
     match a {
         Ok(_) => 0,
-        Err(r) => refusal_number(r),
+        Err(r) => u64::from(r),
     }
 }
 
@@ -129,7 +129,7 @@ pub fn piece_number(a: Result<(), Refusal>) -> u64
 {
     match a {
         Ok(()) => 0,
-        Err(r) => refusal_number(r),
+        Err(r) => u64::from(r),
     }
 }
 
@@ -159,8 +159,8 @@ pub fn differ_number(a: DifferAnswer) -> u64
 {
     match a {
         DifferAnswer::Listed(_) => 0,
-        DifferAnswer::BadRecord(_) => refusal_number(Refusal::BadRecord),
-        DifferAnswer::NoRoom(_) => refusal_number(Refusal::NoRoom),
+        DifferAnswer::BadRecord(_) => u64::from(Refusal::BadRecord),
+        DifferAnswer::NoRoom(_) => u64::from(Refusal::NoRoom),
     }
 }
 
@@ -181,9 +181,9 @@ pub fn list_number(a: ListAnswer) -> u64
 {
     match a {
         ListAnswer::Listed(_) => 0,
-        ListAnswer::BadRecord(_) => refusal_number(Refusal::BadRecord),
-        ListAnswer::Refused(r) => refusal_number(r),
-        ListAnswer::NoRoom(_) => refusal_number(Refusal::NoRoom),
+        ListAnswer::BadRecord(_) => u64::from(Refusal::BadRecord),
+        ListAnswer::Refused(r) => u64::from(r),
+        ListAnswer::NoRoom(_) => u64::from(Refusal::NoRoom),
     }
 }
 
@@ -205,7 +205,7 @@ pub fn card_number(a: Result<Tally, Refusal>) -> u64
 {
     match a {
         Ok(_) => 0,
-        Err(r) => refusal_number(r),
+        Err(r) => u64::from(r),
     }
 }
 
@@ -236,7 +236,7 @@ pub fn final_number(a: Result<u64, Refusal>) -> u64
 {
     match a {
         Ok(_) => 0,
-        Err(r) => refusal_number(r),
+        Err(r) => u64::from(r),
     }
 }
 
@@ -256,7 +256,7 @@ pub fn armed_number(a: Result<bool, Refusal>) -> u64
 {
     match a {
         Ok(_) => 0,
-        Err(r) => refusal_number(r),
+        Err(r) => u64::from(r),
     }
 }
 
@@ -276,7 +276,7 @@ pub fn split_number(a: Result<usize, Refusal>) -> u64
 {
     match a {
         Ok(_) => 0,
-        Err(r) => refusal_number(r),
+        Err(r) => u64::from(r),
     }
 }
 
@@ -296,7 +296,7 @@ pub fn announce_number(a: Result<bool, Refusal>) -> u64
 {
     match a {
         Ok(_) => 0,
-        Err(r) => refusal_number(r),
+        Err(r) => u64::from(r),
     }
 }
 
@@ -316,7 +316,7 @@ pub fn votes_number(a: Result<Cell, Refusal>) -> u64
 {
     match a {
         Ok(_) => 0,
-        Err(r) => refusal_number(r),
+        Err(r) => u64::from(r),
     }
 }
 
@@ -336,7 +336,7 @@ pub fn blocks_number(a: Result<KeptBlocks, Refusal>) -> u64
 {
     match a {
         Ok(_) => 0,
-        Err(r) => refusal_number(r),
+        Err(r) => u64::from(r),
     }
 }
 
@@ -356,7 +356,7 @@ pub fn marks_number(a: Result<SlotMarks, Refusal>) -> u64
 {
     match a {
         Ok(_) => 0,
-        Err(r) => refusal_number(r),
+        Err(r) => u64::from(r),
     }
 }
 
@@ -376,7 +376,7 @@ pub fn head_number(a: Result<RecordHead, Refusal>) -> u64
 {
     match a {
         Ok(_) => 0,
-        Err(r) => refusal_number(r),
+        Err(r) => u64::from(r),
     }
 }
 
@@ -396,7 +396,7 @@ pub fn weights_number(a: Result<BlockWeights, Refusal>) -> u64
 {
     match a {
         Ok(_) => 0,
-        Err(r) => refusal_number(r),
+        Err(r) => u64::from(r),
     }
 }
 

@@ -10,7 +10,6 @@ ghost use Rattle.differences.specs.Lent.{Laid, most_lines, SameCell, Sounds, Ali
 
 use cells::place_of;
 use difference_lines::Side;
-use kinds::vote_number;
 use record::{LAST_SLOT, count, load_cell, stake};
 use rulebook::{Cell, Node, Place, Slot, Vote, VoteKind};
 use soundness::sound;
@@ -60,7 +59,7 @@ fn put_line(list: &mut [u64], at: usize, v: Vote, side: Side) -> usize
     let kind = v.kind;
     put_word(list, i, slot.0 as u64);
     put_word(list, i + 1, node.0 as u64);
-    put_word(list, i + 2, vote_number(kind));
+    put_word(list, i + 2, u64::from(kind));
     put_word(list, i + 3, v.block);
     put_word(list, i + 4, side_number(side));
     at + 1

@@ -5,15 +5,14 @@ ghost use Rattle.std.specs.Prelude.{◌≡◌};
 ghost use Rattle.rulebook.specs.Messages.{vote_of};
 ghost use Rattle.inputs.specs.Inputs.{vote_input, block_input, timeout_input};
 
-use kinds::vote_kind;
-use rulebook::{Block, Input, Node, Slot, Vote};
+use rulebook::{Block, Input, Node, Slot, Vote, VoteKind};
 
 // The vote of a kind's number, a node, a slot and a block.
 pub fn vote_of(kind: u64, node: Node, slot: Slot, block: u64) -> Vote
     ensures { result ≡ vote_of kind node.0 slot.0 block }
 {
     Vote {
-        kind: vote_kind(kind),
+        kind: VoteKind::from(kind),
         node,
         slot,
         block,

@@ -8,7 +8,6 @@ ghost use Rattle.inquest_lines.specs.Lent.{Laid, most_lines};
 use difference_lines::Side;
 use differences::put_word;
 use inquest::Line;
-use kinds::vote_number;
 use rulebook::Refusal;
 
 // How many words a line has.
@@ -34,7 +33,7 @@ pub fn put_line(list: &mut [u64], at: usize, x: Line) -> usize
     let kind = x.kind;
     put_word(list, i, slot.0 as u64);
     put_word(list, i + 1, node.0 as u64);
-    put_word(list, i + 2, vote_number(kind));
+    put_word(list, i + 2, u64::from(kind));
     put_word(list, i + 3, x.block);
     put_word(list, i + 4, x.source);
     at + 1

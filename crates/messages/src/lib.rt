@@ -8,7 +8,7 @@ ghost use Rattle.numbers.specs.Written.{Room, Written};
 ghost use Rattle.messages.specs.Faults.{fault_of, left_over, unread_of};
 
 use inputs::vote_of;
-use kinds::{count_fits, is_other_vote, not_in_table, slot_ok, vote_misfits, vote_number};
+use kinds::{count_fits, is_other_vote, not_in_table, slot_ok, vote_misfits};
 use numbers::{read_number, write_number};
 use rulebook::{Unread, Node, Refusal, Slot, Vote};
 
@@ -125,7 +125,7 @@ fn lay_vote(buffer: &mut [u8], v: Vote) -> usize
     let kind = v.kind;
     let node = v.node;
     let slot = v.slot;
-    let p = write_number(buffer, 0, vote_number(kind));
+    let p = write_number(buffer, 0, u64::from(kind));
     let q = write_number(buffer, p, node.0 as u64);
     let r = write_number(buffer, q, slot.0 as u64);
     write_number(buffer, r, v.block)

@@ -3,7 +3,6 @@
 // certificate and a proof: their numbers are told, and whether record, outbox and buffers are as found. Any other line is a title.
 #![tactic(auto)]
 
-use kinds::refusal_number;
 use node::step;
 use page::{end_line, say, tell};
 use rulebook::{Refusal, Input, Node, Slot};
@@ -66,14 +65,14 @@ fn number(n: u64) {
 fn tell_step(answer: Result<usize, Refusal>) {
     match answer {
         Ok(n) => number(0),
-        Err(r) => number(refusal_number(r)),
+        Err(r) => number(u64::from(r)),
     }
 }
 
 fn tell_write(answer: Result<usize, Refusal>) {
     match answer {
         Ok(n) => number(0),
-        Err(r) => number(refusal_number(r)),
+        Err(r) => number(u64::from(r)),
     }
 }
 
@@ -159,7 +158,7 @@ fn lines(bytes: &[u8], sound: &mut [u64]) {
 fn tell_start(answer: Result<(), Refusal>) {
     match answer {
         Ok(()) => number(0),
-        Err(r) => number(refusal_number(r)),
+        Err(r) => number(u64::from(r)),
     }
     end_line();
 }

@@ -8,7 +8,6 @@ ghost use Rattle.record.specs.Layout.{ledger_of};
 ghost use Rattle.storing.specs.Storing.{Storing};
 
 use cells::with_vote;
-use kinds::vote_number;
 use pool::weight_of;
 use record::{load_card, load_cell, stake, store_card, store_cell};
 use rulebook::{Node, Slot, Tally, VoteKind, Weight, Who};
@@ -25,7 +24,7 @@ fn change_of(rec: &[u64], s: Slot, n: Node, k: VoteKind, b: u64) -> Tally
 {
     let c = load_cell(rec, s, n);
     let w = stake(rec, n);
-    if vote_number(k) == NOTAR {
+    if u64::from(k) == NOTAR {
         return adds(c, k, b, w, weight_of(rec, s, Who::Notar(b)));
     }
     adds(c, k, b, w, Weight(0))

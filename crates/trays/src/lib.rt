@@ -14,7 +14,6 @@ ghost use Rattle.voter.specs.Voting.{Onward};
 ghost use Rattle.trays.specs.Lent.{TrayOf, Serving, Taking, VoteServed, Ready, AllServed};
 
 use inputs::vote_of;
-use kinds::refusal_number;
 use looks::{first_looks, note_vote};
 use rulebook::{Node, Refusal, Slot, Vote};
 use run::settle_with;
@@ -67,7 +66,7 @@ fn serve_vote(rec: &mut [u64], outbox: &mut [u64], looks: &mut [u64], made: usiz
     match vote_verdict(rec, v) {
         Err(r) => Taken {
             made,
-            number: refusal_number(r),
+            number: u64::from(r),
         },
         Ok(()) => Taken {
             made: take_vote(rec, outbox, looks, made, v),

@@ -7,7 +7,6 @@ ghost use Rattle.rulebook.specs.Rules.{cast, cast_skip, cast_skips};
 ghost use Rattle.voter.specs.Outbox.{state_in, Told, Moved};
 ghost use Rattle.voter.specs.Voting.{Castable, CastingAt, Onward};
 
-use kinds::vote_number;
 use record::{own, own_cell};
 use rulebook::{Cell, Slot, VoteKind};
 use storing::store_vote;
@@ -38,7 +37,7 @@ pub fn cast_vote(
 {
     let n = own(rec);
     store_vote(rec, s, n, k, block);
-    tell(outbox, at, vote_number(k), s, block)
+    tell(outbox, at, u64::from(k), s, block)
 }
 
 // Whether a cell has no initial vote.

@@ -8,8 +8,8 @@ returns-in-Listed c = simp c.in-Listed.is
 
 pub returns-in-BadRecord : goal.returns-in-BadRecord
 unfolding differ_panel
-returns-in-BadRecord c = simp c.in-BadRecord.is c.refusal_number.ensures
+returns-in-BadRecord c = simp c.in-BadRecord.is c.from.ensures
 
 pub returns-in-NoRoom : goal.returns-in-NoRoom
 unfolding differ_panel
-returns-in-NoRoom c = simp c.in-NoRoom.is c.refusal_number-in-NoRoom.ensures
+returns-in-NoRoom c = simp c.in-NoRoom.is c.from-in-NoRoom.ensures

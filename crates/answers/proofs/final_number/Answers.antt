@@ -9,4 +9,4 @@ returns-in-Block c = search rules
 
 pub returns-in-Err : goal.returns-in-Err
 unfolding final_panel
-returns-in-Err c = simp c.in-Err.is c.refusal_number.ensures
+returns-in-Err c = simp c.in-Err.is c.from.ensures

@@ -8,12 +8,12 @@ returns-in-Listed c = simp c.in-Listed.is
 
 pub returns-in-BadRecord : goal.returns-in-BadRecord
 unfolding list_panel
-returns-in-BadRecord c = simp c.in-BadRecord.is c.refusal_number.ensures
+returns-in-BadRecord c = simp c.in-BadRecord.is c.from.ensures
 
 pub returns-in-Err : goal.returns-in-Err
 unfolding list_panel
-returns-in-Err c = simp c.in-Err.is c.refusal_number-in-Err.ensures
+returns-in-Err c = simp c.in-Err.is c.from-in-Err.ensures
 
 pub returns-in-NoRoom : goal.returns-in-NoRoom
 unfolding list_panel
-returns-in-NoRoom c = simp c.in-NoRoom.is c.refusal_number-in-NoRoom.ensures
+returns-in-NoRoom c = simp c.in-NoRoom.is c.from-in-NoRoom.ensures

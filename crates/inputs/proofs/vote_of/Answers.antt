@@ -5,4 +5,4 @@ use Rattle.inputs.proofs.vote_of.Goals as goal
 
 pub returns : goal.returns
 unfolding vote_of
-returns c = rw (← c.vote_kind.ensures) refl
+returns c = rw (← c.from.ensures) refl

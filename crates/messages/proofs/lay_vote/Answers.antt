@@ -10,20 +10,20 @@ use Rattle.messages.proofs.lay_vote.Goals as goal
 
 pub write_number-p-requires : goal.write_number-p-requires
 write_number-p-requires c =
-    omega (arith, message_length c.args.v, ap (λ (x : ℕ). length (number_bytes x)) c.vote_number.ensures)
+    omega (arith, message_length c.args.v, ap (λ (x : ℕ). length (number_bytes x)) c.from.ensures)
 
 pub write_number-q-requires : goal.write_number-q-requires
 write_number-q-requires c =
-    omega (arith, message_length c.args.v, ap (λ (x : ℕ). length (number_bytes x)) c.vote_number.ensures)
+    omega (arith, message_length c.args.v, ap (λ (x : ℕ). length (number_bytes x)) c.from.ensures)
 
 pub write_number-r-requires : goal.write_number-r-requires
 write_number-r-requires c =
-    omega (arith, message_length c.args.v, ap (λ (x : ℕ). length (number_bytes x)) c.vote_number.ensures)
+    omega (arith, message_length c.args.v, ap (λ (x : ℕ). length (number_bytes x)) c.from.ensures)
 
 pub write_number-requires : goal.write_number-requires
 write_number-requires c =
-    omega (arith, message_length c.args.v, ap (λ (x : ℕ). length (number_bytes x)) c.vote_number.ensures)
+    omega (arith, message_length c.args.v, ap (λ (x : ℕ). length (number_bytes x)) c.from.ensures)
 
 pub returns : goal.returns
 returns c =
-    four c.args.v c.requires.ends c.vote_number.ensures c.write_number-p.ensures c.write_number-q.ensures c.write_number-r.ensures c.write_number.ensures
+    four c.args.v c.requires.ends c.from.ensures c.write_number-p.ensures c.write_number-q.ensures c.write_number-r.ensures c.write_number.ensures

@@ -19,8 +19,8 @@ pub adds-requires : goal.adds-requires
 adds-requires c =
     (omega (arith, c.stake-w.ensures, stake_small c.requires), omega (arith, c.weight_of.ensures, weight_small c.requires (who.Notar c.args.b)))
 
-pub returns-then-vote_number-eq-NOTAR : goal.returns-then-vote_number-eq-NOTAR
-returns-then-vote_number-eq-NOTAR c =
+pub returns-then-from-eq-NOTAR : goal.returns-then-vote_number-eq-NOTAR
+returns-then-from-eq-NOTAR c =
     c.adds.ensures
     ∙ change_notar (ledger_of c.args.rec.now) c.args.s.0 c.args.n.0 c.args.k c.args.b _ _ _ c.load_cell-c.ensures c.stake-w.ensures c.weight_of.ensures
 
@@ -30,4 +30,4 @@ adds-requires-2 c = (omega (arith, c.stake-w.ensures, stake_small c.requires), o
 pub returns : goal.returns
 returns c =
     c.adds-2.ensures
-    ∙ change_other (ledger_of c.args.rec.now) c.args.s.0 c.args.n.0 c.args.k c.args.b _ _ _ c.load_cell-c.ensures c.stake-w.ensures (λ e. c.if-vote_number-eq-NOTAR.false (c.vote_number.ensures ∙ e))
+    ∙ change_other (ledger_of c.args.rec.now) c.args.s.0 c.args.n.0 c.args.k c.args.b _ _ _ c.load_cell-c.ensures c.stake-w.ensures (λ e. c.if-from-eq-NOTAR.false (c.from.ensures ∙ e))

@@ -12,7 +12,7 @@ take_vote-requires c =
 
 pub returns-in-Err : goal.returns-in-Err
 returns-in-Err c =
-    (c.requires.1, vote_refused c.args.v c.requires.0 _ _ (sym c.vote_verdict.ensures ∙ c.in-Err.is) c.refusal_number.ensures)
+    (c.requires.1, vote_refused c.args.v c.requires.0 _ _ (sym c.vote_verdict.ensures ∙ c.in-Err.is) c.from.ensures)
 
 pub returns-in-Ok : goal.returns-in-Ok
 returns-in-Ok c =

@@ -5,4 +5,4 @@ use Rattle.voter.proofs.cast_vote.Goals as goal
 pub returns : goal.returns
 returns c =
     let a = c.args in
-    moved_cast a.k c.vote_number.result c.own-n.result.0 a.s.0 a.block c.tell.ensures c.vote_number.ensures c.store_vote.ensures c.own-n.ensures
+    moved_cast a.k c.from.result c.own-n.result.0 a.s.0 a.block c.tell.ensures c.from.ensures c.store_vote.ensures c.own-n.ensures
