@@ -5,7 +5,7 @@
 use rulebook::{Node, Slot, VoteKind};
 
 // A line of the inquest: a vote in a firm's name, and what tells of it.
-#[derive(Clone, Copy)]
+#[derive(Clone, Copy, Debug, PartialEq, Eq)]
 pub struct Line {
     pub slot: Slot,
     pub node: Node,
