@@ -8,6 +8,7 @@ ghost use Rattle.inputs.specs.Inputs.{vote_input, block_input, timeout_input};
 use rulebook::{Block, Input, Node, Slot, Vote, VoteKind};
 
 // The vote of a kind's number, a node, a slot and a block.
+#[tactic(auto, unfolding(rulebook::specs::Messages::vote_of))]
 pub fn vote_of(kind: u64, node: Node, slot: Slot, block: u64) -> Vote
     ensures { result ≡ vote_of kind node.0 slot.0 block }
 {
