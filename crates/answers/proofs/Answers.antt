@@ -12,9 +12,9 @@ use Rattle.taking.specs.Taking.{TakeOf}
 use Rattle.starts.specs.Starting.{StartOf, WatchOf}
 use Rattle.trays.specs.Lent.{TrayOf}
 use Rattle.cards.specs.Asked.{card_panel}
-use Rattle.differences.specs.declared.DifferAnswer.{DifferAnswer}
+use Rattle.differences.specs.declared.DifferRefusal.{DifferRefusal}
 use Rattle.differences.specs.Lent.{DifferOf, differ_panel}
-use Rattle.inquest_lines.specs.declared.ListAnswer.{ListAnswer}
+use Rattle.inquest_lines.specs.declared.ListRefusal.{ListRefusal}
 use Rattle.inquest_lines.specs.Lent.{Told, ToldIn, list_panel}
 use Rattle.pieces.specs.Pieces.{piece_panel}
 use Rattle.pieces.specs.State.{nodes, PieceOf, EndOf, end_leaves}
@@ -174,30 +174,30 @@ checked count b a n vs m s e d f =
       lacked = f ∙ ap check_missing s;
     }
 
-pub compared : (one two list : List ℕ) (a : DifferAnswer) (n k : ℕ) (left : List ℕ) → DifferOf one two list a left
+pub compared : (one two list : List ℕ) (a : Result ℕ DifferRefusal) (n k : ℕ) (left : List ℕ) → DifferOf one two list a left
     → n ≡ (differ_panel a).number → Beside k (differ_panel a).values → Compared one two list n k left
 compared one two list a n k left s e d =
     record {
-      numbered = e ∙ ap (λ (x : DifferAnswer). (differ_panel x).number) s.answered;
-      counted = d ∙ ap (λ (x : DifferAnswer). (differ_panel x).values) s.answered;
+      numbered = e ∙ ap (λ (x : Result ℕ DifferRefusal). (differ_panel x).number) s.answered;
+      counted = d ∙ ap (λ (x : Result ℕ DifferRefusal). (differ_panel x).values) s.answered;
       lines = s.listed;
     }
 
-pub lines_read : (told : Told) (list : List ℕ) (a : ListAnswer) (n k : ℕ) (left : List ℕ) → ToldIn list told a left
+pub lines_read : (told : Told) (list : List ℕ) (a : Result ℕ ListRefusal) (n k : ℕ) (left : List ℕ) → ToldIn list told a left
     → n ≡ (list_panel a).number → Beside k (list_panel a).values → LinesRead told list n k left
 lines_read told list a n k left s e d =
     record {
-      numbered = e ∙ ap (λ (x : ListAnswer). (list_panel x).number) s.answered;
-      counted = d ∙ ap (λ (x : ListAnswer). (list_panel x).values) s.answered;
+      numbered = e ∙ ap (λ (x : Result ℕ ListRefusal). (list_panel x).number) s.answered;
+      counted = d ∙ ap (λ (x : Result ℕ ListRefusal). (list_panel x).values) s.answered;
       lines = s.listed;
     }
 
-pub certificates_read : (told : kept.Listing) (list : List ℕ) (a : ListAnswer) (n k : ℕ) (left : List ℕ) → kept.ToldIn list told a left
+pub certificates_read : (told : kept.Listing) (list : List ℕ) (a : Result ℕ ListRefusal) (n k : ℕ) (left : List ℕ) → kept.ToldIn list told a left
     → n ≡ (list_panel a).number → Beside k (list_panel a).values → CertificatesRead told list n k left
 certificates_read told list a n k left s e d =
     record {
-      numbered = e ∙ ap (λ (x : ListAnswer). (list_panel x).number) s.answered;
-      counted = d ∙ ap (λ (x : ListAnswer). (list_panel x).values) s.answered;
+      numbered = e ∙ ap (λ (x : Result ℕ ListRefusal). (list_panel x).number) s.answered;
+      counted = d ∙ ap (λ (x : Result ℕ ListRefusal). (list_panel x).values) s.answered;
       lines = s.listed;
     }
 

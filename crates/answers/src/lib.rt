@@ -14,8 +14,8 @@ ghost use Rattle.readers.specs.Weighed.{weight_values, weights_panel};
 ghost use Rattle.vouched_packets.specs.Split.{split_panel};
 ghost use Rattle.answers.specs.Face.{Beside, vote_values, accepted_values};
 
-use differences::{DifferAnswer, side_number};
-use inquest_lines::ListAnswer;
+use differences::{DifferRefusal, side_number};
+use inquest_lines::ListRefusal;
 use kinds::{number_in, refusal_missing};
 use readers::{
     BlockWeights, KeptBlocks, RecordHead, SlotMarks, };
@@ -154,48 +154,48 @@ fn accepted_values(count: usize, x: Accepted) -> [u64; 5]
 }
 
 // What the comparison of two records answers, as a number.
-pub fn differ_number(a: DifferAnswer) -> u64
+pub fn differ_number(a: Result<usize, DifferRefusal>) -> u64
     ensures { result ≡ (differ_panel a).number }
 {
     match a {
-        DifferAnswer::Listed(_) => 0,
-        DifferAnswer::BadRecord(_) => u64::from(Refusal::BadRecord),
-        DifferAnswer::NoRoom(_) => u64::from(Refusal::NoRoom),
+        Ok(_) => 0,
+        Err(DifferRefusal::BadRecord(_)) => u64::from(Refusal::BadRecord),
+        Err(DifferRefusal::NoRoom(_)) => u64::from(Refusal::NoRoom),
     }
 }
 
 // How many lines there are, beside 17 the side, beside 9 how many lines are needed.
-pub fn differ_value(a: DifferAnswer) -> usize
+pub fn differ_value(a: Result<usize, DifferRefusal>) -> usize
     ensures { Beside result (differ_panel a).values }
 {
     match a {
-        DifferAnswer::Listed(n) => n,
-        DifferAnswer::BadRecord(s) => side_number(s) as usize,
-        DifferAnswer::NoRoom(n) => n,
+        Ok(n) => n,
+        Err(DifferRefusal::BadRecord(s)) => side_number(s) as usize,
+        Err(DifferRefusal::NoRoom(n)) => n,
     }
 }
 
 // What a question for a list answers, as a number.
-pub fn list_number(a: ListAnswer) -> u64
+pub fn list_number(a: Result<usize, ListRefusal>) -> u64
     ensures { result ≡ (list_panel a).number }
 {
     match a {
-        ListAnswer::Listed(_) => 0,
-        ListAnswer::BadRecord(_) => u64::from(Refusal::BadRecord),
-        ListAnswer::Refused(r) => u64::from(r),
-        ListAnswer::NoRoom(_) => u64::from(Refusal::NoRoom),
+        Ok(_) => 0,
+        Err(ListRefusal::BadRecord(_)) => u64::from(Refusal::BadRecord),
+        Err(ListRefusal::Refused(r)) => u64::from(r),
+        Err(ListRefusal::NoRoom(_)) => u64::from(Refusal::NoRoom),
     }
 }
 
 // How many lines there are, beside 17 of two records the side, beside 9 how many lines are needed, beside another refusal 0.
-pub fn list_value(a: ListAnswer) -> usize
+pub fn list_value(a: Result<usize, ListRefusal>) -> usize
     ensures { Beside result (list_panel a).values }
 {
     match a {
-        ListAnswer::Listed(n) => n,
-        ListAnswer::BadRecord(s) => side_number(s) as usize,
-        ListAnswer::Refused(_) => 0,
-        ListAnswer::NoRoom(n) => n,
+        Ok(n) => n,
+        Err(ListRefusal::BadRecord(s)) => side_number(s) as usize,
+        Err(ListRefusal::Refused(_)) => 0,
+        Err(ListRefusal::NoRoom(n)) => n,
     }
 }
 

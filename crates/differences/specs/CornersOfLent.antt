@@ -1,5 +1,5 @@
 -- Computed cases of two lent records compared: 17 with its side, 9 with the lines needed, the lines and the words past them.
-use Rattle.std.specs.Prelude.{◌≡◌, true, false, List, [], ◌∷◌, ◌++◌, ℕ, T}
+use Rattle.std.specs.Prelude.{◌≡◌, true, false, List, [], ◌∷◌, ◌++◌, ℕ, T, Err}
 use Rattle.rulebook.specs.Ledger.{Ledger, fresh}
 use Rattle.rulebook.specs.Scripts.{vote, stored, equals}
 use Rattle.rulebook.specs.Computes.{rules}
@@ -7,7 +7,7 @@ use Rattle.record.specs.Layout.{ledger_of}
 use Rattle.soundness.specs.Sound.{sound_words}
 use Rattle.difference_lines.specs.Lines.{is_same, keeps, side_number, spell_lines, line_of, blocks_of, ascending, lines_over, block_lines, cell_lines, lines_to, slot_lines, vote_lines, same_tables, differences}
 use Rattle.difference_lines.specs.declared.Side.TheVariants as side
-use Rattle.differences.specs.declared.DifferAnswer.TheVariants as answer
+use Rattle.differences.specs.declared.DifferRefusal.TheVariants as why
 use Rattle.differences.specs.Lent.{Differed, refused_by, listed_in, differ, differ_panel}
 
 -- The panel's number and value, and the lines' words.
@@ -45,6 +45,6 @@ unfolding rules side_number spell_lines differ differ_panel
 bad_side good bad other a b = rw (a, b) tt
 
 -- The panel of a bad record of either side by itself.
-bad_panels : T (equals (shown (refused_by (answer.BadRecord side.First)) ++ shown (refused_by (answer.BadRecord side.Second))) ((17 ∷ 1 ∷ []) ∷ [] ∷ (17 ∷ 2 ∷ []) ∷ [] ∷ []))
+bad_panels : T (equals (shown (refused_by (Err (why.BadRecord side.First))) ++ shown (refused_by (Err (why.BadRecord side.Second)))) ((17 ∷ 1 ∷ []) ∷ [] ∷ (17 ∷ 2 ∷ []) ∷ [] ∷ []))
 unfolding rules side_number spell_lines differ_panel
 bad_panels = tt

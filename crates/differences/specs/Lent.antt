@@ -1,5 +1,5 @@
 -- What is answered about two lent records, and the lent list afterwards.
-use Rattle.std.specs.Prelude.{◌≡◌, Bool, true, List, [], ◌∷◌, ℕ, suc, ◌+◌, ◌*◌, ◌≤◌, ◌<◌, length, leb}
+use Rattle.std.specs.Prelude.{◌≡◌, Bool, true, List, [], ◌∷◌, ℕ, suc, ◌+◌, ◌*◌, ◌≤◌, ◌<◌, length, leb, Result, Ok, Err}
 use Rattle.std.proofs.lemmas.List.Edits.{sets}
 use Rattle.rulebook.specs.declared.Cell.{Cell}
 use Rattle.rulebook.specs.Tools.{whenever}
@@ -10,23 +10,23 @@ use Rattle.rulebook.specs.Writers.{over}
 use Rattle.record.specs.Layout.{ledger_of}
 use Rattle.soundness.specs.Sound.{sound_words}
 use Rattle.difference_lines.specs.declared.Side.TheVariants as side
-use Rattle.differences.specs.declared.DifferAnswer.{DifferAnswer}
-use Rattle.differences.specs.declared.DifferAnswer.TheVariants as answer
+use Rattle.differences.specs.declared.DifferRefusal.{DifferRefusal}
+use Rattle.differences.specs.declared.DifferRefusal.TheVariants as why
 use Rattle.difference_lines.specs.Lines.{Line, side_number, spell_lines, same_tables, differences}
 
 -- The answer, and the lines that stand from the list's front.
 pub record Differed : Type 0 where
-  pub answer : DifferAnswer
+  pub answer : Result ℕ DifferRefusal
   pub lines : List Line
 
 -- A refusal puts no line.
-abbrev pub refused_by : DifferAnswer → Differed
+abbrev pub refused_by : Result ℕ DifferRefusal → Differed
 refused_by a = record { answer = a; lines = [] }
 
 -- "A list buffer that is too small for the whole list is 9, with the number of lines needed": a list of so many words, five a line.
 unfoldable pub listed_in : ℕ → List Line → Differed
 listed_in room xs =
-    whenever (leb (5 * length xs) room) (λ _. record { answer = answer.Listed (length xs); lines = xs }) (refused_by (answer.NoRoom (length xs)))
+    whenever (leb (5 * length xs) room) (λ _. record { answer = Ok (length xs); lines = xs }) (refused_by (Err (why.NoRoom (length xs))))
 
 -- "A bad record is 17 with the side named, the first side if both are bad; 17 comes before 9."
 unfoldable pub differ : List ℕ → List ℕ → ℕ → Differed
@@ -34,19 +34,19 @@ differ one two room =
     whenever (sound_words one)
     (λ _. whenever (sound_words two)
     (λ _. listed_in room (differences (ledger_of one) (ledger_of two)))
-    (refused_by (answer.BadRecord side.Second)))
-    (refused_by (answer.BadRecord side.First))
+    (refused_by (Err (why.BadRecord side.Second))))
+    (refused_by (Err (why.BadRecord side.First)))
 
 -- What is answered, and all words of the list afterwards; words past the lines stay.
-pub record DifferOf (one two list : List ℕ) (r : DifferAnswer) (left : List ℕ) : Type 0 where
+pub record DifferOf (one two list : List ℕ) (r : Result ℕ DifferRefusal) (left : List ℕ) : Type 0 where
   pub answered : r ≡ (differ one two (length list)).answer
   pub listed : left ≡ over (spell_lines (differ one two (length list)).lines) list
 
 -- The number on the panel and the value beside it: how many lines, 17 with the side, 9 with how many lines are needed.
-unfoldable pub differ_panel : DifferAnswer → Panel
-differ_panel (answer.Listed n) = record { number = 0; values = n ∷ [] }
-differ_panel (answer.BadRecord s) = record { number = refusal_number refusal.BadRecord; values = side_number s ∷ [] }
-differ_panel (answer.NoRoom n) = record { number = refusal_number refusal.NoRoom; values = n ∷ [] }
+unfoldable pub differ_panel : Result ℕ DifferRefusal → Panel
+differ_panel (Ok n) = record { number = 0; values = n ∷ [] }
+differ_panel (Err (why.BadRecord s)) = record { number = refusal_number refusal.BadRecord; values = side_number s ∷ [] }
+differ_panel (Err (why.NoRoom n)) = record { number = refusal_number refusal.NoRoom; values = n ∷ [] }
 
 -- ---- the parts
 
@@ -80,6 +80,6 @@ pub record InRow (one two : List ℕ) (s at : ℕ) : Type 0 where
   pub within : at + 30720 ≤ most_lines
 
 -- The whole list of lines in a lent list, or 9.
-pub record ListedIn (list : List ℕ) (xs : List Line) (r : DifferAnswer) (left : List ℕ) : Type 0 where
+pub record ListedIn (list : List ℕ) (xs : List Line) (r : Result ℕ DifferRefusal) (left : List ℕ) : Type 0 where
   pub answered : r ≡ (listed_in (length list) xs).answer
   pub listed : left ≡ over (spell_lines (listed_in (length list) xs).lines) list

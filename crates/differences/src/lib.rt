@@ -20,10 +20,9 @@ const LINE_WORDS: usize = 5;
 // How many blocks two cells name at most in votes of one kind.
 const MOST_NAMED: usize = 6;
 
-// The number of lines in the list, the side whose record is bad, or the number of lines needed.
-#[derive(Clone, Copy)]
-pub enum DifferAnswer {
-    Listed(usize),
+// Why nothing was listed: the side whose record is bad, or the number of lines needed.
+#[derive(Clone, Copy, Debug, PartialEq, Eq)]
+pub enum DifferRefusal {
     BadRecord(Side),
     NoRoom(usize),
 }
@@ -246,26 +245,26 @@ fn put_votes(list: &mut [u64], one: &[u64], two: &[u64]) -> usize
 }
 
 // Lists the votes that differ, counted first: where they have no room, nothing is put.
-fn list_votes(list: &mut [u64], one: &[u64], two: &[u64]) -> DifferAnswer
+fn list_votes(list: &mut [u64], one: &[u64], two: &[u64]) -> Result<usize, DifferRefusal>
     requires { Alike one.now two.now }
     ensures { ListedIn list.old (vote_lines (ledger_of one.now) (ledger_of two.now)) result list.new }
 {
     let needed = put_votes(&mut list[0..0], one, two);
     if list.len() < LINE_WORDS * needed {
-        return DifferAnswer::NoRoom(needed);
+        return Err(DifferRefusal::NoRoom(needed));
     }
     if needed == 0 {
-        return DifferAnswer::Listed(0);
+        return Ok(0);
     }
-    DifferAnswer::Listed(put_votes(list, one, two))
+    Ok(put_votes(list, one, two))
 }
 
 // Lists the one line that says that the stake tables differ.
-fn list_tables(list: &mut [u64]) -> DifferAnswer
+fn list_tables(list: &mut [u64]) -> Result<usize, DifferRefusal>
     ensures { ListedIn list.old (tables_line ∷ []) result list.new }
 {
     if list.len() < LINE_WORDS {
-        return DifferAnswer::NoRoom(1);
+        return Err(DifferRefusal::NoRoom(1));
     }
     let v = Vote {
         kind: VoteKind::Other,
@@ -273,7 +272,7 @@ fn list_tables(list: &mut [u64]) -> DifferAnswer
         slot: Slot(0),
         block: 0,
     };
-    DifferAnswer::Listed(put_line(list, 0, v, Side::Neither))
+    Ok(put_line(list, 0, v, Side::Neither))
 }
 
 // Whether two records have the same stake table, whatever their own numbers.
@@ -296,14 +295,14 @@ pub fn same_tables(one: &[u64], two: &[u64]) -> bool
 
 // Which stored votes of two records differ, as lines from the list's front: refused with 17 and the side, or with 9 and the number of
 // lines needed, and the list as found; different stake tables give the one line that says so.
-pub fn differ(one: &[u64], two: &[u64], list: &mut [u64]) -> DifferAnswer
+pub fn differ(one: &[u64], two: &[u64], list: &mut [u64]) -> Result<usize, DifferRefusal>
     ensures { DifferOf one.now two.now list.old result list.new }
 {
     if !sound(one) {
-        return DifferAnswer::BadRecord(Side::First);
+        return Err(DifferRefusal::BadRecord(Side::First));
     }
     if !sound(two) {
-        return DifferAnswer::BadRecord(Side::Second);
+        return Err(DifferRefusal::BadRecord(Side::Second));
     }
     if !same_tables(one, two) {
         return list_tables(list);

@@ -11,9 +11,9 @@ use Rattle.vouched_packets.specs.Split.{split_panel}
 use Rattle.announcing.specs.Asked.{announce_panel}
 use Rattle.readers.specs.Asked.{final_panel, armed_panel, votes_panel, blocks_panel, marks_panel, head_panel}
 use Rattle.readers.specs.Weighed.{weights_panel}
-use Rattle.differences.specs.declared.DifferAnswer.{DifferAnswer}
+use Rattle.differences.specs.declared.DifferRefusal.{DifferRefusal}
 use Rattle.differences.specs.Lent.{differ_panel, DifferOf}
-use Rattle.inquest_lines.specs.declared.ListAnswer.{ListAnswer}
+use Rattle.inquest_lines.specs.declared.ListRefusal.{ListRefusal}
 use Rattle.inquest_lines.specs.Lent.{Told, ToldIn, list_panel}
 use Rattle.kept_lines.specs.Lent as kept
 use Rattle.pieces.specs.Pieces.{piece_panel}
@@ -70,30 +70,30 @@ head_with given r e = record { numbered = ap (λ (a : Result RecordHead Refusal)
 pub weights_with : (given r : Result BlockWeights Refusal) → r ≡ given → WeightsWith given r
 weights_with given r e = record { numbered = ap (λ (a : Result BlockWeights Refusal). (weights_panel a).number) e; valued = ap (λ (a : Result BlockWeights Refusal). (weights_panel a).values) e }
 
-pub certificates_with : (told : kept.Listing) (list : List ℕ) (r : ListAnswer) (left : List ℕ) → kept.ToldIn list told r left → CertificatesWith told list r left
+pub certificates_with : (told : kept.Listing) (list : List ℕ) (r : Result ℕ ListRefusal) (left : List ℕ) → kept.ToldIn list told r left → CertificatesWith told list r left
 certificates_with told list r left x beside b =
     record {
-      numbered = ap (λ (a : ListAnswer). (list_panel a).number) x.answered;
-      counted = b ∙ ap (λ (a : ListAnswer). (list_panel a).values) x.answered;
+      numbered = ap (λ (a : Result ℕ ListRefusal). (list_panel a).number) x.answered;
+      counted = b ∙ ap (λ (a : Result ℕ ListRefusal). (list_panel a).values) x.answered;
       lines = x.listed;
     }
 
 pub message_with : (given r : Result Vote Refusal) → r ≡ given → MessageWith given r
 message_with given r e = record { numbered = ap (λ (a : Result Vote Refusal). (read_panel a).number) e; valued = ap (λ (a : Result Vote Refusal). (read_panel a).values) e }
 
-pub compared_with : (one two list : List ℕ) (r : DifferAnswer) (left : List ℕ) → DifferOf one two list r left → ComparedWith one two list r left
+pub compared_with : (one two list : List ℕ) (r : Result ℕ DifferRefusal) (left : List ℕ) → DifferOf one two list r left → ComparedWith one two list r left
 compared_with one two list r left x beside b =
     record {
-      numbered = ap (λ (a : DifferAnswer). (differ_panel a).number) x.answered;
-      counted = b ∙ ap (λ (a : DifferAnswer). (differ_panel a).values) x.answered;
+      numbered = ap (λ (a : Result ℕ DifferRefusal). (differ_panel a).number) x.answered;
+      counted = b ∙ ap (λ (a : Result ℕ DifferRefusal). (differ_panel a).values) x.answered;
       lines = x.listed;
     }
 
-pub lines_with : (told : Told) (list : List ℕ) (r : ListAnswer) (left : List ℕ) → ToldIn list told r left → LinesWith told list r left
+pub lines_with : (told : Told) (list : List ℕ) (r : Result ℕ ListRefusal) (left : List ℕ) → ToldIn list told r left → LinesWith told list r left
 lines_with told list r left x beside b =
     record {
-      numbered = ap (λ (a : ListAnswer). (list_panel a).number) x.answered;
-      counted = b ∙ ap (λ (a : ListAnswer). (list_panel a).values) x.answered;
+      numbered = ap (λ (a : Result ℕ ListRefusal). (list_panel a).number) x.answered;
+      counted = b ∙ ap (λ (a : Result ℕ ListRefusal). (list_panel a).values) x.answered;
       lines = x.listed;
     }
 

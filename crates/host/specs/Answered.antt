@@ -7,9 +7,9 @@ use Rattle.vouched_packets.specs.Split.{split_panel}
 use Rattle.announcing.specs.Asked.{announce_panel}
 use Rattle.readers.specs.Asked.{final_panel, armed_panel, votes_panel, blocks_panel, marks_panel, head_panel}
 use Rattle.readers.specs.Weighed.{weights_panel}
-use Rattle.differences.specs.declared.DifferAnswer.{DifferAnswer}
+use Rattle.differences.specs.declared.DifferRefusal.{DifferRefusal}
 use Rattle.differences.specs.Lent.{differ_panel}
-use Rattle.inquest_lines.specs.declared.ListAnswer.{ListAnswer}
+use Rattle.inquest_lines.specs.declared.ListRefusal.{ListRefusal}
 use Rattle.inquest_lines.specs.Lent.{Told, list_panel}
 use Rattle.kept_lines.specs.Lent.{Listing}
 use Rattle.pieces.specs.Pieces.{piece_panel}
@@ -65,7 +65,7 @@ abbrev pub WeightsWith : (given r : Result BlockWeights Refusal) → Type 0
 WeightsWith given r = WeightsRead given (weights_panel r).number (weights_panel r).values
 
 -- A slot's kept certificates.
-abbrev pub CertificatesWith : (told : Listing) (list : List ℕ) → ListAnswer → (left : List ℕ) → Type 0
+abbrev pub CertificatesWith : (told : Listing) (list : List ℕ) → Result ℕ ListRefusal → (left : List ℕ) → Type 0
 CertificatesWith told list r left = (beside : ℕ) → Beside beside (list_panel r).values → CertificatesRead told list (list_panel r).number beside left
 
 -- A vote message.
@@ -73,11 +73,11 @@ abbrev pub MessageWith : (given r : Result Vote Refusal) → Type 0
 MessageWith given r = MessageRead given (read_panel r).number (read_panel r).values
 
 -- Two records compared.
-abbrev pub ComparedWith : (one two list : List ℕ) → DifferAnswer → (left : List ℕ) → Type 0
+abbrev pub ComparedWith : (one two list : List ℕ) → Result ℕ DifferRefusal → (left : List ℕ) → Type 0
 ComparedWith one two list r left = (beside : ℕ) → Beside beside (differ_panel r).values → Compared one two list (differ_panel r).number beside left
 
 -- A list of the inquest.
-abbrev pub LinesWith : (told : Told) (list : List ℕ) → ListAnswer → (left : List ℕ) → Type 0
+abbrev pub LinesWith : (told : Told) (list : List ℕ) → Result ℕ ListRefusal → (left : List ℕ) → Type 0
 LinesWith told list r left = (beside : ℕ) → Beside beside (list_panel r).values → LinesRead told list (list_panel r).number beside left
 
 -- A piece of a proof, and the end of one.

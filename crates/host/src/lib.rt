@@ -33,8 +33,8 @@ ghost use Rattle.vouched_packets.specs.Split.{split_on};
 use announcing::may_announce;
 use cards::read_card;
 use checker::{check_certificate, check_proof};
-use differences::{DifferAnswer, differ};
-use inquest_lines::ListAnswer;
+use differences::{DifferRefusal, differ};
+use inquest_lines::ListRefusal;
 use kept_lines::list_certificates;
 use messages::{read_vote, write_vote};
 use node::step;
@@ -542,7 +542,7 @@ pub fn plain_read_head(rec: &[u64]) -> Result<RecordHead, Refusal>
 }
 
 // Calls the public list of a slot's kept certificates.
-pub fn plain_list_certificates(rec: &[u64], s: Slot, list: &mut [u64]) -> ListAnswer
+pub fn plain_list_certificates(rec: &[u64], s: Slot, list: &mut [u64]) -> Result<usize, ListRefusal>
     ensures { CertificatesWith (certificates_on rec.now s.0 (length list.old)) list.old result list.new }
 {
     list_certificates(rec, s, list)
@@ -584,35 +584,35 @@ pub fn plain_write_vote(count: usize, vote: Vote, buffer: &mut [u8]) -> Result<u
 }
 
 // Calls the public comparison.
-pub fn plain_differ(one: &[u64], two: &[u64], list: &mut [u64]) -> DifferAnswer
+pub fn plain_differ(one: &[u64], two: &[u64], list: &mut [u64]) -> Result<usize, DifferRefusal>
     ensures { ComparedWith one.now two.now list.old result list.new }
 {
     differ(one, two, list)
 }
 
 // Calls the public test of own votes.
-pub fn plain_stands(rec: &[u64], list: &mut [u64]) -> ListAnswer
+pub fn plain_stands(rec: &[u64], list: &mut [u64]) -> Result<usize, ListRefusal>
     ensures { LinesWith (stands_on rec.now (length list.old)) list.old result list.new }
 {
     own_votes_stand(rec, list)
 }
 
 // Calls the public test of two records.
-pub fn plain_vouched(one: &[u64], two: &[u64], list: &mut [u64]) -> ListAnswer
+pub fn plain_vouched(one: &[u64], two: &[u64], list: &mut [u64]) -> Result<usize, ListRefusal>
     ensures { LinesWith (vouched_on one.now two.now (length list.old)) list.old result list.new }
 {
     vouched(one, two, list)
 }
 
 // Calls the public test of a packet.
-pub fn plain_vouched_packet(rec: &[u64], packet: &[u8], list: &mut [u64]) -> ListAnswer
+pub fn plain_vouched_packet(rec: &[u64], packet: &[u8], list: &mut [u64]) -> Result<usize, ListRefusal>
     ensures { LinesWith (packet_on rec.now packet.now (length list.old)) list.old result list.new }
 {
     vouched_packet(rec, packet, list)
 }
 
 // Calls the public test of parents.
-pub fn plain_same_parents(one: &[u64], two: &[u64], list: &mut [u64]) -> ListAnswer
+pub fn plain_same_parents(one: &[u64], two: &[u64], list: &mut [u64]) -> Result<usize, ListRefusal>
     ensures { LinesWith (parents_on one.now two.now (length list.old)) list.old result list.new }
 {
     same_parents(one, two, list)

@@ -1,4 +1,5 @@
 -- Lines put one after another, how many there can be, and the whole list or 9. Assumes nothing.
+use Rattle.std.specs.Prelude.{Result, Ok, Err}
 use mathlib.Core.Path.{◌≡◌, refl, sym, ap, ap₂, ◌∙◌, subst}
 use mathlib.Core.Bool.{Bool, true, false, not}
 use mathlib.Core.List.{List, [], ◌∷◌, ◌++◌, append_assoc}
@@ -19,8 +20,8 @@ use Rattle.inquest.specs.declared.Line.{Line}
 use Rattle.safety.specs.Slot.{Ballot}
 use Rattle.inquest.specs.Stands.{none_or}
 use Rattle.inquest.specs.Lists.{line_of, unless, lines_to}
-use Rattle.inquest_lines.specs.declared.ListAnswer.{ListAnswer}
-use Rattle.inquest_lines.specs.declared.ListAnswer.TheVariants as answer
+use Rattle.inquest_lines.specs.declared.ListRefusal.{ListRefusal}
+use Rattle.inquest_lines.specs.declared.ListRefusal.TheVariants as why
 use Rattle.inquest_lines.specs.Lent.{spell_line, spell_lines, Told, refused_by, put_in, listed_in, ToldIn, Laid}
 
 -- ---- one run of lines after another
@@ -143,67 +144,67 @@ first_put list at f = laid_as (sym (to_none f)) (laid_none list at)
 -- ---- the whole list, or 9
 
 -- A refusal leaves the list as found.
-pub told_refused : (list : List ℕ) (a : ListAnswer) → ToldIn list (refused_by a) a list
+pub told_refused : (list : List ℕ) (a : Result ℕ ListRefusal) → ToldIn list (refused_by a) a list
 unfolding over
 told_refused list a = record { answered = refl; listed = refl }
 
 -- The same in other words.
-pub told_as : {list left : List ℕ} {r : ListAnswer} (t u : Told) → t ≡ u → ToldIn list u r left → ToldIn list t r left
+pub told_as : {list left : List ℕ} {r : Result ℕ ListRefusal} (t u : Told) → t ≡ u → ToldIn list u r left → ToldIn list t r left
 told_as {list} {left} {r} t u e w = subst (λ (z : Told). ToldIn list z r left) (sym e) w
 
 -- Of any n lines by their words.
 module _ (list : List ℕ) (n : ℕ) (ws : List ℕ) where
   -- 9.
-  put_cramped : length list < 5 * n → ToldIn list (put_in (length list) n ws) (answer.NoRoom n) list
+  put_cramped : length list < 5 * n → ToldIn list (put_in (length list) n ws) (Err (why.NoRoom n)) list
   put_cramped h =
-      told_as (put_in (length list) n ws) (refused_by (answer.NoRoom n))
-      (given_off (leb (5 * n) (length list)) (refused_by (answer.NoRoom n)) _ (lt-leb (5 * n) (length list) h)) (told_refused list (answer.NoRoom n))
+      told_as (put_in (length list) n ws) (refused_by (Err (why.NoRoom n)))
+      (given_off (leb (5 * n) (length list)) (refused_by (Err (why.NoRoom n))) _ (lt-leb (5 * n) (length list) h)) (told_refused list (Err (why.NoRoom n)))
 
-  put_roomy : {left : List ℕ} → 5 * n ≤ length list → left ≡ over ws list → ToldIn list (put_in (length list) n ws) (answer.Listed n) left
+  put_roomy : {left : List ℕ} → 5 * n ≤ length list → left ≡ over ws list → ToldIn list (put_in (length list) n ws) (Ok n) left
   put_roomy h e =
-      told_as (put_in (length list) n ws) (record { answer = answer.Listed n; words = ws })
-      (given_on (leb (5 * n) (length list)) (refused_by (answer.NoRoom n)) _ (le-leb (5 * n) (length list) h)) (record { answered = refl; listed = e })
+      told_as (put_in (length list) n ws) (record { answer = Ok n; words = ws })
+      (given_on (leb (5 * n) (length list)) (refused_by (Err (why.NoRoom n))) _ (le-leb (5 * n) (length list) h)) (record { answered = refl; listed = e })
 
   -- All lines from the list's front.
-  put_whole : {left : List ℕ} → length ws ≡ 5 * n → 5 * n ≤ length list → left ≡ sets list 0 ws → ToldIn list (put_in (length list) n ws) (answer.Listed n) left
+  put_whole : {left : List ℕ} → length ws ≡ 5 * n → 5 * n ≤ length list → left ≡ sets list 0 ws → ToldIn list (put_in (length list) n ws) (Ok n) left
   put_whole f h e = put_roomy h (e ∙ stores_lay list 0 ws (omega (arith, f, h)) ∙ laid_front list ws)
 
 -- No line.
-put_nothing : (list ws : List ℕ) → length ws ≡ 0 → ToldIn list (put_in (length list) 0 ws) (answer.Listed 0) list
+put_nothing : (list ws : List ℕ) → length ws ≡ 0 → ToldIn list (put_in (length list) 0 ws) (Ok 0) list
 unfolding over
 put_nothing list [] e = put_roomy list 0 [] (omega arith) refl
 put_nothing list (w ∷ ws) e = absurd (omega (arith, e))
 
 -- The lines were counted with an empty part of the list, which came back as it was.
 module _ (list ws : List ℕ) (n : ℕ) (five : length ws ≡ 5 * n) where
-  pub counted_cramped : (ys : List ℕ) → length ys ≡ 0 → length (ys ++ list) < 5 * n → ToldIn list (put_in (length list) n ws) (answer.NoRoom n) (ys ++ list)
+  pub counted_cramped : (ys : List ℕ) → length ys ≡ 0 → length (ys ++ list) < 5 * n → ToldIn list (put_in (length list) n ws) (Err (why.NoRoom n)) (ys ++ list)
   counted_cramped [] z h = put_cramped list n ws h
   counted_cramped (y ∷ ys) z h = absurd (omega (arith, z))
 
-  pub counted_nothing : (ys : List ℕ) → length ys ≡ 0 → n ≡ 0 → ToldIn list (put_in (length list) n ws) (answer.Listed 0) (ys ++ list)
-  counted_nothing [] z e = subst (λ (k : ℕ). ToldIn list (put_in (length list) k ws) (answer.Listed 0) list) (sym e) (put_nothing list ws (omega (arith, five, e)))
+  pub counted_nothing : (ys : List ℕ) → length ys ≡ 0 → n ≡ 0 → ToldIn list (put_in (length list) n ws) (Ok 0) (ys ++ list)
+  counted_nothing [] z e = subst (λ (k : ℕ). ToldIn list (put_in (length list) k ws) (Ok 0) list) (sym e) (put_nothing list ws (omega (arith, five, e)))
   counted_nothing (y ∷ ys) z e = absurd (omega (arith, z))
 
-  pub counted_whole : (ys : List ℕ) {left : List ℕ} → length ys ≡ 0 → 5 * n ≤ length (ys ++ list) → left ≡ sets (ys ++ list) 0 ws → ToldIn list (put_in (length list) n ws) (answer.Listed n) left
+  pub counted_whole : (ys : List ℕ) {left : List ℕ} → length ys ≡ 0 → 5 * n ≤ length (ys ++ list) → left ≡ sets (ys ++ list) 0 ws → ToldIn list (put_in (length list) n ws) (Ok n) left
   counted_whole [] z h e = put_whole list n ws five h e
   counted_whole (y ∷ ys) z h e = absurd (omega (arith, z))
 
 -- The same of lines that were laid.
 module _ (list : List ℕ) (xs : List Line) {part : List ℕ} {n : ℕ} where
-  pub back_cramped : (ys : List ℕ) → length ys ≡ 0 → Laid part 0 xs ys n → length (ys ++ list) < 5 * n → ToldIn list (listed_in (length list) xs) (answer.NoRoom n) (ys ++ list)
+  pub back_cramped : (ys : List ℕ) → length ys ≡ 0 → Laid part 0 xs ys n → length (ys ++ list) < 5 * n → ToldIn list (listed_in (length list) xs) (Err (why.NoRoom n)) (ys ++ list)
   unfolding listed_in
   back_cramped ys z w h =
       let e : n ≡ length xs = omega (arith, w.many) in
-      subst (λ (k : ℕ). ToldIn list (listed_in (length list) xs) (answer.NoRoom k) (ys ++ list)) (sym e)
+      subst (λ (k : ℕ). ToldIn list (listed_in (length list) xs) (Err (why.NoRoom k)) (ys ++ list)) (sym e)
       (counted_cramped list (spell_lines xs) (length xs) (spell_length xs) ys z (omega (arith, e, h)))
 
-  pub back_nothing : (ys : List ℕ) → length ys ≡ 0 → Laid part 0 xs ys n → n ≡ 0 → ToldIn list (listed_in (length list) xs) (answer.Listed 0) (ys ++ list)
+  pub back_nothing : (ys : List ℕ) → length ys ≡ 0 → Laid part 0 xs ys n → n ≡ 0 → ToldIn list (listed_in (length list) xs) (Ok 0) (ys ++ list)
   unfolding listed_in
   back_nothing ys z w e = counted_nothing list (spell_lines xs) (length xs) (spell_length xs) ys z (omega (arith, w.many, e))
 
-  pub back_whole : (ys : List ℕ) {left : List ℕ} {m : ℕ} → length ys ≡ 0 → Laid part 0 xs ys n → 5 * n ≤ length (ys ++ list) → Laid (ys ++ list) 0 xs left m → ToldIn list (listed_in (length list) xs) (answer.Listed m) left
+  pub back_whole : (ys : List ℕ) {left : List ℕ} {m : ℕ} → length ys ≡ 0 → Laid part 0 xs ys n → 5 * n ≤ length (ys ++ list) → Laid (ys ++ list) 0 xs left m → ToldIn list (listed_in (length list) xs) (Ok m) left
   unfolding listed_in
   back_whole ys {left} {m} z w h v =
       let e : m ≡ length xs = omega (arith, v.many) in
-      subst (λ (k : ℕ). ToldIn list (listed_in (length list) xs) (answer.Listed k) left) (sym e)
+      subst (λ (k : ℕ). ToldIn list (listed_in (length list) xs) (Ok k) left) (sym e)
       (counted_whole list (spell_lines xs) (length xs) (spell_length xs) ys z (omega (arith, w.many, h)) v.words)

@@ -13,10 +13,9 @@ use rulebook::Refusal;
 // How many words a line has.
 const LINE_WORDS: usize = 5;
 
-// The number of lines in the list, the side whose record is bad, another refusal, or the number of lines needed.
-#[derive(Clone, Copy)]
-pub enum ListAnswer {
-    Listed(usize),
+// Why nothing was listed: the side whose record is bad, another refusal, or the number of lines needed.
+#[derive(Clone, Copy, Debug, PartialEq, Eq)]
+pub enum ListRefusal {
     BadRecord(Side),
     Refused(Refusal),
     NoRoom(usize),

@@ -1,4 +1,5 @@
 -- The words mean ledgers, of which the inquest speaks; what is seen of a life is the rule book's life.
+use Rattle.std.specs.Prelude.{Ok, Err}
 use mathlib.Core.Path.{◌≡◌, refl, sym, ap, ◌∙◌, subst}
 use mathlib.Core.Bool.{true}
 use mathlib.Core.List.{List, [], ◌∷◌}
@@ -27,7 +28,7 @@ use Rattle.inquest.proofs.Inquest.{named_hold_a_fifth as hold-a-fifth, named_of_
 use Rattle.inquest.proofs.Honest.{own_votes_stand as votes_stand, watchers_stand, honest_are_blameless}
 use Rattle.inquest.proofs.Lists.{nothing_fallen}
 use Rattle.inquest_lines.specs.Lent.{spell_lines, Told, refused_by, listed_in, list_panel}
-use Rattle.inquest_lines.specs.declared.ListAnswer.TheVariants as answer
+use Rattle.inquest_lines.specs.declared.ListRefusal.TheVariants as why
 use Rattle.rulebook.specs.declared.Refusal.TheVariants as refusal
 use Rattle.standing.specs.Asked.{stands_on}
 use Rattle.seen.specs.Seen.{Seen, ledger_in, Alive, node, watcher}
@@ -76,12 +77,12 @@ none_of [] t = refl
 none_of (x ∷ xs) t = absurd t
 
 -- Where no vote falls, any list has room for none.
-none_listed : (ws : List ℕ) (room : ℕ) → sound_words ws ≡ true → T (stands (ledger_of ws)) → stands_on ws room ≡ record { answer = answer.Listed 0; words = [] }
+none_listed : (ws : List ℕ) (room : ℕ) → sound_words ws ≡ true → T (stands (ledger_of ws)) → stands_on ws room ≡ record { answer = Ok 0; words = [] }
 unfolding stands_on listed_in spell_lines
 none_listed ws room e t =
     let none = none_of (fallen (ledger_of ws)) (subst T (sym (nothing_fallen (ledger_of ws))) t) in
-    given_on (sound_words ws) (refused_by (answer.Refused refusal.BadRecord)) _ e ∙ ap (listed_in room) none
-    ∙ given_on (leb 0 room) (refused_by (answer.NoRoom 0)) _ (le-leb 0 room (omega arith))
+    given_on (sound_words ws) (refused_by (Err (why.Refused refusal.BadRecord))) _ e ∙ ap (listed_in room) none
+    ∙ given_on (leb 0 room) (refused_by (Err (why.NoRoom 0))) _ (le-leb 0 room (omega arith))
 
 pub own_votes_stand : OwnVotesStand
 unfolding list_panel over

@@ -1,4 +1,5 @@
 -- Lines of certificates put one after another, and the whole list or 9. Assumes nothing.
+use Rattle.std.specs.Prelude.{Result, Ok, Err}
 use mathlib.Core.Path.{◌≡◌, refl, sym, ap, ap₂, ◌∙◌, subst}
 use mathlib.Core.Bool.{Bool, true, false}
 use mathlib.Core.List.{List, [], ◌∷◌, ◌++◌, append_assoc}
@@ -20,8 +21,8 @@ use Rattle.rule_laws.proofs.ToolLaws.{by_test, given_on, given_off}
 use Rattle.record.specs.Layout.{ledger_of}
 use Rattle.numbers.proofs.Stores.{stores_append, stores_lay, laid_front}
 use Rattle.soundness.specs.Sound.{sound_words}
-use Rattle.inquest_lines.specs.declared.ListAnswer.{ListAnswer}
-use Rattle.inquest_lines.specs.declared.ListAnswer.TheVariants as answer
+use Rattle.inquest_lines.specs.declared.ListRefusal.{ListRefusal}
+use Rattle.inquest_lines.specs.declared.ListRefusal.TheVariants as why
 use Rattle.kept_lines.specs.Told.{told_of, place_told, told_to, certificates_told}
 use Rattle.kept_lines.specs.Lent.{spell_told, spell_all, Listing, refused_by, listed_in, certificates_on, ToldIn, Laid}
 
@@ -135,85 +136,85 @@ module _ (l : Ledger) (s : ℕ) where
 -- ---- the whole list, or 9
 
 -- A refusal leaves the list as found.
-told_refused : (list : List ℕ) (a : ListAnswer) → ToldIn list (refused_by a) a list
+told_refused : (list : List ℕ) (a : Result ℕ ListRefusal) → ToldIn list (refused_by a) a list
 unfolding over
 told_refused list a = record { answered = refl; listed = refl }
 
 -- The same in other words.
-told_as : {list left : List ℕ} {r : ListAnswer} (t u : Listing) → t ≡ u → ToldIn list u r left → ToldIn list t r left
+told_as : {list left : List ℕ} {r : Result ℕ ListRefusal} (t u : Listing) → t ≡ u → ToldIn list u r left → ToldIn list t r left
 told_as {list} {left} {r} t u e w = subst (λ (z : Listing). ToldIn list z r left) (sym e) w
 
 module _ (nodes : ℕ) (list : List ℕ) (xs : List Accepted) where
-  pub cramped : length list < 5 * length xs → listed_in (length list) nodes xs ≡ refused_by (answer.NoRoom (length xs))
+  pub cramped : length list < 5 * length xs → listed_in (length list) nodes xs ≡ refused_by (Err (why.NoRoom (length xs)))
   unfolding listed_in
-  cramped h = given_off (leb (5 * length xs) (length list)) (refused_by (answer.NoRoom (length xs))) _ (lt-leb (5 * length xs) (length list) h)
+  cramped h = given_off (leb (5 * length xs) (length list)) (refused_by (Err (why.NoRoom (length xs)))) _ (lt-leb (5 * length xs) (length list) h)
 
-  pub roomy : 5 * length xs ≤ length list → listed_in (length list) nodes xs ≡ record { answer = answer.Listed (length xs); words = spell_all nodes xs }
+  pub roomy : 5 * length xs ≤ length list → listed_in (length list) nodes xs ≡ record { answer = Ok (length xs); words = spell_all nodes xs }
   unfolding listed_in
-  roomy h = given_on (leb (5 * length xs) (length list)) (refused_by (answer.NoRoom (length xs))) _ (le-leb (5 * length xs) (length list) h)
+  roomy h = given_on (leb (5 * length xs) (length list)) (refused_by (Err (why.NoRoom (length xs)))) _ (le-leb (5 * length xs) (length list) h)
 
   -- 9.
-  list_cramped : (n : ℕ) → n ≡ length xs → length list < 5 * n → ToldIn list (listed_in (length list) nodes xs) (answer.NoRoom n) list
+  list_cramped : (n : ℕ) → n ≡ length xs → length list < 5 * n → ToldIn list (listed_in (length list) nodes xs) (Err (why.NoRoom n)) list
   list_cramped n e h =
       let d = cramped (omega arith) in
-      told_as (listed_in (length list) nodes xs) (refused_by (answer.NoRoom n)) (d ∙ ap (λ (k : ℕ). refused_by (answer.NoRoom k)) (sym e)) (told_refused list (answer.NoRoom n))
+      told_as (listed_in (length list) nodes xs) (refused_by (Err (why.NoRoom n))) (d ∙ ap (λ (k : ℕ). refused_by (Err (why.NoRoom k))) (sym e)) (told_refused list (Err (why.NoRoom n)))
 
   -- All lines from the list's front.
-  list_whole : {left : List ℕ} {n : ℕ} → 5 * length xs ≤ length list → Laid nodes list 0 xs left n → ToldIn list (listed_in (length list) nodes xs) (answer.Listed n) left
+  list_whole : {left : List ℕ} {n : ℕ} → 5 * length xs ≤ length list → Laid nodes list 0 xs left n → ToldIn list (listed_in (length list) nodes xs) (Ok n) left
   list_whole {left} {n} h w =
       let e : n ≡ length xs = omega (arith, w.many) in
       let s = spell_length nodes xs in
-      told_as (listed_in (length list) nodes xs) (record { answer = answer.Listed (length xs); words = spell_all nodes xs }) (roomy h)
+      told_as (listed_in (length list) nodes xs) (record { answer = Ok (length xs); words = spell_all nodes xs }) (roomy h)
       (record {
-        answered = ap answer.Listed e;
+        answered = ap Ok e;
         listed = w.words ∙ stores_lay list 0 (spell_all nodes xs) (omega arith) ∙ laid_front list (spell_all nodes xs);
       })
 
 -- No line.
-list_nothing : (nodes : ℕ) (list : List ℕ) (xs : List Accepted) → 0 ≡ length xs → ToldIn list (listed_in (length list) nodes xs) (answer.Listed 0) list
+list_nothing : (nodes : ℕ) (list : List ℕ) (xs : List Accepted) → 0 ≡ length xs → ToldIn list (listed_in (length list) nodes xs) (Ok 0) list
 unfolding over spell_all
 list_nothing nodes list [] e =
-    told_as (listed_in (length list) nodes []) (record { answer = answer.Listed 0; words = [] }) (roomy nodes list [] (omega arith)) (record { answered = refl; listed = refl })
+    told_as (listed_in (length list) nodes []) (record { answer = Ok 0; words = [] }) (roomy nodes list [] (omega arith)) (record { answered = refl; listed = refl })
 list_nothing nodes list (x ∷ xs) e = absurd (omega arith)
 
 -- The lines were counted with an empty part of the list, which came back as it was.
 module _ (nodes : ℕ) (list : List ℕ) (xs : List Accepted) {part : List ℕ} {n : ℕ} where
-  pub back_cramped : (ys : List ℕ) → length ys ≡ 0 → Laid nodes part 0 xs ys n → length (ys ++ list) < 5 * n → ToldIn list (listed_in (length list) nodes xs) (answer.NoRoom n) (ys ++ list)
+  pub back_cramped : (ys : List ℕ) → length ys ≡ 0 → Laid nodes part 0 xs ys n → length (ys ++ list) < 5 * n → ToldIn list (listed_in (length list) nodes xs) (Err (why.NoRoom n)) (ys ++ list)
   back_cramped [] z w h = list_cramped nodes list xs n (omega (arith, w.many)) h
   back_cramped (y ∷ ys) z w h = absurd (omega arith)
 
-  pub back_nothing : (ys : List ℕ) → length ys ≡ 0 → Laid nodes part 0 xs ys n → n ≡ 0 → ToldIn list (listed_in (length list) nodes xs) (answer.Listed 0) (ys ++ list)
+  pub back_nothing : (ys : List ℕ) → length ys ≡ 0 → Laid nodes part 0 xs ys n → n ≡ 0 → ToldIn list (listed_in (length list) nodes xs) (Ok 0) (ys ++ list)
   back_nothing [] z w e = list_nothing nodes list xs (omega (arith, w.many))
   back_nothing (y ∷ ys) z w e = absurd (omega arith)
 
-  pub back_whole : (ys : List ℕ) {left : List ℕ} {m : ℕ} → length ys ≡ 0 → Laid nodes part 0 xs ys n → 5 * n ≤ length (ys ++ list) → Laid nodes (ys ++ list) 0 xs left m → ToldIn list (listed_in (length list) nodes xs) (answer.Listed m) left
+  pub back_whole : (ys : List ℕ) {left : List ℕ} {m : ℕ} → length ys ≡ 0 → Laid nodes part 0 xs ys n → 5 * n ≤ length (ys ++ list) → Laid nodes (ys ++ list) 0 xs left m → ToldIn list (listed_in (length list) nodes xs) (Ok m) left
   back_whole [] z w h v = list_whole nodes list xs (omega (arith, w.many)) v
   back_whole (y ∷ ys) z w h v = absurd (omega arith)
 
 -- ---- the call
 
 module _ (ws : List ℕ) (s room : ℕ) where
-  pub on_unsound : sound_words ws ≡ false → certificates_on ws s room ≡ refused_by (answer.Refused refusal.BadRecord)
+  pub on_unsound : sound_words ws ≡ false → certificates_on ws s room ≡ refused_by (Err (why.Refused refusal.BadRecord))
   unfolding certificates_on
-  on_unsound e = given_off (sound_words ws) (refused_by (answer.Refused refusal.BadRecord)) _ e
+  on_unsound e = given_off (sound_words ws) (refused_by (Err (why.Refused refusal.BadRecord))) _ e
 
-  pub on_none : sound_words ws ≡ true → slot_ok s ≡ false → certificates_on ws s room ≡ refused_by (answer.Refused refusal.BadSlot)
+  pub on_none : sound_words ws ≡ true → slot_ok s ≡ false → certificates_on ws s room ≡ refused_by (Err (why.Refused refusal.BadSlot))
   unfolding certificates_on
   on_none e q =
-      given_on (sound_words ws) (refused_by (answer.Refused refusal.BadRecord)) _ e ∙ given_off (slot_ok s) (refused_by (answer.Refused refusal.BadSlot)) _ q
+      given_on (sound_words ws) (refused_by (Err (why.Refused refusal.BadRecord))) _ e ∙ given_off (slot_ok s) (refused_by (Err (why.Refused refusal.BadSlot))) _ q
 
   pub on_slot_lem : sound_words ws ≡ true → slot_ok s ≡ true → certificates_on ws s room ≡ listed_in room (ledger_of ws).count (certificates_told (ledger_of ws) s)
   unfolding certificates_on
   on_slot_lem e q =
-      given_on (sound_words ws) (refused_by (answer.Refused refusal.BadRecord)) _ e ∙ given_on (slot_ok s) (refused_by (answer.Refused refusal.BadSlot)) _ q
+      given_on (sound_words ws) (refused_by (Err (why.Refused refusal.BadRecord))) _ e ∙ given_on (slot_ok s) (refused_by (Err (why.Refused refusal.BadSlot))) _ q
 
 module _ (ws : List ℕ) (s : ℕ) (list : List ℕ) where
-  pub unsound_told : sound_words ws ≡ false → ToldIn list (certificates_on ws s (length list)) (answer.Refused refusal.BadRecord) list
-  unsound_told e = told_as (certificates_on ws s (length list)) (refused_by (answer.Refused refusal.BadRecord)) (on_unsound ws s (length list) e) (told_refused list (answer.Refused refusal.BadRecord))
+  pub unsound_told : sound_words ws ≡ false → ToldIn list (certificates_on ws s (length list)) (Err (why.Refused refusal.BadRecord)) list
+  unsound_told e = told_as (certificates_on ws s (length list)) (refused_by (Err (why.Refused refusal.BadRecord))) (on_unsound ws s (length list) e) (told_refused list (Err (why.Refused refusal.BadRecord)))
 
-  pub none_told : sound_words ws ≡ true → slot_ok s ≡ false → ToldIn list (certificates_on ws s (length list)) (answer.Refused refusal.BadSlot) list
-  none_told e q = told_as (certificates_on ws s (length list)) (refused_by (answer.Refused refusal.BadSlot)) (on_none ws s (length list) e q) (told_refused list (answer.Refused refusal.BadSlot))
+  pub none_told : sound_words ws ≡ true → slot_ok s ≡ false → ToldIn list (certificates_on ws s (length list)) (Err (why.Refused refusal.BadSlot)) list
+  none_told e q = told_as (certificates_on ws s (length list)) (refused_by (Err (why.Refused refusal.BadSlot))) (on_none ws s (length list) e q) (told_refused list (Err (why.Refused refusal.BadSlot)))
 
-  pub slot_told : {r : ListAnswer} {left : List ℕ} → sound_words ws ≡ true → slot_ok s ≡ true
+  pub slot_told : {r : Result ℕ ListRefusal} {left : List ℕ} → sound_words ws ≡ true → slot_ok s ≡ true
       → ToldIn list (listed_in (length list) (ledger_of ws).count (certificates_told (ledger_of ws) s)) r left → ToldIn list (certificates_on ws s (length list)) r left
   slot_told e q w = told_as (certificates_on ws s (length list)) _ (on_slot_lem ws s (length list) e q) w

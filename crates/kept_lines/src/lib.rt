@@ -9,7 +9,7 @@ ghost use Rattle.kept_lines.specs.Told.{told_of, place_told, certificates_told, 
 ghost use Rattle.kept_lines.specs.Lent.{Laid, most_lines, listed_in, ToldIn, certificates_on, AtPlace};
 
 use differences::put_word;
-use inquest_lines::ListAnswer;
+use inquest_lines::ListRefusal;
 use kept_certificates::{block_at, is_kept, mask_a, mask_b};
 use kinds::{number_in, slot_ok};
 use record::{MOST_CERTIFICATES, count, stakes_of};
@@ -102,30 +102,30 @@ fn put_places(list: &mut [u64], rec: &[u64], s: Slot) -> usize
 }
 
 // Lists the kept certificates of a slot, counted first: where they have no room, nothing is put.
-fn list_places(list: &mut [u64], rec: &[u64], s: Slot) -> ListAnswer
+fn list_places(list: &mut [u64], rec: &[u64], s: Slot) -> Result<usize, ListRefusal>
     requires { Judging rec.now s.0 }
     ensures { ToldIn list.old (listed_in (length list.old) (ledger_of rec.now).count (certificates_told (ledger_of rec.now) s.0)) result list.new }
 {
     let needed = put_places(&mut list[0..0], rec, s);
     if list.len() < LINE_WORDS * needed {
-        return ListAnswer::NoRoom(needed);
+        return Err(ListRefusal::NoRoom(needed));
     }
     if needed == 0 {
-        return ListAnswer::Listed(0);
+        return Ok(0);
     }
-    ListAnswer::Listed(put_places(list, rec, s))
+    Ok(put_places(list, rec, s))
 }
 
 // The certificates that a slot keeps, as lines from the list's front: refused with 17, then 3, then 9 and the number of lines needed, and the
 // list as found.
-pub fn list_certificates(rec: &[u64], s: Slot, list: &mut [u64]) -> ListAnswer
+pub fn list_certificates(rec: &[u64], s: Slot, list: &mut [u64]) -> Result<usize, ListRefusal>
     ensures { ToldIn list.old (certificates_on rec.now s.0 (length list.old)) result list.new }
 {
     if !sound(rec) {
-        return ListAnswer::Refused(Refusal::BadRecord);
+        return Err(ListRefusal::Refused(Refusal::BadRecord));
     }
     if !slot_ok(s) {
-        return ListAnswer::Refused(Refusal::BadSlot);
+        return Err(ListRefusal::Refused(Refusal::BadSlot));
     }
     list_places(list, rec, s)
 }

@@ -1,4 +1,5 @@
 -- Which votes differ: what is answered and left, way by way. Assumes nothing.
+use Rattle.std.specs.Prelude.{Result, Ok, Err}
 use mathlib.Core.Path.{◌≡◌, refl, sym, ap, ap₂, ◌∙◌}
 use mathlib.Core.Bool.{Bool, true, false}
 use mathlib.Core.List.{List, [], ◌∷◌}
@@ -13,8 +14,8 @@ use Rattle.rulebook.specs.Writers.{over}
 use Rattle.rule_laws.proofs.ToolLaws.{given_on, given_off, by_test}
 use Rattle.record.specs.Layout.{ledger_of}
 use Rattle.soundness.specs.Sound.{sound_words}
-use Rattle.differences.specs.declared.DifferAnswer.{DifferAnswer}
-use Rattle.differences.specs.declared.DifferAnswer.TheVariants as answer
+use Rattle.differences.specs.declared.DifferRefusal.{DifferRefusal}
+use Rattle.differences.specs.declared.DifferRefusal.TheVariants as why
 use Rattle.difference_lines.specs.declared.Side.TheVariants as side
 use Rattle.difference_lines.specs.Lines.{Line, side_number, stores, spell_lines, same_tables, differences}
 use Rattle.differences.specs.Lent.{Differed, refused_by, listed_in, differ, DifferOf, differ_panel}
@@ -28,21 +29,21 @@ module _ (one two list left : List ℕ) (p : Panel) (e : p ≡ differ_panel (dif
   way : (d : Differed) → differ one two (length list) ≡ d → (p ≡ differ_panel d.answer) × (left ≡ over (spell_lines d.lines) list)
   way d q = (e ∙ ap (λ (x : Differed). differ_panel x.answer) q, f ∙ ap (λ (x : Differed). over (spell_lines x.lines) list) q)
 
-  refusal_way : (a : DifferAnswer) → differ one two (length list) ≡ refused_by a → (p ≡ differ_panel a) × (left ≡ list)
+  refusal_way : (a : Result ℕ DifferRefusal) → differ one two (length list) ≡ refused_by a → (p ≡ differ_panel a) × (left ≡ list)
   refusal_way a q = let w = way (refused_by a) q in (w.0, w.1 ∙ over_nothing list)
 
   told : Told one two list p left
   unfolding differ differ_panel refusal_number side_number
   told =
       record {
-        first = λ a. refusal_way (answer.BadRecord side.First) (given_off (sound_words one) (refused_by (answer.BadRecord side.First)) _ a);
-        second = λ a b. refusal_way (answer.BadRecord side.Second) (given_on (sound_words one) (refused_by (answer.BadRecord side.First)) _ a ∙ given_off (sound_words two) (refused_by (answer.BadRecord side.Second)) _ b);
-        cramped = λ a b h. refusal_way (answer.NoRoom (length (lines_of one two))) (both a b ∙ cramped list (lines_of one two) h);
-        whole = λ a b h. way (record { answer = answer.Listed (length (lines_of one two)); lines = lines_of one two }) (both a b ∙ roomy list (lines_of one two) h);
+        first = λ a. refusal_way (Err (why.BadRecord side.First)) (given_off (sound_words one) (refused_by (Err (why.BadRecord side.First))) _ a);
+        second = λ a b. refusal_way (Err (why.BadRecord side.Second)) (given_on (sound_words one) (refused_by (Err (why.BadRecord side.First))) _ a ∙ given_off (sound_words two) (refused_by (Err (why.BadRecord side.Second))) _ b);
+        cramped = λ a b h. refusal_way (Err (why.NoRoom (length (lines_of one two)))) (both a b ∙ cramped list (lines_of one two) h);
+        whole = λ a b h. way (record { answer = Ok (length (lines_of one two)); lines = lines_of one two }) (both a b ∙ roomy list (lines_of one two) h);
       }
     where
       both : sound_words one ≡ true → sound_words two ≡ true → differ one two (length list) ≡ listed_in (length list) (lines_of one two)
-      both a b = given_on (sound_words one) (refused_by (answer.BadRecord side.First)) _ a ∙ given_on (sound_words two) (refused_by (answer.BadRecord side.Second)) _ b
+      both a b = given_on (sound_words one) (refused_by (Err (why.BadRecord side.First))) _ a ∙ given_on (sound_words two) (refused_by (Err (why.BadRecord side.Second))) _ b
 
 pub differ_shown : DifferShown
 differ_shown one two list r left d = told one two list left (differ_panel r) (ap differ_panel d.answered) d.listed

@@ -34,8 +34,8 @@ use Rattle.readers.specs.Asked.{final_on, armed_on, votes_on, blocks_on, marks_o
 use Rattle.readers.specs.Weighed.{missing_d, weights_kept, weights_on, weight_values, weights_panel}
 use Rattle.readers.proofs.Ways.{slot_unsound, slot_none, slot_asked, votes_none, votes_there, head_unsound, head_asked, weights_none, weights_there}
 use Rattle.readers.proofs.Missing.{missing_exactly, missing_nothing}
-use Rattle.inquest_lines.specs.declared.ListAnswer.{ListAnswer}
-use Rattle.inquest_lines.specs.declared.ListAnswer.TheVariants as list-answer
+use Rattle.inquest_lines.specs.declared.ListRefusal.{ListRefusal}
+use Rattle.inquest_lines.specs.declared.ListRefusal.TheVariants as why
 use Rattle.inquest_lines.specs.Lent.{list_panel}
 use Rattle.kept_lines.specs.Lent.{Listing, refused_by, spell_all, certificates_on, ToldIn}
 use Rattle.kept_lines.proofs.Laws.{on_unsound, on_none, on_slot_lem, cramped, roomy}
@@ -217,14 +217,14 @@ module _ (ws : List ℕ) (s : ℕ) (list left : List ℕ) (p : Panel) (e : p ≡
   unfolding list_panel refusal_number over
   kept_told =
       record {
-        bad = λ a. kept_way (refused_by (list-answer.Refused refusal.BadRecord)) (on_unsound ws s (length list) a);
-        slotless = λ a b. kept_way (refused_by (list-answer.Refused refusal.BadSlot)) (on_none ws s (length list) a b);
-        cramped = λ a b h. kept_way (refused_by (list-answer.NoRoom (length (kept_of ws s)))) (on_slot_lem ws s (length list) a b ∙ cramped (ledger_of ws).count list (kept_of ws s) h);
-        whole = λ a b h. kept_way (record { answer = list-answer.Listed (length (kept_of ws s)); words = spell_all (ledger_of ws).count (kept_of ws s) }) (on_slot_lem ws s (length list) a b ∙ roomy (ledger_of ws).count list (kept_of ws s) h);
+        bad = λ a. kept_way (refused_by (Err (why.Refused refusal.BadRecord))) (on_unsound ws s (length list) a);
+        slotless = λ a b. kept_way (refused_by (Err (why.Refused refusal.BadSlot))) (on_none ws s (length list) a b);
+        cramped = λ a b h. kept_way (refused_by (Err (why.NoRoom (length (kept_of ws s))))) (on_slot_lem ws s (length list) a b ∙ cramped (ledger_of ws).count list (kept_of ws s) h);
+        whole = λ a b h. kept_way (record { answer = Ok (length (kept_of ws s)); words = spell_all (ledger_of ws).count (kept_of ws s) }) (on_slot_lem ws s (length list) a b ∙ roomy (ledger_of ws).count list (kept_of ws s) h);
       }
 
 -- Two allowed results are equal.
-pub certificates_one : (ws : List ℕ) (s : ℕ) (list : List ℕ) {left left' : List ℕ} {r r' : ListAnswer} → ToldIn list (certificates_on ws s (length list)) r left
+pub certificates_one : (ws : List ℕ) (s : ℕ) (list : List ℕ) {left left' : List ℕ} {r r' : Result ℕ ListRefusal} → ToldIn list (certificates_on ws s (length list)) r left
     → ToldIn list (certificates_on ws s (length list)) r' left' → (r ≡ r') × (left ≡ left')
 certificates_one ws s list a b = (a.answered ∙ sym b.answered, a.listed ∙ sym b.listed)
 

@@ -1,4 +1,5 @@
 -- Which own votes do not stand: what is answered and left, way by way. Assumes nothing.
+use Rattle.std.specs.Prelude.{Result, Ok, Err}
 use mathlib.Core.Path.{◌≡◌, refl, sym, ap, ◌∙◌}
 use mathlib.Core.Bool.{true, false}
 use mathlib.Core.List.{List, [], ◌∷◌}
@@ -16,8 +17,8 @@ use Rattle.soundness.specs.Sound.{sound_words}
 use Rattle.inquest.specs.declared.Line.{Line}
 use Rattle.inquest.specs.Lists.{is_empty}
 use Rattle.inquest.proofs.Lists.{nothing_fallen}
-use Rattle.inquest_lines.specs.declared.ListAnswer.{ListAnswer}
-use Rattle.inquest_lines.specs.declared.ListAnswer.TheVariants as answer
+use Rattle.inquest_lines.specs.declared.ListRefusal.{ListRefusal}
+use Rattle.inquest_lines.specs.declared.ListRefusal.TheVariants as why
 use Rattle.inquest_lines.specs.Lent as lent
 use Rattle.inquest_lines.specs.Lent.{spell_lines, refused_by, listed_in, list_panel}
 use Rattle.standing.specs.Asked.{stands_on, StandsOf}
@@ -38,23 +39,23 @@ module _ (ws list left : List ℕ) (p : Panel) (e : p ≡ list_panel (stands_on 
   way : (d : lent.Told) → stands_on ws (length list) ≡ d → (p ≡ list_panel d.answer) × (left ≡ over d.words list)
   way d q = (e ∙ ap (λ (x : lent.Told). list_panel x.answer) q, f ∙ ap (λ (x : lent.Told). over x.words list) q)
 
-  refusal_way : (a : ListAnswer) → stands_on ws (length list) ≡ refused_by a → (p ≡ list_panel a) × (left ≡ list)
+  refusal_way : (a : Result ℕ ListRefusal) → stands_on ws (length list) ≡ refused_by a → (p ≡ list_panel a) × (left ≡ list)
   refusal_way a q = let w = way (refused_by a) q in (w.0, w.1 ∙ over_nothing list)
 
   told : Told ws list p left
   unfolding stands_on listed_in list_panel refusal_number
   told =
       record {
-        bad = λ a. refusal_way (answer.Refused refusal.BadRecord) (given_off (sound_words ws) (refused_by (answer.Refused refusal.BadRecord)) _ a);
-        cramped = λ a h. refusal_way (answer.NoRoom n) (good a ∙ given_off (leb (5 * n) (length list)) (refused_by (answer.NoRoom n)) _ (lt-leb (5 * n) (length list) h));
-        whole = λ a h. way (record { answer = answer.Listed n; words = spell_lines (fallen_in ws) }) (good a ∙ given_on (leb (5 * n) (length list)) (refused_by (answer.NoRoom n)) _ (le-leb (5 * n) (length list) h));
+        bad = λ a. refusal_way (Err (why.Refused refusal.BadRecord)) (given_off (sound_words ws) (refused_by (Err (why.Refused refusal.BadRecord))) _ a);
+        cramped = λ a h. refusal_way (Err (why.NoRoom n)) (good a ∙ given_off (leb (5 * n) (length list)) (refused_by (Err (why.NoRoom n))) _ (lt-leb (5 * n) (length list) h));
+        whole = λ a h. way (record { answer = Ok n; words = spell_lines (fallen_in ws) }) (good a ∙ given_on (leb (5 * n) (length list)) (refused_by (Err (why.NoRoom n))) _ (le-leb (5 * n) (length list) h));
       }
     where
       n : ℕ
       n = length (fallen_in ws)
 
       good : sound_words ws ≡ true → stands_on ws (length list) ≡ listed_in (length list) (fallen_in ws)
-      good a = given_on (sound_words ws) (refused_by (answer.Refused refusal.BadRecord)) _ a
+      good a = given_on (sound_words ws) (refused_by (Err (why.Refused refusal.BadRecord))) _ a
 
 pub stands_shown : StandsShown
 stands_shown ws list r left d = told ws list left (list_panel r) (ap list_panel d.answered) d.listed

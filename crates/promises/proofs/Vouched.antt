@@ -1,4 +1,5 @@
 -- Which votes a firm's record lacks, and which blocks have two parents: what is answered and left, way by way. Assumes nothing.
+use Rattle.std.specs.Prelude.{Result, Ok, Err}
 use mathlib.Core.Path.{◌≡◌, refl, sym, ap, ◌∙◌}
 use mathlib.Core.Bool.{true, false, not}
 use mathlib.Core.List.{List, [], ◌∷◌}
@@ -20,8 +21,8 @@ use Rattle.difference_lines.specs.Lines.{side_number, same_tables}
 use Rattle.inquest.specs.declared.Line.{Line}
 use Rattle.inquest.specs.Lists.{is_empty, lacking}
 use Rattle.inquest.proofs.Lists.{nothing_lacking}
-use Rattle.inquest_lines.specs.declared.ListAnswer.{ListAnswer}
-use Rattle.inquest_lines.specs.declared.ListAnswer.TheVariants as answer
+use Rattle.inquest_lines.specs.declared.ListRefusal.{ListRefusal}
+use Rattle.inquest_lines.specs.declared.ListRefusal.TheVariants as why
 use Rattle.inquest_lines.specs.Lent as lent
 use Rattle.inquest_lines.specs.Lent.{spell_lines, refused_by, put_in, listed_in, list_panel}
 use Rattle.vouching.specs.Asked.{lacking_of, of_two, vouched_on, VouchedOf}
@@ -42,15 +43,15 @@ module _ (t : lent.Told) (list left : List ℕ) (p : Panel) (e : p ≡ list_pane
   way : (d : lent.Told) → t ≡ d → (p ≡ list_panel d.answer) × (left ≡ over d.words list)
   way d q = (e ∙ ap (λ (x : lent.Told). list_panel x.answer) q, f ∙ ap (λ (x : lent.Told). over x.words list) q)
 
-  refusal_way : (a : ListAnswer) → t ≡ refused_by a → (p ≡ list_panel a) × (left ≡ list)
+  refusal_way : (a : Result ℕ ListRefusal) → t ≡ refused_by a → (p ≡ list_panel a) × (left ≡ list)
   refusal_way a q = let w = way (refused_by a) q in (w.0, w.1 ∙ over_nothing list)
 
   listed_way : (n : ℕ) (ws : List ℕ) → t ≡ put_in (length list) n ws → Listed n ws list p left
   unfolding list_panel refusal_number
   listed_way n ws q =
       record {
-        cramped = λ h. refusal_way (answer.NoRoom n) (q ∙ given_off (leb (5 * n) (length list)) (refused_by (answer.NoRoom n)) _ (lt-leb (5 * n) (length list) h));
-        whole = λ h. way (record { answer = answer.Listed n; words = ws }) (q ∙ given_on (leb (5 * n) (length list)) (refused_by (answer.NoRoom n)) _ (le-leb (5 * n) (length list) h));
+        cramped = λ h. refusal_way (Err (why.NoRoom n)) (q ∙ given_off (leb (5 * n) (length list)) (refused_by (Err (why.NoRoom n))) _ (lt-leb (5 * n) (length list) h));
+        whole = λ h. way (record { answer = Ok n; words = ws }) (q ∙ given_on (leb (5 * n) (length list)) (refused_by (Err (why.NoRoom n))) _ (le-leb (5 * n) (length list) h));
       }
 
 -- ---- two records
@@ -60,25 +61,25 @@ module _ (one two : List ℕ) (n : ℕ) (ws list left : List ℕ) (p : Panel) wh
   t = of_two one two (λ _. put_in (length list) n ws)
 
   abbrev asked : Unit {0} → lent.Told
-  asked _ = whenever (same_tables (ledger_of one) (ledger_of two)) (λ _. put_in (length list) n ws) (refused_by (answer.Refused refusal.BadSizes))
+  asked _ = whenever (same_tables (ledger_of one) (ledger_of two)) (λ _. put_in (length list) n ws) (refused_by (Err (why.Refused refusal.BadSizes)))
 
   abbrev next : Unit {0} → lent.Told
-  next _ = whenever (sound_words two) asked (refused_by (answer.BadRecord side.Second))
+  next _ = whenever (sound_words two) asked (refused_by (Err (why.BadRecord side.Second)))
 
   onward : sound_words one ≡ true → t ≡ next tt
-  onward a = given_on (sound_words one) (refused_by (answer.BadRecord side.First)) next a
+  onward a = given_on (sound_words one) (refused_by (Err (why.BadRecord side.First))) next a
 
   further : sound_words one ≡ true → sound_words two ≡ true → t ≡ asked tt
-  further a b = onward a ∙ given_on (sound_words two) (refused_by (answer.BadRecord side.Second)) asked b
+  further a b = onward a ∙ given_on (sound_words two) (refused_by (Err (why.BadRecord side.Second))) asked b
 
   told : p ≡ list_panel t.answer → left ≡ over t.words list → TwoTold one two n ws list p left
   unfolding list_panel refusal_number side_number
   told e f =
       record {
-        first = λ a. refusal_way t list left p e f (answer.BadRecord side.First) (given_off (sound_words one) (refused_by (answer.BadRecord side.First)) _ a);
-        second = λ a b. refusal_way t list left p e f (answer.BadRecord side.Second) (onward a ∙ given_off (sound_words two) (refused_by (answer.BadRecord side.Second)) _ b);
-        tables = λ a b c. refusal_way t list left p e f (answer.Refused refusal.BadSizes) (further a b ∙ given_off (same_tables (ledger_of one) (ledger_of two)) (refused_by (answer.Refused refusal.BadSizes)) _ c);
-        lines = λ a b c. listed_way t list left p e f n ws (further a b ∙ given_on (same_tables (ledger_of one) (ledger_of two)) (refused_by (answer.Refused refusal.BadSizes)) _ c);
+        first = λ a. refusal_way t list left p e f (Err (why.BadRecord side.First)) (given_off (sound_words one) (refused_by (Err (why.BadRecord side.First))) _ a);
+        second = λ a b. refusal_way t list left p e f (Err (why.BadRecord side.Second)) (onward a ∙ given_off (sound_words two) (refused_by (Err (why.BadRecord side.Second))) _ b);
+        tables = λ a b c. refusal_way t list left p e f (Err (why.Refused refusal.BadSizes)) (further a b ∙ given_off (same_tables (ledger_of one) (ledger_of two)) (refused_by (Err (why.Refused refusal.BadSizes))) _ c);
+        lines = λ a b c. listed_way t list left p e f n ws (further a b ∙ given_on (same_tables (ledger_of one) (ledger_of two)) (refused_by (Err (why.Refused refusal.BadSizes))) _ c);
       }
 
 pub vouched_shown : VouchedShown
@@ -123,7 +124,7 @@ face_all_vouched one two list left w d =
     (λ a. absurd (omega (arith, number_of (t.first a).0)))
 
 -- Any two results that the contract lets pass are equal.
-pub vouched_one : (one two list : List ℕ) {left left' : List ℕ} {r r' : ListAnswer} → VouchedOf one two list r left → VouchedOf one two list r' left' → (r ≡ r') × (left ≡ left')
+pub vouched_one : (one two list : List ℕ) {left left' : List ℕ} {r r' : Result ℕ ListRefusal} → VouchedOf one two list r left → VouchedOf one two list r' left' → (r ≡ r') × (left ≡ left')
 vouched_one one two list a b = (a.answered ∙ sym b.answered, a.listed ∙ sym b.listed)
 
 -- ---- parents
@@ -178,7 +179,7 @@ face_one_parent =
     }
 
 -- Any two results that the contract lets pass are equal.
-pub parents_one : (one two list : List ℕ) {left left' : List ℕ} {r r' : ListAnswer} → ParentsOf one two list r left → ParentsOf one two list r' left' → (r ≡ r') × (left ≡ left')
+pub parents_one : (one two list : List ℕ) {left left' : List ℕ} {r r' : Result ℕ ListRefusal} → ParentsOf one two list r left → ParentsOf one two list r' left' → (r ≡ r') × (left ≡ left')
 parents_one one two list a b = (a.answered ∙ sym b.answered, a.listed ∙ sym b.listed)
 
 -- ---- a packet
@@ -188,8 +189,8 @@ module _ (ws packet list left : List ℕ) (p : Panel) (e : p ≡ list_panel (pac
   unfolding packet_on checked_on listed_in list_panel refusal_number
   packet_told =
       record {
-        bad = λ a. refusal_way t list left p e f (answer.Refused refusal.BadRecord) (given_off (sound_words ws) (refused_by (answer.Refused refusal.BadRecord)) _ a);
-        refused = λ a r k. refusal_way t list left p e f (answer.Refused r) (onward a ∙ ap (checked_on (ledger_of ws) packet (length list)) k);
+        bad = λ a. refusal_way t list left p e f (Err (why.Refused refusal.BadRecord)) (given_off (sound_words ws) (refused_by (Err (why.Refused refusal.BadRecord))) _ a);
+        refused = λ a r k. refusal_way t list left p e f (Err (why.Refused r)) (onward a ∙ ap (checked_on (ledger_of ws) packet (length list)) k);
         lines = λ a x k. listed_way t list left p e f (length (packet_lacks (ledger_of ws) packet)) (spell_lines (packet_lacks (ledger_of ws) packet)) (onward a ∙ ap (checked_on (ledger_of ws) packet (length list)) k);
       }
     where
@@ -197,7 +198,7 @@ module _ (ws packet list left : List ℕ) (p : Panel) (e : p ≡ list_panel (pac
       t = packet_on ws packet (length list)
 
       onward : sound_words ws ≡ true → t ≡ checked_on (ledger_of ws) packet (length list) (check_packet (table_of (ledger_of ws)) packet)
-      onward a = given_on (sound_words ws) (refused_by (answer.Refused refusal.BadRecord)) _ a
+      onward a = given_on (sound_words ws) (refused_by (Err (why.Refused refusal.BadRecord))) _ a
 
 pub packet_shown : PacketShown
 packet_shown ws packet list r left d = packet_told ws packet list left (list_panel r) (ap list_panel d.answered) d.listed
@@ -206,5 +207,5 @@ pub face_vouched_packet : FaceVouchedPacket
 face_vouched_packet ws packet list number beside left d =
     packet_told ws packet list left (shown_as number beside) (λ i. record { number = d.numbered i; values = d.counted i }) d.lines
 
-pub packet_one : (ws packet list : List ℕ) {left left' : List ℕ} {r r' : ListAnswer} → PacketOf ws packet list r left → PacketOf ws packet list r' left' → (r ≡ r') × (left ≡ left')
+pub packet_one : (ws packet list : List ℕ) {left left' : List ℕ} {r r' : Result ℕ ListRefusal} → PacketOf ws packet list r left → PacketOf ws packet list r' left' → (r ≡ r') × (left ≡ left')
 packet_one ws packet list a b = (a.answered ∙ sym b.answered, a.listed ∙ sym b.listed)

@@ -1,11 +1,11 @@
 -- Which votes differ, on the operation's contract and at the face: its number and the value beside it, and what is left in the list.
-use Rattle.std.specs.Prelude.{◌≡◌, true, false, List, [], ◌∷◌, ℕ, ◌*◌, ◌≤◌, ◌<◌, length}
+use Rattle.std.specs.Prelude.{◌≡◌, true, false, List, [], ◌∷◌, ℕ, ◌*◌, ◌≤◌, ◌<◌, length, Result}
 use Rattle.rulebook.specs.declared.Vote.{Vote}
 use Rattle.rulebook.specs.PaperNumbers.{Panel}
 use Rattle.rulebook.specs.Writers.{over}
 use Rattle.record.specs.Layout.{ledger_of}
 use Rattle.soundness.specs.Sound.{sound_words}
-use Rattle.differences.specs.declared.DifferAnswer.{DifferAnswer}
+use Rattle.differences.specs.declared.DifferRefusal.{DifferRefusal}
 use Rattle.difference_lines.specs.Lines.{Line, stores, spell_lines, same_tables, differences}
 use Rattle.differences.specs.Lent.{DifferOf, differ_panel}
 use Rattle.answers.specs.Face.{Compared}
@@ -30,7 +30,7 @@ pub record Told (one two list : List ℕ) (p : Panel) (left : List ℕ) : Type 0
 
 -- On the contract.
 abbrev pub DifferShown : Type 0
-DifferShown = (one two list : List ℕ) (r : DifferAnswer) (left : List ℕ) → DifferOf one two list r left → Told one two list (differ_panel r) left
+DifferShown = (one two list : List ℕ) (r : Result ℕ DifferRefusal) (left : List ℕ) → DifferOf one two list r left → Told one two list (differ_panel r) left
 
 -- qr_differ.
 abbrev pub FaceDiffer : Type 0

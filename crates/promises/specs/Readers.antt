@@ -20,7 +20,7 @@ use Rattle.vouched_packets.specs.Split.{split_on, split_panel}
 use Rattle.readers.specs.Asked.{final_on, armed_on, votes_on, blocks_kept, blocks_on, marks_kept, marks_on, head_kept, head_on, final_panel, armed_panel, votes_panel, cell_values, kept_values, blocks_panel, mark_values, marks_panel, head_values, head_panel}
 use Rattle.readers.specs.Weighed.{weights_kept, weights_on, weight_values, weights_panel}
 use Rattle.soundness.specs.Sound.{sound_words}
-use Rattle.inquest_lines.specs.declared.ListAnswer.{ListAnswer}
+use Rattle.inquest_lines.specs.declared.ListRefusal.{ListRefusal}
 use Rattle.inquest_lines.specs.Lent.{list_panel}
 use Rattle.kept_lines.specs.Told.{certificates_told}
 use Rattle.kept_lines.specs.Lent.{spell_all, certificates_on, ToldIn}
@@ -112,7 +112,7 @@ pub record KeptTold (ws : List ℕ) (s : ℕ) (list : List ℕ) (p : Panel) (lef
 
 abbrev pub CertificatesShown : Type 0
 CertificatesShown =
-    (ws : List ℕ) (s : ℕ) (list : List ℕ) (r : ListAnswer) (left : List ℕ) → ToldIn list (certificates_on ws s (length list)) r left → KeptTold ws s list (list_panel r) left
+    (ws : List ℕ) (s : ℕ) (list : List ℕ) (r : Result ℕ ListRefusal) (left : List ℕ) → ToldIn list (certificates_on ws s (length list)) r left → KeptTold ws s list (list_panel r) left
 
 -- qr_kept_certificates.
 abbrev pub FaceCertificates : Type 0

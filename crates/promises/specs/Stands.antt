@@ -1,5 +1,5 @@
 -- Which own votes do not stand, on the operation's contract and at the face: its number and the value beside it, and what is left in the list.
-use Rattle.std.specs.Prelude.{◌≡◌, true, false, List, ℕ, ◌*◌, ◌≤◌, ◌<◌, length}
+use Rattle.std.specs.Prelude.{◌≡◌, true, false, List, ℕ, ◌*◌, ◌≤◌, ◌<◌, length, Result}
 use Rattle.rulebook.specs.PaperNumbers.{Panel}
 use Rattle.rulebook.specs.Writers.{over}
 use Rattle.record.specs.Layout.{ledger_of}
@@ -7,7 +7,7 @@ use Rattle.soundness.specs.Sound.{sound_words}
 use Rattle.inquest.specs.declared.Line.{Line}
 use Rattle.inquest.specs.Stands.{stands}
 use Rattle.inquest.specs.Lists.{fallen}
-use Rattle.inquest_lines.specs.declared.ListAnswer.{ListAnswer}
+use Rattle.inquest_lines.specs.declared.ListRefusal.{ListRefusal}
 use Rattle.inquest_lines.specs.Lent.{spell_lines, list_panel}
 use Rattle.standing.specs.Asked.{stands_on, StandsOf}
 use Rattle.answers.specs.Face.{LinesRead}
@@ -27,7 +27,7 @@ pub record Told (ws list : List ℕ) (p : Panel) (left : List ℕ) : Type 0 wher
 
 -- On the contract.
 abbrev pub StandsShown : Type 0
-StandsShown = (ws list : List ℕ) (r : ListAnswer) (left : List ℕ) → StandsOf ws list r left → Told ws list (list_panel r) left
+StandsShown = (ws list : List ℕ) (r : Result ℕ ListRefusal) (left : List ℕ) → StandsOf ws list r left → Told ws list (list_panel r) left
 
 -- qr_stands.
 abbrev pub FaceStands : Type 0

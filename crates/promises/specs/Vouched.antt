@@ -1,6 +1,6 @@
 -- Which votes a firm's record lacks, of another record and of a packet, and which blocks two records keep with two parents, on the operations'
 -- contracts and at the face: the number and the value beside it, and what is left in the list.
-use Rattle.std.specs.Prelude.{◌≡◌, true, false, List, ℕ, ◌*◌, ◌≤◌, ◌<◌, length, Ok, Err}
+use Rattle.std.specs.Prelude.{◌≡◌, true, false, List, ℕ, ◌*◌, ◌≤◌, ◌<◌, length, Ok, Err, Result}
 use Rattle.rulebook.specs.declared.Accepted.{Accepted}
 use Rattle.rulebook.specs.declared.Refusal.{Refusal}
 use Rattle.rulebook.specs.PaperNumbers.{Panel, refusal_number}
@@ -11,7 +11,7 @@ use Rattle.soundness.specs.Sound.{sound_words}
 use Rattle.difference_lines.specs.Lines.{same_tables}
 use Rattle.inquest.specs.declared.Line.{Line}
 use Rattle.inquest.specs.Vouched.{vouched, same_parents}
-use Rattle.inquest_lines.specs.declared.ListAnswer.{ListAnswer}
+use Rattle.inquest_lines.specs.declared.ListRefusal.{ListRefusal}
 use Rattle.inquest_lines.specs.Lent.{spell_lines, list_panel}
 use Rattle.vouching.specs.Asked.{lacking_of, vouched_on, VouchedOf}
 use Rattle.vouched_packets.specs.Asked.{check_packet, packet_lacks, packet_on, PacketOf}
@@ -42,7 +42,7 @@ Told one two list p left =
 
 -- On the contract.
 abbrev pub VouchedShown : Type 0
-VouchedShown = (one two list : List ℕ) (r : ListAnswer) (left : List ℕ) → VouchedOf one two list r left → Told one two list (list_panel r) left
+VouchedShown = (one two list : List ℕ) (r : Result ℕ ListRefusal) (left : List ℕ) → VouchedOf one two list r left → Told one two list (list_panel r) left
 
 -- qr_vouched.
 abbrev pub FaceVouched : Type 0
@@ -64,7 +64,7 @@ ParentsTold one two list p left =
 -- On the contract.
 abbrev pub ParentsShown : Type 0
 ParentsShown =
-    (one two list : List ℕ) (r : ListAnswer) (left : List ℕ) → ParentsOf one two list r left → ParentsTold one two list (list_panel r) left
+    (one two list : List ℕ) (r : Result ℕ ListRefusal) (left : List ℕ) → ParentsOf one two list r left → ParentsTold one two list (list_panel r) left
 
 -- qr_same_parents.
 abbrev pub FaceSameParents : Type 0
@@ -88,7 +88,7 @@ pub record PacketTold (ws packet list : List ℕ) (p : Panel) (left : List ℕ) 
 
 -- On the contract.
 abbrev pub PacketShown : Type 0
-PacketShown = (ws packet list : List ℕ) (r : ListAnswer) (left : List ℕ) → PacketOf ws packet list r left → PacketTold ws packet list (list_panel r) left
+PacketShown = (ws packet list : List ℕ) (r : Result ℕ ListRefusal) (left : List ℕ) → PacketOf ws packet list r left → PacketTold ws packet list (list_panel r) left
 
 -- qr_vouched_packet.
 abbrev pub FaceVouchedPacket : Type 0

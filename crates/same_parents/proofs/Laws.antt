@@ -1,4 +1,5 @@
 -- Lines of blocks put one after another, how many there can be, and the whole list or 9. Assumes nothing.
+use Rattle.std.specs.Prelude.{Ok, Err}
 use mathlib.Core.Path.{◌≡◌, refl, sym, ap, ap₂, ◌∙◌, subst}
 use mathlib.Core.Bool.{Bool, true, false}
 use mathlib.Core.List.{List, [], ◌∷◌, ◌++◌, append_assoc}
@@ -20,7 +21,7 @@ use Rattle.difference_lines.specs.declared.Side.TheVariants as side
 use Rattle.difference_lines.specs.Lines.{side_number}
 use Rattle.differences.specs.Lent.{Sounds}
 use Rattle.inquest.specs.Vouched.{one_block}
-use Rattle.inquest_lines.specs.declared.ListAnswer.TheVariants as answer
+use Rattle.inquest_lines.specs.declared.ListRefusal.TheVariants as why
 use Rattle.inquest_lines.specs.Lent.{Told, ToldIn}
 use Rattle.inquest_lines.proofs.Laws.{counted_cramped, counted_nothing, counted_whole}
 use Rattle.same_parents.specs.declared.ParentLine.{ParentLine}
@@ -197,22 +198,22 @@ module _ (one two : List ℕ) where
 
 -- The lines were counted with an empty part of the list, which came back as it was.
 module _ (list : List ℕ) (xs : List ParentLine) {part : List ℕ} {n : ℕ} where
-  pub back_cramped : (ys : List ℕ) → length ys ≡ 0 → Laid part 0 xs ys n → length (ys ++ list) < 5 * n → ToldIn list (twice_in (length list) xs) (answer.NoRoom n) (ys ++ list)
+  pub back_cramped : (ys : List ℕ) → length ys ≡ 0 → Laid part 0 xs ys n → length (ys ++ list) < 5 * n → ToldIn list (twice_in (length list) xs) (Err (why.NoRoom n)) (ys ++ list)
   unfolding twice_in
   back_cramped ys z w h =
       let e : n ≡ length xs = omega (arith, w.many) in
-      subst (λ (k : ℕ). ToldIn list (twice_in (length list) xs) (answer.NoRoom k) (ys ++ list)) (sym e)
+      subst (λ (k : ℕ). ToldIn list (twice_in (length list) xs) (Err (why.NoRoom k)) (ys ++ list)) (sym e)
       (counted_cramped list (spell_lines xs) (length xs) (spell_length xs) ys z (omega (arith, e, h)))
 
-  pub back_nothing : (ys : List ℕ) → length ys ≡ 0 → Laid part 0 xs ys n → n ≡ 0 → ToldIn list (twice_in (length list) xs) (answer.Listed 0) (ys ++ list)
+  pub back_nothing : (ys : List ℕ) → length ys ≡ 0 → Laid part 0 xs ys n → n ≡ 0 → ToldIn list (twice_in (length list) xs) (Ok 0) (ys ++ list)
   unfolding twice_in
   back_nothing ys z w e = counted_nothing list (spell_lines xs) (length xs) (spell_length xs) ys z (omega (arith, w.many, e))
 
-  pub back_whole : (ys : List ℕ) {left : List ℕ} {m : ℕ} → length ys ≡ 0 → Laid part 0 xs ys n → 5 * n ≤ length (ys ++ list) → Laid (ys ++ list) 0 xs left m → ToldIn list (twice_in (length list) xs) (answer.Listed m) left
+  pub back_whole : (ys : List ℕ) {left : List ℕ} {m : ℕ} → length ys ≡ 0 → Laid part 0 xs ys n → 5 * n ≤ length (ys ++ list) → Laid (ys ++ list) 0 xs left m → ToldIn list (twice_in (length list) xs) (Ok m) left
   unfolding twice_in
   back_whole ys {left} {m} z w h v =
       let e : m ≡ length xs = omega (arith, v.many) in
-      subst (λ (k : ℕ). ToldIn list (twice_in (length list) xs) (answer.Listed k) left) (sym e)
+      subst (λ (k : ℕ). ToldIn list (twice_in (length list) xs) (Ok k) left) (sym e)
       (counted_whole list (spell_lines xs) (length xs) (spell_length xs) ys z (omega (arith, w.many, h)) v.words)
 
 -- What is told of two records that can be compared.

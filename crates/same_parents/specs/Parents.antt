@@ -1,5 +1,5 @@
 -- Which blocks of a slot and a number two records keep with two parents, as lines; what is answered, and the lent list afterwards.
-use Rattle.std.specs.Prelude.{◌≡◌, Bool, true, false, List, [], ◌∷◌, ◌++◌, ℕ, zero, suc, ◌+◌, ◌*◌, ◌≤◌, length, get_or}
+use Rattle.std.specs.Prelude.{◌≡◌, Bool, true, false, List, [], ◌∷◌, ◌++◌, ℕ, zero, suc, ◌+◌, ◌*◌, ◌≤◌, length, get_or, Result}
 use Rattle.std.proofs.lemmas.List.Edits.{sets}
 use Rattle.rulebook.specs.declared.Block.{Block}
 use Rattle.rulebook.specs.Tools.{whenever}
@@ -10,7 +10,7 @@ use Rattle.difference_lines.specs.declared.Side.{Side}
 use Rattle.difference_lines.specs.declared.Side.TheVariants as side
 use Rattle.difference_lines.specs.Lines.{side_number}
 use Rattle.inquest.specs.Vouched.{one_block, same_parents}
-use Rattle.inquest_lines.specs.declared.ListAnswer.{ListAnswer}
+use Rattle.inquest_lines.specs.declared.ListRefusal.{ListRefusal}
 use Rattle.inquest_lines.specs.Lent.{Told, put_in, ToldIn}
 use Rattle.vouching.specs.Asked.{of_two}
 use Rattle.same_parents.specs.declared.ParentLine.{ParentLine}
@@ -66,7 +66,7 @@ unfoldable pub parents_on : List ℕ → List ℕ → ℕ → Told
 parents_on one two room = of_two one two (λ _. twice_in room (twice (ledger_of one) (ledger_of two)))
 
 -- What is answered, and all words of the list afterwards.
-abbrev pub ParentsOf : List ℕ → List ℕ → List ℕ → ListAnswer → List ℕ → Type 0
+abbrev pub ParentsOf : List ℕ → List ℕ → List ℕ → Result ℕ ListRefusal → List ℕ → Type 0
 ParentsOf one two list r left = ToldIn list (parents_on one two (length list)) r left
 
 -- The list is empty exactly where no block of a slot and a number has two parents.

@@ -11,7 +11,7 @@ ghost use Rattle.same_parents.specs.Parents.{Laid, most_lines, pair_lines, place
 
 use difference_lines::Side;
 use differences::{put_word, same_tables, side_number};
-use inquest_lines::ListAnswer;
+use inquest_lines::ListRefusal;
 use record::{LAST_SLOT, MOST_BLOCKS, load_block};
 use rulebook::{Block, Refusal, Slot};
 use soundness::sound;
@@ -116,33 +116,33 @@ fn put_slots(list: &mut [u64], one: &[u64], two: &[u64]) -> usize
 }
 
 // Lists them, counted first: where they have no room, nothing is put.
-fn list_twice(list: &mut [u64], one: &[u64], two: &[u64]) -> ListAnswer
+fn list_twice(list: &mut [u64], one: &[u64], two: &[u64]) -> Result<usize, ListRefusal>
     requires { Sounds one.now two.now }
     ensures { ToldIn list.old (twice_in (length list.old) (twice (ledger_of one.now) (ledger_of two.now))) result list.new }
 {
     let needed = put_slots(&mut list[0..0], one, two);
     if list.len() < LINE_WORDS * needed {
-        return ListAnswer::NoRoom(needed);
+        return Err(ListRefusal::NoRoom(needed));
     }
     if needed == 0 {
-        return ListAnswer::Listed(0);
+        return Ok(0);
     }
-    ListAnswer::Listed(put_slots(list, one, two))
+    Ok(put_slots(list, one, two))
 }
 
 // Which blocks of a slot and a number two records keep with two parents, as lines from the list's front. Refused with 17 and the side,
 // with 1 where the stake tables differ, or with 9 and the number of lines needed, and the list as found.
-pub fn same_parents(one: &[u64], two: &[u64], list: &mut [u64]) -> ListAnswer
+pub fn same_parents(one: &[u64], two: &[u64], list: &mut [u64]) -> Result<usize, ListRefusal>
     ensures { ParentsOf one.now two.now list.old result list.new }
 {
     if !sound(one) {
-        return ListAnswer::BadRecord(Side::First);
+        return Err(ListRefusal::BadRecord(Side::First));
     }
     if !sound(two) {
-        return ListAnswer::BadRecord(Side::Second);
+        return Err(ListRefusal::BadRecord(Side::Second));
     }
     if !same_tables(one, two) {
-        return ListAnswer::Refused(Refusal::BadSizes);
+        return Err(ListRefusal::Refused(Refusal::BadSizes));
     }
     list_twice(list, one, two)
 }

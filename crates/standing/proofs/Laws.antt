@@ -1,4 +1,5 @@
 -- The tests of own votes by the ways through them, as code that has gone such a way cites them. Assumes nothing.
+use Rattle.std.specs.Prelude.{Result, Err}
 use mathlib.Core.Path.{◌≡◌, refl, sym, ap, ◌∙◌}
 use mathlib.Core.Bool.{Bool, true, false, not, ◌&&◌}
 use mathlib.Core.List.{List}
@@ -27,8 +28,8 @@ use Rattle.safety.specs.Moves.{no_fallback, not_for}
 use Rattle.inquest.specs.Stands.{none_or, lets_notar, notar_stands, fallback_stands, late_stands, final_stands}
 use Rattle.inquest.specs.declared.Line.{Line}
 use Rattle.inquest.specs.Lists.{unless, lines_to, notar_line, fallback_line, late_line, final_line, cell_fallen, slot_fallen, fallen}
-use Rattle.inquest_lines.specs.declared.ListAnswer.{ListAnswer}
-use Rattle.inquest_lines.specs.declared.ListAnswer.TheVariants as answer
+use Rattle.inquest_lines.specs.declared.ListRefusal.{ListRefusal}
+use Rattle.inquest_lines.specs.declared.ListRefusal.TheVariants as why
 use Rattle.inquest_lines.specs.Lent.{Laid, refused_by, listed_in, ToldIn}
 use Rattle.inquest_lines.proofs.Laws.{laid_then, laid_as, unless_most, more_most, to_most, told_as, told_refused}
 use Rattle.standing.specs.Asked.{stands_on, StandsOf}
@@ -157,16 +158,16 @@ slot_put l s c o p q r t u w = laid_as (ap (cell_fallen l s) o) (laid_then p (la
 -- ---- the call
 
 -- Two allowed results are equal.
-pub stands_one : (ws list : List ℕ) {left left' : List ℕ} {r r' : ListAnswer} → StandsOf ws list r left → StandsOf ws list r' left' → (r ≡ r') × (left ≡ left')
+pub stands_one : (ws list : List ℕ) {left left' : List ℕ} {r r' : Result ℕ ListRefusal} → StandsOf ws list r left → StandsOf ws list r' left' → (r ≡ r') × (left ≡ left')
 stands_one ws list a b = (a.answered ∙ sym b.answered, a.listed ∙ sym b.listed)
 
-pub bad_told : (ws list : List ℕ) → sound_words ws ≡ false → StandsOf ws list (answer.Refused refusal.BadRecord) list
+pub bad_told : (ws list : List ℕ) → sound_words ws ≡ false → StandsOf ws list (Err (why.Refused refusal.BadRecord)) list
 unfolding stands_on
 bad_told ws list e =
-    told_as (stands_on ws (length list)) (refused_by (answer.Refused refusal.BadRecord)) (given_off (sound_words ws) (refused_by (answer.Refused refusal.BadRecord)) _ e)
-    (told_refused list (answer.Refused refusal.BadRecord))
+    told_as (stands_on ws (length list)) (refused_by (Err (why.Refused refusal.BadRecord))) (given_off (sound_words ws) (refused_by (Err (why.Refused refusal.BadRecord))) _ e)
+    (told_refused list (Err (why.Refused refusal.BadRecord)))
 
-pub good_told : (ws list : List ℕ) {r : ListAnswer} {left : List ℕ} → sound_words ws ≡ true → ToldIn list (listed_in (length list) (fallen (ledger_of ws))) r left → StandsOf ws list r left
+pub good_told : (ws list : List ℕ) {r : Result ℕ ListRefusal} {left : List ℕ} → sound_words ws ≡ true → ToldIn list (listed_in (length list) (fallen (ledger_of ws))) r left → StandsOf ws list r left
 unfolding stands_on
 good_told ws list e w =
-    told_as (stands_on ws (length list)) (listed_in (length list) (fallen (ledger_of ws))) (given_on (sound_words ws) (refused_by (answer.Refused refusal.BadRecord)) _ e) w
+    told_as (stands_on ws (length list)) (listed_in (length list) (fallen (ledger_of ws))) (given_on (sound_words ws) (refused_by (Err (why.Refused refusal.BadRecord))) _ e) w

@@ -1,22 +1,22 @@
 -- What is answered about one lent record, and the lent list afterwards.
-use Rattle.std.specs.Prelude.{◌≡◌, true, List, ℕ, suc, ◌+◌, ◌≤◌, ◌<◌, length}
+use Rattle.std.specs.Prelude.{◌≡◌, true, List, ℕ, suc, ◌+◌, ◌≤◌, ◌<◌, length, Result, Err}
 use Rattle.rulebook.specs.declared.Refusal.TheVariants as refusal
 use Rattle.rulebook.specs.Tools.{whenever}
 use Rattle.record.specs.Layout.{ledger_of}
 use Rattle.candidates.specs.Judging.{Judging}
 use Rattle.soundness.specs.Sound.{sound_words}
 use Rattle.inquest.specs.Lists.{fallen}
-use Rattle.inquest_lines.specs.declared.ListAnswer.{ListAnswer}
-use Rattle.inquest_lines.specs.declared.ListAnswer.TheVariants as answer
+use Rattle.inquest_lines.specs.declared.ListRefusal.{ListRefusal}
+use Rattle.inquest_lines.specs.declared.ListRefusal.TheVariants as why
 use Rattle.inquest_lines.specs.Lent.{Told, refused_by, listed_in, ToldIn, most_lines}
 
 -- 17 for words that are no record; else the own votes that do not stand, or 9 with the number of lines.
 unfoldable pub stands_on : List ℕ → ℕ → Told
 stands_on ws room =
-    whenever (sound_words ws) (λ _. listed_in room (fallen (ledger_of ws))) (refused_by (answer.Refused refusal.BadRecord))
+    whenever (sound_words ws) (λ _. listed_in room (fallen (ledger_of ws))) (refused_by (Err (why.Refused refusal.BadRecord)))
 
 -- What is answered, and all words of the list afterwards.
-abbrev pub StandsOf : List ℕ → List ℕ → ListAnswer → List ℕ → Type 0
+abbrev pub StandsOf : List ℕ → List ℕ → Result ℕ ListRefusal → List ℕ → Type 0
 StandsOf ws list r left = ToldIn list (stands_on ws (length list)) r left
 
 -- ---- the parts

@@ -17,7 +17,7 @@ ghost use Rattle.standing.specs.Asked.{Putting, PuttingSlot, Sounding, StandsOf}
 
 use candidates::{fallback_weights, is_grounded, skip_weights};
 use inquest::Line;
-use inquest_lines::{ListAnswer, put_unless};
+use inquest_lines::{ListRefusal, put_unless};
 use parents::ready;
 use pool::{held, is_first};
 use record::{LAST_SLOT, MOST_BLOCKS, load_block, own, own_cell};
@@ -235,27 +235,27 @@ fn put_slots(list: &mut [u64], rec: &[u64]) -> usize
 }
 
 // Lists the own votes that do not stand, counted first: where they have no room, nothing is put.
-fn list_fallen(list: &mut [u64], rec: &[u64]) -> ListAnswer
+fn list_fallen(list: &mut [u64], rec: &[u64]) -> Result<usize, ListRefusal>
     requires { Sounding rec.now }
     ensures { ToldIn list.old (listed_in (length list.old) (fallen (ledger_of rec.now))) result list.new }
 {
     let needed = put_slots(&mut list[0..0], rec);
     if list.len() < LINE_WORDS * needed {
-        return ListAnswer::NoRoom(needed);
+        return Err(ListRefusal::NoRoom(needed));
     }
     if needed == 0 {
-        return ListAnswer::Listed(0);
+        return Ok(0);
     }
-    ListAnswer::Listed(put_slots(list, rec))
+    Ok(put_slots(list, rec))
 }
 
 // Which own votes of a record do not stand, as lines from the list's front: refused with 17, or with 9 and the number of lines needed, and
 // the list as found.
-pub fn own_votes_stand(rec: &[u64], list: &mut [u64]) -> ListAnswer
+pub fn own_votes_stand(rec: &[u64], list: &mut [u64]) -> Result<usize, ListRefusal>
     ensures { StandsOf rec.now list.old result list.new }
 {
     if !sound(rec) {
-        return ListAnswer::Refused(Refusal::BadRecord);
+        return Err(ListRefusal::Refused(Refusal::BadRecord));
     }
     list_fallen(list, rec)
 }

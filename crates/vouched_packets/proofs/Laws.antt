@@ -27,8 +27,8 @@ use Rattle.record.proofs.Reading.{ledger_shaped}
 use Rattle.soundness.specs.Sound.{sound_words}
 use Rattle.inquest.specs.declared.Line.{Line}
 use Rattle.inquest.specs.Lists.{signer_lacks, found_lacks, next_lacks, lacking_in}
-use Rattle.inquest_lines.specs.declared.ListAnswer.{ListAnswer}
-use Rattle.inquest_lines.specs.declared.ListAnswer.TheVariants as answer
+use Rattle.inquest_lines.specs.declared.ListRefusal.{ListRefusal}
+use Rattle.inquest_lines.specs.declared.ListRefusal.TheVariants as why
 use Rattle.inquest_lines.specs.Lent.{Laid, Told, refused_by, listed_in, ToldIn}
 use Rattle.inquest_lines.proofs.Laws.{laid_none, laid_then, laid_as, told_as, told_refused, back_nothing}
 use Rattle.signer_lines.specs.declared.Signer.{Signer}
@@ -136,34 +136,34 @@ module _ (ws packet list : List ℕ) where
   abbrev judged : Unit {0} → Told
   judged _ = checked_on (ledger_of ws) packet (length list) (check_packet (table_of (ledger_of ws)) packet)
 
-  pub bad_told : sound_words ws ≡ false → PacketOf ws packet list (answer.Refused refusal.BadRecord) list
+  pub bad_told : sound_words ws ≡ false → PacketOf ws packet list (Err (why.Refused refusal.BadRecord)) list
   unfolding packet_on
   bad_told e =
-      told_as (packet_on ws packet (length list)) (refused_by (answer.Refused refusal.BadRecord)) (given_off (sound_words ws) (refused_by (answer.Refused refusal.BadRecord)) judged e)
-      (told_refused list (answer.Refused refusal.BadRecord))
+      told_as (packet_on ws packet (length list)) (refused_by (Err (why.Refused refusal.BadRecord))) (given_off (sound_words ws) (refused_by (Err (why.Refused refusal.BadRecord))) judged e)
+      (told_refused list (Err (why.Refused refusal.BadRecord)))
 
   module _ (e : sound_words ws ≡ true) {c : Result Accepted Refusal} (k : c ≡ check_packet (table_of (ledger_of ws)) packet) where
     onward : packet_on ws packet (length list) ≡ checked_on (ledger_of ws) packet (length list) c
     unfolding packet_on
-    onward = given_on (sound_words ws) (refused_by (answer.Refused refusal.BadRecord)) judged e ∙ ap (checked_on (ledger_of ws) packet (length list)) (sym k)
+    onward = given_on (sound_words ws) (refused_by (Err (why.Refused refusal.BadRecord))) judged e ∙ ap (checked_on (ledger_of ws) packet (length list)) (sym k)
 
-    pub refused_told : (r : Refusal) → c ≡ Err r → PacketOf ws packet list (answer.Refused r) list
+    pub refused_told : (r : Refusal) → c ≡ Err r → PacketOf ws packet list (Err (why.Refused r)) list
     unfolding checked_on
     refused_told r d =
-        told_as (packet_on ws packet (length list)) (refused_by (answer.Refused r)) (onward ∙ ap (checked_on (ledger_of ws) packet (length list)) d) (told_refused list (answer.Refused r))
+        told_as (packet_on ws packet (length list)) (refused_by (Err (why.Refused r))) (onward ∙ ap (checked_on (ledger_of ws) packet (length list)) d) (told_refused list (Err (why.Refused r)))
 
     module _ (a : Accepted) (d : c ≡ Ok a) where
       listed : (xs : List Line) → packet_lacks (ledger_of ws) packet ≡ xs → packet_on ws packet (length list) ≡ listed_in (length list) xs
       unfolding checked_on
       listed xs x = onward ∙ ap (checked_on (ledger_of ws) packet (length list)) d ∙ ap (listed_in (length list)) x
 
-      pub watcher_told : is_watcher (ledger_of ws) ≡ true → PacketOf ws packet list (answer.Listed 0) list
+      pub watcher_told : is_watcher (ledger_of ws) ≡ true → PacketOf ws packet list (Ok 0) list
       unfolding packet_lacks
       watcher_told w =
           told_as (packet_on ws packet (length list)) (listed_in (length list) [])
           (listed [] (given_off (not (is_watcher (ledger_of ws))) [] (λ _. lacking_in (ledger_of ws) packet) (ap not w))) (back_nothing list [] [] refl (laid_none [] 0) refl)
 
-      pub firm_told : {r : ListAnswer} {left : List ℕ} → is_watcher (ledger_of ws) ≡ false → ToldIn list (listed_in (length list) (lacking_in (ledger_of ws) packet)) r left → PacketOf ws packet list r left
+      pub firm_told : {r : Result ℕ ListRefusal} {left : List ℕ} → is_watcher (ledger_of ws) ≡ false → ToldIn list (listed_in (length list) (lacking_in (ledger_of ws) packet)) r left → PacketOf ws packet list r left
       unfolding packet_lacks
       firm_told w t =
           told_as (packet_on ws packet (length list)) (listed_in (length list) (lacking_in (ledger_of ws) packet))

@@ -12,8 +12,8 @@ use Rattle.record.specs.Layout.{Long, ledger_of}
 use Rattle.soundness.specs.Sound.{sound_words}
 use Rattle.inquest.specs.declared.Line.{Line}
 use Rattle.inquest.specs.Lists.{signer_lacks, lacking_in}
-use Rattle.inquest_lines.specs.declared.ListAnswer.{ListAnswer}
-use Rattle.inquest_lines.specs.declared.ListAnswer.TheVariants as answer
+use Rattle.inquest_lines.specs.declared.ListRefusal.{ListRefusal}
+use Rattle.inquest_lines.specs.declared.ListRefusal.TheVariants as why
 use Rattle.inquest_lines.specs.Lent.{Told, refused_by, listed_in, ToldIn, most_lines}
 use Rattle.rulebook.specs.declared.Accepted.{Accepted}
 use Rattle.rulebook.specs.declared.Refusal.{Refusal}
@@ -39,7 +39,7 @@ packet_lacks r packet = whenever (not (is_watcher r)) (λ _. lacking_in r packet
 
 -- The checker's refusal; else the lines, or 9 with how many there are.
 unfoldable pub checked_on : Ledger → List ℕ → ℕ → Result Accepted Refusal → Told
-checked_on r packet room (Err e) = refused_by (answer.Refused e)
+checked_on r packet room (Err e) = refused_by (Err (why.Refused e))
 checked_on r packet room (Ok a) = listed_in room (packet_lacks r packet)
 
 -- 17 for words that are no record; then what the checker says of the packet under the record's stakes.
@@ -47,10 +47,10 @@ unfoldable pub packet_on : List ℕ → List ℕ → ℕ → Told
 packet_on ws packet room =
     whenever (sound_words ws)
     (λ _. checked_on (ledger_of ws) packet room (check_packet (table_of (ledger_of ws)) packet))
-    (refused_by (answer.Refused refusal.BadRecord))
+    (refused_by (Err (why.Refused refusal.BadRecord)))
 
 -- What is answered, and all words of the list afterwards.
-abbrev pub PacketOf : List ℕ → List ℕ → List ℕ → ListAnswer → List ℕ → Type 0
+abbrev pub PacketOf : List ℕ → List ℕ → List ℕ → Result ℕ ListRefusal → List ℕ → Type 0
 PacketOf ws packet list r left = ToldIn list (packet_on ws packet (length list)) r left
 
 -- ---- the parts

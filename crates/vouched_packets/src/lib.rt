@@ -13,7 +13,7 @@ ghost use Rattle.vouched_packets.specs.Asked.{first_end, check_packet, read_lack
 
 use certificate_numbers::{MOST_WORDS, read_certificate, words_in};
 use checker::{check_certificate, check_proof};
-use inquest_lines::ListAnswer;
+use inquest_lines::ListRefusal;
 use kinds::kind_in;
 use record::{LAST_SLOT, count, is_watcher, own, own_cell, stakes_of};
 use rulebook::{Accepted, Unread, Cell, Heading, Refusal, Slot};
@@ -112,35 +112,35 @@ fn put_packet(list: &mut [u64], rec: &[u64], packet: &[u8]) -> usize
 }
 
 // Lists them, counted first: where they have no room, nothing is put.
-fn list_packet(list: &mut [u64], rec: &[u64], packet: &[u8]) -> ListAnswer
+fn list_packet(list: &mut [u64], rec: &[u64], packet: &[u8]) -> Result<usize, ListRefusal>
     requires { Long rec.now }
     ensures { ToldIn list.old (listed_in (length list.old) (lacking_in (ledger_of rec.now) packet.now)) result list.new }
 {
     let needed = put_packet(&mut list[0..0], rec, packet);
     if list.len() < LINE_WORDS * needed {
-        return ListAnswer::NoRoom(needed);
+        return Err(ListRefusal::NoRoom(needed));
     }
     if needed == 0 {
-        return ListAnswer::Listed(0);
+        return Ok(0);
     }
-    ListAnswer::Listed(put_packet(list, rec, packet))
+    Ok(put_packet(list, rec, packet))
 }
 
 // Which votes a packet counts the record's firm for and the record lacks, as lines from the list's front; a watcher has no firm's votes.
 // Refused with 17, as the checker refuses the packet under the record's stakes, or with 9 and the number of lines needed, and the list as
 // found.
-pub fn vouched_packet(rec: &[u64], packet: &[u8], list: &mut [u64]) -> ListAnswer
+pub fn vouched_packet(rec: &[u64], packet: &[u8], list: &mut [u64]) -> Result<usize, ListRefusal>
     ensures { PacketOf rec.now packet.now list.old result list.new }
 {
     if !sound(rec) {
-        return ListAnswer::Refused(Refusal::BadRecord);
+        return Err(ListRefusal::Refused(Refusal::BadRecord));
     }
     let checked = check_packet(stakes_of(rec), packet);
     match checked {
-        Err(r) => ListAnswer::Refused(r),
+        Err(r) => Err(ListRefusal::Refused(r)),
         Ok(_) => {
             if is_watcher(rec) {
-                return ListAnswer::Listed(0);
+                return Ok(0);
             }
             list_packet(list, rec, packet)
         }

@@ -1,4 +1,5 @@
 -- The lines of two records by what the code has read. Assumes nothing.
+use Rattle.std.specs.Prelude.{Result, Ok, Err}
 use mathlib.Core.Path.{◌≡◌, refl, sym, ap, ◌∙◌}
 use mathlib.Core.Bool.{true, false, not}
 use mathlib.Core.List.{List, [], ◌++◌}
@@ -26,8 +27,8 @@ use Rattle.difference_lines.specs.Lines.{same_tables}
 use Rattle.differences.proofs.TableLaws.{alike_count}
 use Rattle.inquest.specs.declared.Line.{Line}
 use Rattle.inquest.specs.Lists.{lines_to, cell_lacks, signer_lacks, place_lacks, kept_lacks, slot_lacks, lacking}
-use Rattle.inquest_lines.specs.declared.ListAnswer.{ListAnswer}
-use Rattle.inquest_lines.specs.declared.ListAnswer.TheVariants as answer
+use Rattle.inquest_lines.specs.declared.ListRefusal.{ListRefusal}
+use Rattle.inquest_lines.specs.declared.ListRefusal.TheVariants as why
 use Rattle.inquest_lines.specs.Lent.{Laid, Told, refused_by, listed_in, ToldIn, most_lines}
 use Rattle.inquest_lines.proofs.Laws.{laid_none, laid_then, laid_as, to_most, next_last, told_as, told_refused, back_nothing}
 use Rattle.signer_lines.specs.declared.Signer.{Signer}
@@ -148,51 +149,51 @@ module _ {one two : List ℕ} (f : Firms one two) where
 -- Each way out of what is told of two records.
 module _ (one two list : List ℕ) (told : Unit {0} → Told) where
   abbrev tables : Unit {0} → Told
-  tables _ = whenever (same_tables (ledger_of one) (ledger_of two)) told (refused_by (answer.Refused refusal.BadSizes))
+  tables _ = whenever (same_tables (ledger_of one) (ledger_of two)) told (refused_by (Err (why.Refused refusal.BadSizes)))
 
   abbrev second : Unit {0} → Told
-  second _ = whenever (sound_words two) tables (refused_by (answer.BadRecord side.Second))
+  second _ = whenever (sound_words two) tables (refused_by (Err (why.BadRecord side.Second)))
 
-  pub first_bad : sound_words one ≡ false → ToldIn list (of_two one two told) (answer.BadRecord side.First) list
+  pub first_bad : sound_words one ≡ false → ToldIn list (of_two one two told) (Err (why.BadRecord side.First)) list
   first_bad e =
-      told_as (of_two one two told) (refused_by (answer.BadRecord side.First)) (given_off (sound_words one) (refused_by (answer.BadRecord side.First)) second e)
-      (told_refused list (answer.BadRecord side.First))
+      told_as (of_two one two told) (refused_by (Err (why.BadRecord side.First))) (given_off (sound_words one) (refused_by (Err (why.BadRecord side.First))) second e)
+      (told_refused list (Err (why.BadRecord side.First)))
 
   module _ (a : sound_words one ≡ true) where
     onward : of_two one two told ≡ second tt
-    onward = given_on (sound_words one) (refused_by (answer.BadRecord side.First)) second a
+    onward = given_on (sound_words one) (refused_by (Err (why.BadRecord side.First))) second a
 
-    pub second_bad : sound_words two ≡ false → ToldIn list (of_two one two told) (answer.BadRecord side.Second) list
+    pub second_bad : sound_words two ≡ false → ToldIn list (of_two one two told) (Err (why.BadRecord side.Second)) list
     second_bad e =
-        told_as (of_two one two told) (refused_by (answer.BadRecord side.Second)) (onward ∙ given_off (sound_words two) (refused_by (answer.BadRecord side.Second)) tables e)
-        (told_refused list (answer.BadRecord side.Second))
+        told_as (of_two one two told) (refused_by (Err (why.BadRecord side.Second))) (onward ∙ given_off (sound_words two) (refused_by (Err (why.BadRecord side.Second))) tables e)
+        (told_refused list (Err (why.BadRecord side.Second)))
 
     module _ (b : sound_words two ≡ true) where
       further : of_two one two told ≡ tables tt
-      further = onward ∙ given_on (sound_words two) (refused_by (answer.BadRecord side.Second)) tables b
+      further = onward ∙ given_on (sound_words two) (refused_by (Err (why.BadRecord side.Second))) tables b
 
-      pub tables_differ : same_tables (ledger_of one) (ledger_of two) ≡ false → ToldIn list (of_two one two told) (answer.Refused refusal.BadSizes) list
+      pub tables_differ : same_tables (ledger_of one) (ledger_of two) ≡ false → ToldIn list (of_two one two told) (Err (why.Refused refusal.BadSizes)) list
       tables_differ e =
-          told_as (of_two one two told) (refused_by (answer.Refused refusal.BadSizes))
-          (further ∙ given_off (same_tables (ledger_of one) (ledger_of two)) (refused_by (answer.Refused refusal.BadSizes)) told e) (told_refused list (answer.Refused refusal.BadSizes))
+          told_as (of_two one two told) (refused_by (Err (why.Refused refusal.BadSizes)))
+          (further ∙ given_off (same_tables (ledger_of one) (ledger_of two)) (refused_by (Err (why.Refused refusal.BadSizes))) told e) (told_refused list (Err (why.Refused refusal.BadSizes)))
 
-      pub both_told : {r : ListAnswer} {left : List ℕ} → same_tables (ledger_of one) (ledger_of two) ≡ true → ToldIn list (told tt) r left → ToldIn list (of_two one two told) r left
+      pub both_told : {r : Result ℕ ListRefusal} {left : List ℕ} → same_tables (ledger_of one) (ledger_of two) ≡ true → ToldIn list (told tt) r left → ToldIn list (of_two one two told) r left
       both_told e w =
-          told_as (of_two one two told) (told tt) (further ∙ given_on (same_tables (ledger_of one) (ledger_of two)) (refused_by (answer.Refused refusal.BadSizes)) told e) w
+          told_as (of_two one two told) (told tt) (further ∙ given_on (same_tables (ledger_of one) (ledger_of two)) (refused_by (Err (why.Refused refusal.BadSizes))) told e) w
 
 -- The lines of the second's firm; a watcher has none.
 module _ (one two list : List ℕ) where
   abbrev pub asked : Unit {0} → Told
   asked _ = listed_in (length list) (lacking_of (ledger_of one) (ledger_of two))
 
-  pub watcher_told : is_watcher (ledger_of two) ≡ true → ToldIn list (asked tt) (answer.Listed 0) list
+  pub watcher_told : is_watcher (ledger_of two) ≡ true → ToldIn list (asked tt) (Ok 0) list
   unfolding lacking_of
   watcher_told e =
       told_as (asked tt) (listed_in (length list) [])
       (ap (listed_in (length list)) (given_off (not (is_watcher (ledger_of two))) [] (λ _. lacking (ledger_of one) (ledger_of two)) (ap not e)))
       (back_nothing list [] [] refl (laid_none [] 0) refl)
 
-  pub firm_told : {r : ListAnswer} {left : List ℕ} → is_watcher (ledger_of two) ≡ false → ToldIn list (listed_in (length list) (lacking (ledger_of one) (ledger_of two))) r left → ToldIn list (asked tt) r left
+  pub firm_told : {r : Result ℕ ListRefusal} {left : List ℕ} → is_watcher (ledger_of two) ≡ false → ToldIn list (listed_in (length list) (lacking (ledger_of one) (ledger_of two))) r left → ToldIn list (asked tt) r left
   unfolding lacking_of
   firm_told e w =
       told_as (asked tt) (listed_in (length list) (lacking (ledger_of one) (ledger_of two)))

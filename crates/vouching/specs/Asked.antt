@@ -1,5 +1,5 @@
 -- What is answered about two lent records, and the lent list afterwards.
-use Rattle.std.specs.Prelude.{◌≡◌, false, not, List, [], ℕ, ◌+◌, ◌≤◌, ◌<◌, length}
+use Rattle.std.specs.Prelude.{◌≡◌, false, not, List, [], ℕ, ◌+◌, ◌≤◌, ◌<◌, length, Result, Err}
 use Rattle.rulebook.specs.declared.Refusal.TheVariants as refusal
 use Rattle.rulebook.specs.Tools.{whenever}
 use Rattle.rulebook.specs.Ledger.{Ledger, places, is_watcher}
@@ -10,8 +10,8 @@ use Rattle.difference_lines.specs.Lines.{same_tables}
 use Rattle.differences.specs.Lent.{Alike}
 use Rattle.inquest.specs.declared.Line.{Line}
 use Rattle.inquest.specs.Lists.{lacking}
-use Rattle.inquest_lines.specs.declared.ListAnswer.{ListAnswer}
-use Rattle.inquest_lines.specs.declared.ListAnswer.TheVariants as answer
+use Rattle.inquest_lines.specs.declared.ListRefusal.{ListRefusal}
+use Rattle.inquest_lines.specs.declared.ListRefusal.TheVariants as why
 use Rattle.inquest_lines.specs.Lent.{Told, refused_by, listed_in, ToldIn, most_lines}
 
 -- The votes that the first ledger counts in the name of the second's firm and the second lacks. A watcher has no firm, and lacks nothing.
@@ -24,16 +24,16 @@ abbrev pub of_two : List ℕ → List ℕ → (Unit {0} → Told) → Told
 of_two one two told =
     whenever (sound_words one)
     (λ _. whenever (sound_words two)
-    (λ _. whenever (same_tables (ledger_of one) (ledger_of two)) told (refused_by (answer.Refused refusal.BadSizes)))
-    (refused_by (answer.BadRecord side.Second)))
-    (refused_by (answer.BadRecord side.First))
+    (λ _. whenever (same_tables (ledger_of one) (ledger_of two)) told (refused_by (Err (why.Refused refusal.BadSizes))))
+    (refused_by (Err (why.BadRecord side.Second))))
+    (refused_by (Err (why.BadRecord side.First)))
 
 -- The lines, or 9 with how many there are.
 unfoldable pub vouched_on : List ℕ → List ℕ → ℕ → Told
 vouched_on one two room = of_two one two (λ _. listed_in room (lacking_of (ledger_of one) (ledger_of two)))
 
 -- What is answered, and all words of the list afterwards.
-abbrev pub VouchedOf : List ℕ → List ℕ → List ℕ → ListAnswer → List ℕ → Type 0
+abbrev pub VouchedOf : List ℕ → List ℕ → List ℕ → Result ℕ ListRefusal → List ℕ → Type 0
 VouchedOf one two list r left = ToldIn list (vouched_on one two (length list)) r left
 
 -- ---- the parts

@@ -12,7 +12,7 @@ ghost use Rattle.vouching.specs.Asked.{AtPlace, InPlaces, Comparing, Firms, Vouc
 
 use difference_lines::Side;
 use differences::same_tables;
-use inquest_lines::ListAnswer;
+use inquest_lines::ListRefusal;
 use kept_certificates::{block_at, is_kept, mask_a, mask_b};
 use record::{LAST_SLOT, MOST_CERTIFICATES, is_watcher, load_cell, own, own_cell};
 use rulebook::{Cell, CertificateKind, Node, Refusal, Slot};
@@ -97,37 +97,37 @@ fn put_slots(list: &mut [u64], one: &[u64], two: &[u64]) -> usize
 }
 
 // Lists the votes that the second record lacks, counted first: where they have no room, nothing is put.
-fn list_lacking(list: &mut [u64], one: &[u64], two: &[u64]) -> ListAnswer
+fn list_lacking(list: &mut [u64], one: &[u64], two: &[u64]) -> Result<usize, ListRefusal>
     requires { Firms one.now two.now }
     ensures { ToldIn list.old (listed_in (length list.old) (lacking (ledger_of one.now) (ledger_of two.now))) result list.new }
 {
     let needed = put_slots(&mut list[0..0], one, two);
     if list.len() < LINE_WORDS * needed {
-        return ListAnswer::NoRoom(needed);
+        return Err(ListRefusal::NoRoom(needed));
     }
     if needed == 0 {
-        return ListAnswer::Listed(0);
+        return Ok(0);
     }
-    ListAnswer::Listed(put_slots(list, one, two))
+    Ok(put_slots(list, one, two))
 }
 
 // Which votes the first record counts in the name of the second's firm and the second record lacks, as lines from the list's front; a
 // watcher has no firm's votes. Refused with 17 and the side, with 1 where the stake tables differ, or with 9 and the number of lines
 // needed, and the list as found.
-pub fn vouched(one: &[u64], two: &[u64], list: &mut [u64]) -> ListAnswer
+pub fn vouched(one: &[u64], two: &[u64], list: &mut [u64]) -> Result<usize, ListRefusal>
     ensures { VouchedOf one.now two.now list.old result list.new }
 {
     if !sound(one) {
-        return ListAnswer::BadRecord(Side::First);
+        return Err(ListRefusal::BadRecord(Side::First));
     }
     if !sound(two) {
-        return ListAnswer::BadRecord(Side::Second);
+        return Err(ListRefusal::BadRecord(Side::Second));
     }
     if !same_tables(one, two) {
-        return ListAnswer::Refused(Refusal::BadSizes);
+        return Err(ListRefusal::Refused(Refusal::BadSizes));
     }
     if is_watcher(two) {
-        return ListAnswer::Listed(0);
+        return Ok(0);
     }
     list_lacking(list, one, two)
 }

@@ -2,9 +2,9 @@
 use Rattle.differences.specs.Lent.{differ_panel}
 use Rattle.answers.proofs.differ_number.Goals as goal
 
-pub returns-in-Listed : goal.returns-in-Listed
+pub returns-in-Ok : goal.returns-in-Ok
 unfolding differ_panel
-returns-in-Listed c = simp c.in-Listed.is
+returns-in-Ok c = simp c.in-Ok.is
 
 pub returns-in-BadRecord : goal.returns-in-BadRecord
 unfolding differ_panel

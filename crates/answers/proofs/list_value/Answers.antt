@@ -6,9 +6,9 @@ use Rattle.inquest_lines.specs.Lent.{list_panel}
 use borrow.Author.Rules.{rules}
 use Rattle.answers.proofs.list_value.Goals as goal
 
-pub returns-in-Listed : goal.returns-in-Listed
+pub returns-in-Ok : goal.returns-in-Ok
 unfolding list_panel
-returns-in-Listed c = search rules
+returns-in-Ok c = search rules
 
 pub returns-in-BadRecord : goal.returns-in-BadRecord
 unfolding list_panel
