@@ -4,13 +4,12 @@ use Rattle.rulebook.specs.declared.Vote.{Vote}
 use Rattle.rulebook.specs.declared.Refusal.TheVariants as refusal
 use Rattle.rulebook.specs.Tools.{whenever}
 use Rattle.rulebook.specs.Weights.{slot_ok, count_fits}
-use Rattle.rulebook.specs.PaperNumbers.{vote_kind, vote_number}
+use Rattle.rulebook.specs.PaperNumbers.{vote_kind, vote_number, refusal_of}
 use Rattle.rulebook.specs.Inputs.{refuse_if, is_other, not_in_table, misfits}
 use Rattle.rulebook.specs.Packets.{number_at, number_bytes}
 use Rattle.rulebook.specs.Writers.{Wrote, wrote_on}
 use Rattle.rulebook.specs.declared.Refusal.{Refusal}
 use Rattle.rulebook.specs.declared.Unread.{Unread}
-use Rattle.rulebook.specs.declared.Unread.TheVariants.{Early, Malformed}
 
 -- The vote of four numbers.
 unfoldable pub vote_of : ℕ → ℕ → ℕ → ℕ → Vote
@@ -28,8 +27,7 @@ vote_tests count v later =
 -- "12 and 13 as met": what follows a number that was read, or its refusal.
 unfoldable pub as_read : Result (ℕ × ℕ) Unread → (ℕ → ℕ → Result Vote Refusal) → Result Vote Refusal
 as_read (Ok (v, next)) f = f v next
-as_read (Err Early) f = Err refusal.BadLength
-as_read (Err Malformed) f = Err refusal.BadNumber
+as_read (Err e) f = Err (refusal_of e)
 
 -- The vote where nothing is refused.
 unfoldable pub read_on : Result ⊤ Refusal → Vote → Result Vote Refusal
