@@ -5,15 +5,10 @@ ghost use Rattle.std.specs.Prelude.{◌≡◌};
 ghost use Rattle.rulebook.specs.Packets.{last_fits, number_at, number_bytes};
 ghost use Rattle.numbers.specs.Written.{Room, Written};
 
-
-// A byte as a word.
-fn wide(x: u8) -> u64
-    ensures { result ≡ x }
-{
-    x as u64
-}
+use rulebook::Unread;
 
 // The group b may be the last one, above k bits: the shortest form, and no more than 64 bits.
+#[tactic(auto, unfolding(rulebook::specs::Packets::last_fits))]
 fn last_fits(k: u64, b: u64) -> bool
     ensures { result ≡ last_fits k b }
 {
@@ -26,9 +21,8 @@ pub fn read_number(bytes: &[u8], at: usize) -> Result<(u64, usize), Unread>
 {
     let mut v: u64 = 0;
     let mut k: u64 = 0;
-    let mut i = at;
-    while i < bytes.len() {
-        let b = wide(bytes[i]);
+    for i in at..bytes.len() {
+        let b = u64::from(bytes[i]);
         if b < 128 {
             if last_fits(k, b) {
                 return Ok((v | (b << k), i + 1));
@@ -38,24 +32,21 @@ pub fn read_number(bytes: &[u8], at: usize) -> Result<(u64, usize), Unread>
         if 63 <= k {
             return Err(Unread::Malformed);
         }
-        v = v | ((b & 127) << k);
+        v |= (b & 127) << k;
         k += 7;
-        i += 1;
     }
     Err(Unread::Early)
 }
 
 // The same, by one look where the number has one byte, as most have.
+#[tactic(auto, using(crate::proofs::Turns::read_one))]
 pub fn take_number(bytes: &[u8], at: usize) -> Result<(u64, usize), Unread>
     ensures { result ≡ number_at bytes.now at }
 {
-    if at < bytes.len() {
-        let b = wide(bytes[at]);
-        if b < 128 {
-            return Ok((b, at + 1));
-        }
+    match bytes.get(at) {
+        Some(&b) if b < 128 => Ok((u64::from(b), at + 1)),
+        _ => read_number(bytes, at),
     }
-    read_number(bytes, at)
 }
 
 // Writes a number from a place on and answers the place after it.
@@ -67,7 +58,7 @@ pub fn write_number(bytes: &mut [u8], at: usize, v: u64) -> usize
     let mut i = at;
     while 128 <= rest {
         bytes[i] = (rest % 128 + 128) as u8;
-        rest = rest >> 7;
+        rest >>= 7;
         i += 1;
     }
     bytes[i] = rest as u8;

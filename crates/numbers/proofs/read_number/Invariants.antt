@@ -8,8 +8,4 @@ use Rattle.numbers.proofs.read_number.Given as goal
 
 abbrev pub invariant-loop-i : goal.invariant-loop-i
 invariant-loop-i l =
-    (l.k ≤ 63) × (l.k % 7 ≡ 0) × (l.v < 2 ^ l.k) × (number_at l.bytes l.at ≡ onto l.v l.k l.i (number_from l.k (drop l.i l.bytes)))
-
-abbrev pub decreases-loop-i : goal.decreases-loop-i
-decreases-loop-i l =
-    length l.bytes - l.i
+    (l.i-end ≡ length l.bytes) × (l.k ≤ 63) × (l.k % 7 ≡ 0) × (l.v < 2 ^ l.k) × (number_at l.bytes l.at ≡ onto l.v l.k l.i (number_from l.k (drop l.i l.bytes)))
