@@ -6,19 +6,14 @@ use Prim.Native.Nat.{ℕ, zero, suc, ◌+◌, ◌-◌, ◌*◌, ◌/◌, ◌%◌
 use native.Mathlib.Omega.{arith}
 use native.Mathlib.Nat.{sub-zero}
 use native.Mathlib.Numerals.{add-one}
-use types.Run.{OneOf}
-use denote.Enum.Declared.{tag_of}
 use lib.ListN.{length, get_or, set, take, length-append, length-set}
 use lib.Seq.{take-suc, take-length, take-suc-set}
-use Rattle.rulebook.specs.contracts.Reading as type
 use Rattle.rulebook.specs.Packets.{number_at, number_bytes, above_word, word_then, mask_at, mask_bytes, joined}
 use Rattle.rule_laws.proofs.WordLaws.{Words}
-use Rattle.mask_words.specs.Told.{failed_word, laid_as}
+use Rattle.mask_words.specs.Told.{laid_as}
 use Rattle.numbers.specs.Written.{Room, Written}
-use Rattle.mask_words.proofs.Fell.{fell_word}
 use Rattle.numbers.proofs.Stores.{after, stores_lay}
 use Rattle.rulebook.specs.declared.Unread.{Unread}
-use Rattle.rulebook.specs.declared.Unread.TheVariants.{Early, Malformed}
 
 -- ---- reading
 
@@ -37,14 +32,10 @@ unfolding ahead above_word joined
 ahead_all [] p = refl
 ahead_all (x ∷ xs) p = ap (above_word x) (ahead_all xs p)
 
-ahead_fell : (xs : List ℕ) (n : Result (ℕ × ℕ) Unread) (a b : ℕ) → ahead xs (laid_as (failed_word n) a) ≡ laid_as (failed_word n) b
-unfolding ahead above_word laid_as
-ahead_fell [] (Ok (v, p)) a b = refl
-ahead_fell [] (Err Early) a b = refl
-ahead_fell [] (Err Malformed) a b = refl
-ahead_fell (x ∷ xs) (Ok (v, p)) a b = ap (above_word x) (ahead_fell xs (Ok (v, p)) a b)
-ahead_fell (x ∷ xs) (Err Early) a b = ap (above_word x) (ahead_fell xs (Err Early) a b)
-ahead_fell (x ∷ xs) (Err Malformed) a b = ap (above_word x) (ahead_fell xs (Err Malformed) a b)
+ahead_fell : (xs : List ℕ) (e : Unread) → ahead xs (Err e) ≡ Err e
+unfolding ahead above_word
+ahead_fell [] e = refl
+ahead_fell (x ∷ xs) e = ap (above_word x) (ahead_fell xs e)
 
 -- The first i of w words are read, and the next number stands at p.
 pub record Taken (w : ℕ) (bytes : List ℕ) (at : ℕ) (words : List ℕ) (i p : ℕ) : Type 0 where
@@ -77,10 +68,12 @@ module _ (w : ℕ) (bytes : List ℕ) (at : ℕ) (words : List ℕ) (i p : ℕ) 
             ∙ step h;
       }
 
-  pub taken_fell : (n : Result (ℕ × ℕ) Unread) (x : ℕ) → i < w → OneOf (1 ∷ 2 ∷ []) (tag_of type.the_type n) → n ≡ number_at bytes p → laid_as (failed_word n) x ≡ mask_at w bytes at
-  taken_fell n x h k e =
-      sym (ahead_fell (take i words) n x x)
-      ∙ ap (ahead (take i words)) (fell_word n (number_at bytes p) (mask_at (w - (i + 1)) bytes) x k e)
+  -- A word that could not be read decides the mask.
+  pub taken_fell : (e : Unread) (m : ℕ) → i < w → number_at bytes p ≡ Err e → laid_as (Err e) m ≡ mask_at w bytes at
+  unfolding word_then laid_as
+  taken_fell e m h q =
+      sym (ahead_fell (take i words) e)
+      ∙ ap (λ (r : Result (ℕ × ℕ) Unread). ahead (take i words) (word_then r (mask_at (w - (i + 1)) bytes))) (sym q)
       ∙ step h
 
   pub taken_all : w ≤ i → laid_as (Ok p) (joined words) ≡ mask_at w bytes at
