@@ -1,6 +1,6 @@
 -- The texts put together: digits, pairs, records, lines. Assumes nothing.
 use mathlib.Core.Path.{◌≡◌, sym, ap, ◌∙◌}
-use mathlib.Core.List.{List, [], ◌∷◌, ◌++◌}
+use mathlib.Core.List.{List, [], ◌∷◌, ◌++◌, append_assoc}
 use Prim.Native.Nat.{ℕ, ◌+◌, ◌/◌, ◌%◌, ◌≤◌, ◌<◌, min}
 use native.Mathlib.Numerals.{add-one}
 use lib.ListN.{length, get_or, take}
@@ -96,11 +96,23 @@ module _ {l : List ℕ} {at : ℕ} (answers : List ℕ) where
   unfolding votes_to
   next_vote i b e w v = as_text (rw (add-one, e)) (and_then w v)
 
-  pub last_vote : {l' l'' : List ℕ} {p q : ℕ} (i : ℕ) → (length answers ≡ 0 → ⊥) → i ≡ length answers → Put l at (32 ∷ 58 ∷ []) l' p → Put l' p (votes_to answers i) l'' q
+  pub all_votes : {l' : List ℕ} {p : ℕ} (i : ℕ) → i ≡ length answers → Put l at (votes_to answers i) l' p → Put l at (votes_to answers (length answers)) l' p
+  all_votes i e w = as_text (ap (votes_to answers) e) w
+
+  pub some_votes : {l' l'' : List ℕ} {p q : ℕ} → (length answers ≡ 0 → ⊥) → Put l at (32 ∷ 58 ∷ []) l' p → Put l' p (votes_to answers (length answers)) l'' q
       → Put l at (votes_text answers) l'' q
   unfolding votes_text
-  last_vote i n e w v =
-      as_text (ap (λ (k : ℕ). (32 ∷ 58 ∷ []) ++ votes_to answers k) e ∙ sym (choose_off (eqb (length answers) 0) _ _ (ne_eqb (length answers) 0 n))) (and_then w v)
+  some_votes n w v = as_text (sym (choose_off (eqb (length answers) 0) _ _ (ne_eqb (length answers) 0 n))) (and_then w v)
+
+-- The four numbers of a message, and the five of a check.
+pub four_numbers : (v : List ℕ) → length v ≡ 4
+    → votes_to v (length v) ≡ (spaced (get_or v 0 0) ++ (spaced (get_or v 1 0) ++ (spaced (get_or v 2 0) ++ spaced (get_or v 3 0))))
+unfolding votes_to
+four_numbers v e = rw e (simp append_assoc)
+
+pub five_numbers : (n : ℕ) (v : List ℕ) → length v ≡ 5 → votes_to v (length v) ≡ five_values (record { number = n; values = v })
+unfolding votes_to five_values
+five_numbers n v e = rw e (simp append_assoc)
 
 -- ---- lines
 

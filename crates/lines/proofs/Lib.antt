@@ -2,3 +2,4 @@
 pub mod Putting
 pub mod Digits
 pub mod Composed
+pub mod Records

@@ -5,7 +5,7 @@ ghost use Rattle.std.specs.Prelude.{◌≡◌, [], ◌∷◌, ◌++◌, ◌+◌,
 ghost use Rattle.lines.specs.Text.{decimal, hex_pair, hex_text, record_text, records_text};
 ghost use Rattle.lines.specs.Text.{glyph as Text·glyph};
 ghost use Rattle.lines.specs.Put.{Put};
-ghost use Rattle.lines.specs.Answers.{number_line, spaced, step_line, votes_text, tray_line, packet_line, message_line, missing_line, check_line};
+ghost use Rattle.lines.specs.Answers.{number_line, spaced, step_line, votes_to, votes_text, tray_line, packet_line, message_line, missing_line, check_line};
 ghost use Rattle.lines.specs.Figures.{vote_text, share_text, missing_text};
 
 use rulebook::{Node, Slot, Weight};
@@ -26,8 +26,8 @@ pub fn put_text(line: &mut [u8], at: usize, text: &[u8]) -> usize
     ensures { Put line.old at text.now line.new result }
 {
     let mut next = at;
-    for i in 0..text.len() {
-        next = put_byte(line, next, text[i]);
+    for b in text {
+        next = put_byte(line, next, *b);
     }
     next
 }
@@ -55,18 +55,11 @@ pub fn put_decimal(line: &mut [u8], at: usize, n: u64) -> usize
     put_byte(line, next, glyph(n % 10))
 }
 
-// A byte as a word.
-fn wide(x: u8) -> u64
-    ensures { result ≡ x }
-{
-    x as u64
-}
-
 // Puts a byte as two hex digits.
 fn put_pair(line: &mut [u8], at: usize, b: u8) -> usize
     ensures { Put line.old at (hex_pair b) line.new result }
 {
-    let w = wide(b);
+    let w = u64::from(b);
     let next = put_byte(line, at, glyph(w / 16));
     put_byte(line, next, glyph(w % 16))
 }
@@ -75,12 +68,12 @@ fn put_pair(line: &mut [u8], at: usize, b: u8) -> usize
 pub fn put_hex(line: &mut [u8], at: usize, bytes: &[u8]) -> usize
     ensures { Put line.old at (hex_text bytes.now) line.new result }
 {
-    if bytes.len() == 0 {
+    if bytes.is_empty() {
         return put_byte(line, at, b'-');
     }
     let mut next = at;
-    for i in 0..bytes.len() {
-        next = put_pair(line, next, bytes[i]);
+    for b in bytes {
+        next = put_pair(line, next, *b);
     }
     next
 }
@@ -89,40 +82,32 @@ pub fn put_hex(line: &mut [u8], at: usize, bytes: &[u8]) -> usize
 fn put_front(line: &mut [u8], at: usize, buffer: &[u8], size: usize) -> usize
     ensures { Put line.old at (hex_text (take size buffer.now)) line.new result }
 {
-    if size < buffer.len() {
-        return put_hex(line, at, &buffer[..size]);
-    }
-    put_hex(line, at, buffer)
+    let end = size.min(buffer.len());
+    put_hex(line, at, &buffer[..end])
 }
 
-// Puts record number i of an outbox.
-fn put_record(line: &mut [u8], at: usize, outbox: &[u64], i: usize) -> usize
-    requires { 3 * i + 3 ≤ length outbox.now }
-    ensures { Put line.old at (record_text outbox.now i) line.new result }
+// Puts a record of an outbox.
+fn put_record(line: &mut [u8], at: usize, words: &[u64; 3]) -> usize
+    ensures { Put line.old at (record_text words.now 0) line.new result }
 {
+    let [kind, slot, block] = *words;
     let p = put_byte(line, at, b' ');
-    let q = put_decimal(line, p, outbox[3 * i]);
+    let q = put_decimal(line, p, kind);
     let r = put_byte(line, q, b',');
-    let s = put_decimal(line, r, outbox[3 * i + 1]);
+    let s = put_decimal(line, r, slot);
     let t = put_byte(line, s, b',');
-    put_decimal(line, t, outbox[3 * i + 2])
-}
-
-// The smaller of two counts.
-fn least(a: usize, b: usize) -> usize
-    ensures { result ≡ min a b }
-{
-    if a < b { a } else { b }
+    put_decimal(line, t, block)
 }
 
 // Puts the first records of an outbox, as many of them as it has.
 fn put_records(line: &mut [u8], at: usize, outbox: &[u64], made: usize) -> usize
     ensures { Put line.old at (records_text outbox.now made) line.new result }
 {
-    let many = least(made, outbox.len() / 3);
+    let (records, _) = outbox.as_chunks::<3>();
+    let many = made.min(records.len());
     let mut next = at;
-    for i in 0..many {
-        next = put_record(line, next, outbox, i);
+    for words in &records[..many] {
+        next = put_record(line, next, words);
     }
     next
 }
@@ -156,18 +141,26 @@ pub fn step_line(line: &mut [u8], n: u64, made: usize, outbox: &[u64]) -> usize
     put_byte(line, r, b'\n')
 }
 
+// Puts numbers one after another, a blank before each.
+fn put_numbers(line: &mut [u8], at: usize, numbers: &[u64]) -> usize
+    ensures { Put line.old at (votes_to numbers.now (length numbers.now)) line.new result }
+{
+    let mut next = at;
+    for n in numbers {
+        next = put_spaced(line, next, *n);
+    }
+    next
+}
+
 // Puts the numbers of a tray's votes, nothing where there is no vote.
 fn put_votes(line: &mut [u8], at: usize, answers: &[u64]) -> usize
     ensures { Put line.old at (votes_text answers.now) line.new result }
 {
-    if answers.len() == 0 {
+    if answers.is_empty() {
         return at;
     }
-    let mut next = put_text(line, at, b" :");
-    for i in 0..answers.len() {
-        next = put_spaced(line, next, answers[i]);
-    }
-    next
+    let next = put_text(line, at, b" :");
+    put_numbers(line, next, answers)
 }
 
 // A tray's answer: its number, or 0 with the records made and the votes' numbers.
@@ -206,11 +199,8 @@ pub fn message_line(line: &mut [u8], n: u64, values: &[u64; 4]) -> usize
         return number_line(line, n);
     }
     let p = put_byte(line, 0, b'0');
-    let q = put_spaced(line, p, values[0]);
-    let r = put_spaced(line, q, values[1]);
-    let s = put_spaced(line, r, values[2]);
-    let t = put_spaced(line, s, values[3]);
-    put_byte(line, t, b'\n')
+    let q = put_numbers(line, p, values);
+    put_byte(line, q, b'\n')
 }
 
 // The number 15 and what is missing.
@@ -233,12 +223,8 @@ pub fn check_line(line: &mut [u8], n: u64, values: &[u64; 5], missing: Weight) -
         return number_line(line, n);
     }
     let p = put_byte(line, 0, b'0');
-    let q = put_spaced(line, p, values[0]);
-    let r = put_spaced(line, q, values[1]);
-    let s = put_spaced(line, r, values[2]);
-    let t = put_spaced(line, s, values[3]);
-    let u = put_spaced(line, t, values[4]);
-    put_byte(line, u, b'\n')
+    let q = put_numbers(line, p, values);
+    put_byte(line, q, b'\n')
 }
 
 // ---- what the board and the list of votes show

@@ -1,7 +1,8 @@
 -- A refusal is its number; else the four numbers follow.
+use native.Mathlib.Omega.{arith}
 use Rattle.lines.specs.Answers.{message_line}
-use Rattle.lines.proofs.Putting.{and_then}
-use Rattle.lines.proofs.Composed.{refused, answered}
+use Rattle.lines.proofs.Putting.{as_text}
+use Rattle.lines.proofs.Composed.{refused, answered, four_numbers}
 use Rattle.lines.proofs.message_line.Goals as goal
 
 pub returns-then-n-ne0 : goal.returns-then-n-ne0
@@ -11,4 +12,4 @@ returns-then-n-ne0 c = refused _ _ _ c.if-n-ne0.true c.number_line.ensures
 pub returns : goal.returns
 unfolding message_line
 returns c =
-    answered _ _ _ c.if-n-ne0.false c.put_byte-p.ensures (and_then c.put_spaced-q.ensures (and_then c.put_spaced-r.ensures (and_then c.put_spaced-s.ensures c.put_spaced-t.ensures))) c.put_byte.ensures
+    answered _ _ _ c.if-n-ne0.false c.put_byte-p.ensures (as_text (four_numbers _ (omega arith)) c.put_numbers-q.ensures) c.put_byte.ensures

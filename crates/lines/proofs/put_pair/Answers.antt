@@ -7,4 +7,4 @@ use Rattle.lines.proofs.put_pair.Goals as goal
 
 pub returns : goal.returns
 returns c =
-    as_text (ap hex_pair c.wide-w.ensures) (both_digits _ _ _ c.glyph.ensures c.glyph-2.ensures c.put_byte-next.ensures c.put_byte.ensures)
+    as_text (ap hex_pair c.from-w.ensures) (both_digits _ _ _ c.glyph.ensures c.glyph-2.ensures c.put_byte-next.ensures c.put_byte.ensures)

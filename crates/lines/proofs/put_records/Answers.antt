@@ -1,20 +1,16 @@
 -- The loop over the records: those before the present one are put.
-use Prim.Native.Nat.{◌-◌}
-use native.Mathlib.Omega.{arith}
-use lib.ListN.{length}
+use Rattle.lines.proofs.Putting.{as_text}
 use Rattle.lines.proofs.Composed.{no_record, next_record, last_record}
+use Rattle.lines.proofs.Records.{record_alone, last_alone}
 use Rattle.lines.proofs.put_records.Goals as goal
 
-pub loop-i-init : goal.loop-i-init
-loop-i-init c = (no_record _ _ c.args.outbox.now, omega arith, c.least-many.ensures)
+pub loop-words-init : goal.loop-words-init
+loop-words-init c = no_record _ _ c.args.outbox.now
 
-pub put_record-next-requires : goal.put_record-next-requires
-put_record-next-requires c = omega (arith, c.loop-i-test.true, c.loop-i.invariant.2)
-
-pub loop-i-preserved : goal.loop-i-preserved
-loop-i-preserved c =
-    (next_record c.args.outbox.now _ c.loop-i.invariant.0 c.put_record-next.ensures, omega (arith, c.loop-i-test.true), c.loop-i.invariant.2)
+pub loop-words-preserved : goal.loop-words-preserved
+loop-words-preserved c =
+    next_record c.args.outbox.now _ c.loop-words.invariant (as_text (record_alone _ _ _ c.loop-words.words-index c.as_chunks.ensures.front c.as_chunks.ensures.front_len c.loop-words-test.true) c.put_record-next.ensures)
 
 pub returns : goal.returns
 returns c =
-    last_record c.args.outbox.now _ c.loop-i.i (omega (arith, c.loop-i-test.false, c.loop-i.invariant.1, c.loop-i.invariant.2)) c.loop-i.invariant.0
+    last_record c.args.outbox.now _ c.loop-words.words-index (last_alone _ _ _ _ _ c.min-many.ensures c.as_chunks.ensures.front_len c.loop-words-test.false c.loop-words.auto.words-index-end) c.loop-words.invariant

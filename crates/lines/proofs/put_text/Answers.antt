@@ -1,18 +1,14 @@
 -- The loop over the bytes: those before the present one are put.
 use mathlib.Core.Path.{refl}
-use Prim.Native.Nat.{◌-◌}
 use native.Mathlib.Omega.{arith}
-use lib.ListN.{length}
 use Rattle.lines.proofs.Composed.{no_byte, next_byte, last_byte}
 use Rattle.lines.proofs.put_text.Goals as goal
 
-pub loop-i-init : goal.loop-i-init
-loop-i-init c = (no_byte _ _ c.args.text.now, omega arith, refl)
+pub loop-b-init : goal.loop-b-init
+loop-b-init c = no_byte _ _ c.args.text.now
 
-pub loop-i-preserved : goal.loop-i-preserved
-loop-i-preserved c =
-    (next_byte c.args.text.now _ _ (omega (arith, c.loop-i-test.true, c.loop-i.invariant.2)) refl c.loop-i.invariant.0 c.put_byte-next.ensures, omega (arith, c.loop-i-test.true, c.loop-i.invariant.2), c.loop-i.invariant.2)
+pub loop-b-preserved : goal.loop-b-preserved
+loop-b-preserved c = next_byte c.args.text.now _ _ (omega (arith, c.loop-b-test.true)) refl c.loop-b.invariant c.put_byte-next.ensures
 
 pub returns : goal.returns
-returns c =
-    last_byte _ c.loop-i.i (omega (arith, c.loop-i-test.false, c.loop-i.invariant.1, c.loop-i.invariant.2)) c.loop-i.invariant.0
+returns c = last_byte _ c.loop-b.b-index (omega arith) c.loop-b.invariant
