@@ -5,10 +5,11 @@ use mathlib.Core.Path.{◌≡◌, sym, ◌∙◌}
 use mathlib.Core.List.{List}
 use Prim.Native.Nat.{ℕ}
 use Rattle.rulebook.specs.declared.Input.{Input}
+use Rattle.rulebook.specs.PaperNumbers.{Panel}
 use Rattle.rulebook.specs.Writers as writer
 use Rattle.inquest_lines.specs.Lent.{Told}
 use Rattle.kept_lines.specs.Lent.{Listing}
-use Rattle.answers.specs.Face.{Beside, Started, Watched, Stepped, Taken, Trayed, Wrote, MessageRead, CardRead, FinalRead, ArmedRead, SplitRead, AnnounceRead, VotesRead, BlocksRead, MarksRead, HeadRead, WeightsRead, Checked, Compared, LinesRead, CertificatesRead, Pieced, Ended}
+use Rattle.answers.specs.Face.{Beside, Started, Watched, Stepped, Taken, Trayed, Wrote, Read, ReadOne, MessageRead, CardRead, FinalRead, ArmedRead, SplitRead, AnnounceRead, VotesRead, BlocksRead, MarksRead, HeadRead, WeightsRead, Checked, Compared, LinesRead, CertificatesRead, Pieced, Ended}
 use Rattle.rulebook.specs.declared.Accepted.{Accepted}
 use Rattle.readers.specs.declared.BlockWeights.{BlockWeights}
 use Rattle.rulebook.specs.declared.Cell.{Cell}
@@ -22,6 +23,15 @@ use Rattle.rulebook.specs.declared.Vote.{Vote}
 -- One value beside one number.
 beside_one : {v v' : ℕ} {values : List ℕ} → Beside v values → Beside v' values → v ≡ v'
 beside_one a b = cc
+
+-- Any question, with its values or its one value.
+read_one : {X : Type 0} {panel : Result X Refusal → Panel} {answer : Result X Refusal} {n n' : ℕ} {values values' : List ℕ} → Read panel answer n values
+    → Read panel answer n' values' → (n ≡ n') × (values ≡ values')
+read_one a b = (a.numbered ∙ sym b.numbered, a.valued ∙ sym b.valued)
+
+read_one_value : {X : Type 0} {panel : Result X Refusal → Panel} {answer : Result X Refusal} {n n' value value' : ℕ} → ReadOne panel answer n value
+    → ReadOne panel answer n' value' → (n ≡ n') × (value ≡ value')
+read_one_value a b = (a.numbered ∙ sym b.numbered, beside_one a.valued b.valued)
 
 -- qr_start.
 pub started_one : {ws stakes left left' : List ℕ} {own genesis n n' : ℕ} → Started ws stakes own genesis n left → Started ws stakes own genesis n' left'
@@ -59,57 +69,57 @@ wrote_one a b = (a.numbered ∙ sym b.numbered, beside_one a.counted b.counted, 
 -- qr_read_vote.
 pub message_read_one : {answer : Result Vote Refusal} {n n' : ℕ} {values values' : List ℕ} → MessageRead answer n values → MessageRead answer n' values'
     → (n ≡ n') × (values ≡ values')
-message_read_one a b = (a.numbered ∙ sym b.numbered, a.valued ∙ sym b.valued)
+message_read_one = read_one
 
 -- qr_card.
 pub card_read_one : {answer : Result Tally Refusal} {n n' : ℕ} {values values' : List ℕ} → CardRead answer n values → CardRead answer n' values'
     → (n ≡ n') × (values ≡ values')
-card_read_one a b = (a.numbered ∙ sym b.numbered, a.valued ∙ sym b.valued)
+card_read_one = read_one
 
 -- qr_final_block.
 pub final_read_one : {answer : Result ℕ Refusal} {n n' block block' : ℕ} → FinalRead answer n block → FinalRead answer n' block'
     → (n ≡ n') × (block ≡ block')
-final_read_one a b = (a.numbered ∙ sym b.numbered, beside_one a.valued b.valued)
+final_read_one = read_one_value
 
 -- qr_is_armed.
 pub armed_read_one : {answer : Result Bool Refusal} {n n' armed armed' : ℕ} → ArmedRead answer n armed → ArmedRead answer n' armed'
     → (n ≡ n') × (armed ≡ armed')
-armed_read_one a b = (a.numbered ∙ sym b.numbered, beside_one a.valued b.valued)
+armed_read_one = read_one_value
 
 -- qr_split_proof.
 pub split_read_one : {answer : Result ℕ Refusal} {n n' first first' : ℕ} → SplitRead answer n first → SplitRead answer n' first'
     → (n ≡ n') × (first ≡ first')
-split_read_one a b = (a.numbered ∙ sym b.numbered, beside_one a.valued b.valued)
+split_read_one = read_one_value
 
 -- qr_may_announce.
 pub announce_read_one : {answer : Result Bool Refusal} {n n' now now' : ℕ} → AnnounceRead answer n now → AnnounceRead answer n' now'
     → (n ≡ n') × (now ≡ now')
-announce_read_one a b = (a.numbered ∙ sym b.numbered, beside_one a.valued b.valued)
+announce_read_one = read_one_value
 
 -- qr_kept_votes.
 pub votes_read_one : {answer : Result Cell Refusal} {n n' : ℕ} {values values' : List ℕ} → VotesRead answer n values → VotesRead answer n' values'
     → (n ≡ n') × (values ≡ values')
-votes_read_one a b = (a.numbered ∙ sym b.numbered, a.valued ∙ sym b.valued)
+votes_read_one = read_one
 
 -- qr_kept_blocks.
 pub blocks_read_one : {answer : Result KeptBlocks Refusal} {n n' : ℕ} {values values' : List ℕ} → BlocksRead answer n values → BlocksRead answer n' values'
     → (n ≡ n') × (values ≡ values')
-blocks_read_one a b = (a.numbered ∙ sym b.numbered, a.valued ∙ sym b.valued)
+blocks_read_one = read_one
 
 -- qr_slot_marks.
 pub marks_read_one : {answer : Result SlotMarks Refusal} {n n' : ℕ} {values values' : List ℕ} → MarksRead answer n values → MarksRead answer n' values'
     → (n ≡ n') × (values ≡ values')
-marks_read_one a b = (a.numbered ∙ sym b.numbered, a.valued ∙ sym b.valued)
+marks_read_one = read_one
 
 -- qr_head.
 pub head_read_one : {answer : Result RecordHead Refusal} {n n' : ℕ} {values values' : List ℕ} → HeadRead answer n values → HeadRead answer n' values'
     → (n ≡ n') × (values ≡ values')
-head_read_one a b = (a.numbered ∙ sym b.numbered, a.valued ∙ sym b.valued)
+head_read_one = read_one
 
 -- qr_block_weights.
 pub weights_read_one : {answer : Result BlockWeights Refusal} {n n' : ℕ} {values values' : List ℕ} → WeightsRead answer n values → WeightsRead answer n' values'
     → (n ≡ n') × (values ≡ values')
-weights_read_one a b = (a.numbered ∙ sym b.numbered, a.valued ∙ sym b.valued)
+weights_read_one = read_one
 
 -- qr_check_certificate, qr_check_proof.
 pub checked_one : {count : ℕ} {answer : Result Accepted Refusal} {n n' missing missing' : ℕ} {values values' : List ℕ} → Checked count answer n values missing → Checked count answer n' values' missing'

@@ -3,7 +3,7 @@ use Rattle.std.specs.Prelude.{◌≡◌, List, [], ◌∷◌, ℕ, length, Bool,
 use Rattle.rulebook.specs.declared.Accepted.{Accepted}
 use Rattle.rulebook.specs.declared.Input.{Input}
 use Rattle.rulebook.specs.declared.Vote.{Vote}
-use Rattle.rulebook.specs.PaperNumbers.{vote_number, number_in, start_panel, step_panel, write_panel, read_panel, check_number, check_values, check_missing}
+use Rattle.rulebook.specs.PaperNumbers.{Panel, vote_number, number_in, start_panel, step_panel, write_panel, read_panel, check_number, check_values, check_missing}
 use Rattle.rulebook.specs.Writers.{over}
 use Rattle.rulebook.specs.Writers as written
 pub use Rattle.inputs.specs.Inputs.{vote_input, block_input, timeout_input}
@@ -85,60 +85,59 @@ pub record Wrote (wrote : written.Wrote) (buffer : List ℕ) (number count : ℕ
   pub counted : Beside count (write_panel wrote.answer).values
   pub bytes : after ≡ over wrote.bytes buffer
 
+-- A question that is answered on a panel: its number, and the values beside it.
+pub record Read {X : Type 0} (panel : Result X Refusal → Panel) (answer : Result X Refusal) (number : ℕ) (values : List ℕ) : Type 0 where
+  pub numbered : number ≡ (panel answer).number
+  pub valued : values ≡ (panel answer).values
+
+-- One that is answered with one value.
+pub record ReadOne {X : Type 0} (panel : Result X Refusal → Panel) (answer : Result X Refusal) (number value : ℕ) : Type 0 where
+  pub numbered : number ≡ (panel answer).number
+  pub valued : Beside value (panel answer).values
+
 -- A vote message: its number, and the vote's four numbers.
-pub record MessageRead (answer : Result Vote Refusal) (number : ℕ) (values : List ℕ) : Type 0 where
-  pub numbered : number ≡ (read_panel answer).number
-  pub valued : values ≡ (read_panel answer).values
+abbrev pub MessageRead : Result Vote Refusal → (number : ℕ) (values : List ℕ) → Type 0
+MessageRead = Read read_panel
 
 -- A slot's card: its number, and the card's five words.
-pub record CardRead (answer : Result Tally Refusal) (number : ℕ) (values : List ℕ) : Type 0 where
-  pub numbered : number ≡ (card_panel answer).number
-  pub valued : values ≡ (card_panel answer).values
+abbrev pub CardRead : Result Tally Refusal → (number : ℕ) (values : List ℕ) → Type 0
+CardRead = Read card_panel
 
 -- A slot's final block: its number, and the block.
-pub record FinalRead (answer : Result ℕ Refusal) (number block : ℕ) : Type 0 where
-  pub numbered : number ≡ (final_panel answer).number
-  pub valued : Beside block (final_panel answer).values
+abbrev pub FinalRead : Result ℕ Refusal → (number value : ℕ) → Type 0
+FinalRead = ReadOne final_panel
 
 -- Whether a slot's window is armed: its number, and 1 or 0.
-pub record ArmedRead (answer : Result Bool Refusal) (number armed : ℕ) : Type 0 where
-  pub numbered : number ≡ (armed_panel answer).number
-  pub valued : Beside armed (armed_panel answer).values
+abbrev pub ArmedRead : Result Bool Refusal → (number value : ℕ) → Type 0
+ArmedRead = ReadOne armed_panel
 
 -- Where a proof's first certificate ends: its number, and the bytes of that certificate.
-pub record SplitRead (answer : Result ℕ Refusal) (number first : ℕ) : Type 0 where
-  pub numbered : number ≡ (split_panel answer).number
-  pub valued : Beside first (split_panel answer).values
+abbrev pub SplitRead : Result ℕ Refusal → (number value : ℕ) → Type 0
+SplitRead = ReadOne split_panel
 
 -- Whether a block may be announced now: its number, and 1 or 0.
-pub record AnnounceRead (answer : Result Bool Refusal) (number now : ℕ) : Type 0 where
-  pub numbered : number ≡ (announce_panel answer).number
-  pub valued : Beside now (announce_panel answer).values
+abbrev pub AnnounceRead : Result Bool Refusal → (number value : ℕ) → Type 0
+AnnounceRead = ReadOne announce_panel
 
 -- A node's stored votes in a slot: its number, and the seven words of the cell.
-pub record VotesRead (answer : Result Cell Refusal) (number : ℕ) (values : List ℕ) : Type 0 where
-  pub numbered : number ≡ (votes_panel answer).number
-  pub valued : values ≡ (votes_panel answer).values
+abbrev pub VotesRead : Result Cell Refusal → (number : ℕ) (values : List ℕ) → Type 0
+VotesRead = Read votes_panel
 
 -- A slot's kept blocks: its number, and the twelve words of the four places.
-pub record BlocksRead (answer : Result KeptBlocks Refusal) (number : ℕ) (values : List ℕ) : Type 0 where
-  pub numbered : number ≡ (blocks_panel answer).number
-  pub valued : values ≡ (blocks_panel answer).values
+abbrev pub BlocksRead : Result KeptBlocks Refusal → (number : ℕ) (values : List ℕ) → Type 0
+BlocksRead = Read blocks_panel
 
 -- A slot's marks: its number, and the two marks.
-pub record MarksRead (answer : Result SlotMarks Refusal) (number : ℕ) (values : List ℕ) : Type 0 where
-  pub numbered : number ≡ (marks_panel answer).number
-  pub valued : values ≡ (marks_panel answer).values
+abbrev pub MarksRead : Result SlotMarks Refusal → (number : ℕ) (values : List ℕ) → Type 0
+MarksRead = Read marks_panel
 
 -- A record's head: its number, and the four words.
-pub record HeadRead (answer : Result RecordHead Refusal) (number : ℕ) (values : List ℕ) : Type 0 where
-  pub numbered : number ≡ (head_panel answer).number
-  pub valued : values ≡ (head_panel answer).values
+abbrev pub HeadRead : Result RecordHead Refusal → (number : ℕ) (values : List ℕ) → Type 0
+HeadRead = Read head_panel
 
 -- A block's weights in a slot: its number, and the four weights.
-pub record WeightsRead (answer : Result BlockWeights Refusal) (number : ℕ) (values : List ℕ) : Type 0 where
-  pub numbered : number ≡ (weights_panel answer).number
-  pub valued : values ≡ (weights_panel answer).values
+abbrev pub WeightsRead : Result BlockWeights Refusal → (number : ℕ) (values : List ℕ) → Type 0
+WeightsRead = Read weights_panel
 
 -- A check under a table of so many nodes: its number, its five values, and what is missing beside 15.
 pub record Checked (count : ℕ) (answer : Result Accepted Refusal) (number : ℕ) (values : List ℕ) (missing : ℕ) : Type 0 where

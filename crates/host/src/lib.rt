@@ -7,15 +7,15 @@ ghost use Rattle.std.specs.Prelude.{◌≡◌, length};
 ghost use Rattle.rulebook.specs.declared.Input.TheVariants as input;
 ghost use Rattle.rulebook.specs.Checker.{check_certificate, check_proof};
 ghost use Rattle.rulebook.specs.Messages.{vote_of, read_vote, write_vote};
-ghost use Rattle.rulebook.specs.PaperNumbers.{start_panel};
+ghost use Rattle.rulebook.specs.PaperNumbers.{start_panel, read_panel};
 ghost use Rattle.rulebook.specs.Weights.{places_for};
 ghost use Rattle.rulebook.specs.WellFormed.{outbox_words};
 ghost use Rattle.record.specs.Layout.{record_words};
 ghost use Rattle.writers.specs.Writing.{certificate_on, proof_on};
-ghost use Rattle.cards.specs.Asked.{card_on};
-ghost use Rattle.announcing.specs.Asked.{block_of, announced_on};
-ghost use Rattle.readers.specs.Asked.{final_on, armed_on, votes_on, blocks_on, marks_on, head_on};
-ghost use Rattle.readers.specs.Weighed.{weights_on};
+ghost use Rattle.cards.specs.Asked.{card_on, card_panel};
+ghost use Rattle.announcing.specs.Asked.{block_of, announced_on, announce_panel};
+ghost use Rattle.readers.specs.Asked.{final_on, final_panel, armed_on, armed_panel, votes_on, votes_panel, blocks_on, blocks_panel, marks_on, marks_panel, head_on, head_panel};
+ghost use Rattle.readers.specs.Weighed.{weights_on, weights_panel};
 ghost use Rattle.texts.specs.Texts.{text_on};
 ghost use Rattle.pieces.specs.State.{state_words, front_bytes};
 ghost use Rattle.kept_lines.specs.Lent.{certificates_on};
@@ -27,8 +27,8 @@ ghost use Rattle.inputs.specs.Inputs.{vote_input, block_input, timeout_input};
 ghost use Rattle.answers.specs.Face.{version, Started, Watched, Wrote, MessageRead, CardRead, FinalRead, ArmedRead, SplitRead, AnnounceRead, VotesRead, BlocksRead, MarksRead, HeadRead, WeightsRead, Checked, Compared, LinesRead, CertificatesRead, Pieced, Ended};
 ghost use Rattle.calls.specs.Operation.{one_input, a_tray, a_packet};
 ghost use Rattle.calls.specs.Life.{Met, MetWith, GoesOn, Stays, Life, Watch, begun};
-ghost use Rattle.host.specs.Answered.{WroteWith, CheckedWith, CardWith, FinalWith, ArmedWith, SplitWith, AnnounceWith, VotesWith, BlocksWith, MarksWith, HeadWith, WeightsWith, CertificatesWith, MessageWith, ComparedWith, LinesWith, PiecedWith, EndedWith};
-ghost use Rattle.vouched_packets.specs.Split.{split_on};
+ghost use Rattle.host.specs.Answered.{WroteWith, CheckedWith, ReadWith, ReadOneWith, CertificatesWith, ComparedWith, LinesWith, PiecedWith, EndedWith};
+ghost use Rattle.vouched_packets.specs.Split.{split_on, split_panel};
 
 use announcing::may_announce;
 use cards::read_card;
@@ -48,11 +48,11 @@ use quointrowel::{
     qr_vouched_packet, qr_watch, qr_write_certificate, qr_write_proof, qr_write_vote,
 };
 use readers::{
-    read_armed, read_blocks, read_final, read_head, read_marks, read_votes, read_weights,
+    BlockWeights, KeptBlocks, RecordHead, SlotMarks, read_armed, read_blocks, read_final, read_head,
+    read_marks, read_votes, read_weights,
 };
 use record::record_words;
-use rulebook::{Accepted, Refusal, 
-    Block, Input, Node, Slot, Vote, };
+use rulebook::{Accepted, Block, Cell, Input, Node, Refusal, Slot, Tally, Vote};
 use same_parents::same_parents;
 use standing::own_votes_stand;
 use starts::{start, watch};
@@ -480,63 +480,63 @@ pub fn plain_check_proof(stakes: &[u64], packet: &[u8]) -> Result<Accepted, Refu
 
 // Calls the public reader of a card.
 pub fn plain_read_card(rec: &[u64], slot: Slot) -> Result<Tally, Refusal>
-    ensures { CardWith (card_on rec.now slot.0) result }
+    ensures { ReadWith card_panel (card_on rec.now slot.0) result }
 {
     read_card(rec, slot)
 }
 
 // Calls the public reader of a final block.
 pub fn plain_read_final(rec: &[u64], slot: Slot) -> Result<u64, Refusal>
-    ensures { FinalWith (final_on rec.now slot.0) result }
+    ensures { ReadOneWith final_panel (final_on rec.now slot.0) result }
 {
     read_final(rec, slot)
 }
 
 // Calls the public question where a proof's first certificate ends.
 pub fn plain_split_proof(rec: &[u64], packet: &[u8]) -> Result<usize, Refusal>
-    ensures { SplitWith (split_on rec.now packet.now) result }
+    ensures { ReadOneWith split_panel (split_on rec.now packet.now) result }
 {
     split_proof(rec, packet)
 }
 
 // Calls the public question whether a block may be announced.
 pub fn plain_may_announce(rec: &[u64], slot: Slot, b: Block) -> Result<bool, Refusal>
-    ensures { AnnounceWith (announced_on rec.now slot.0 b) result }
+    ensures { ReadOneWith announce_panel (announced_on rec.now slot.0 b) result }
 {
     may_announce(rec, slot, b)
 }
 
 // Calls the public reader of an armed window.
 pub fn plain_read_armed(rec: &[u64], slot: Slot) -> Result<bool, Refusal>
-    ensures { ArmedWith (armed_on rec.now slot.0) result }
+    ensures { ReadOneWith armed_panel (armed_on rec.now slot.0) result }
 {
     read_armed(rec, slot)
 }
 
 // Calls the public reader of stored votes.
 pub fn plain_read_votes(rec: &[u64], slot: Slot, node: Node) -> Result<Cell, Refusal>
-    ensures { VotesWith (votes_on rec.now slot.0 node.0) result }
+    ensures { ReadWith votes_panel (votes_on rec.now slot.0 node.0) result }
 {
     read_votes(rec, slot, node)
 }
 
 // Calls the public reader of kept blocks.
 pub fn plain_read_blocks(rec: &[u64], slot: Slot) -> Result<KeptBlocks, Refusal>
-    ensures { BlocksWith (blocks_on rec.now slot.0) result }
+    ensures { ReadWith blocks_panel (blocks_on rec.now slot.0) result }
 {
     read_blocks(rec, slot)
 }
 
 // Calls the public reader of marks.
 pub fn plain_read_marks(rec: &[u64], slot: Slot) -> Result<SlotMarks, Refusal>
-    ensures { MarksWith (marks_on rec.now slot.0) result }
+    ensures { ReadWith marks_panel (marks_on rec.now slot.0) result }
 {
     read_marks(rec, slot)
 }
 
 // Calls the public reader of a record's head.
 pub fn plain_read_head(rec: &[u64]) -> Result<RecordHead, Refusal>
-    ensures { HeadWith (head_on rec.now) result }
+    ensures { ReadWith head_panel (head_on rec.now) result }
 {
     read_head(rec)
 }
@@ -550,7 +550,7 @@ pub fn plain_list_certificates(rec: &[u64], s: Slot, list: &mut [u64]) -> Result
 
 // Calls the public reader of a block's weights.
 pub fn plain_read_weights(rec: &[u64], s: Slot, b: u64) -> Result<BlockWeights, Refusal>
-    ensures { WeightsWith (weights_on rec.now s.0 b) result }
+    ensures { ReadWith weights_panel (weights_on rec.now s.0 b) result }
 {
     read_weights(rec, s, b)
 }
@@ -571,7 +571,7 @@ pub fn plain_end(words: &mut [u64], front: &mut [u8]) -> Result<Accepted, Refusa
 
 // Calls the public reader of vote messages.
 pub fn plain_read_vote(count: usize, message: &[u8]) -> Result<Vote, Refusal>
-    ensures { MessageWith (read_vote count message.now) result }
+    ensures { ReadWith read_panel (read_vote count message.now) result }
 {
     read_vote(count, message)
 }

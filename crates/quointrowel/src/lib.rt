@@ -26,12 +26,9 @@ ghost use Rattle.vouched_packets.specs.Split.{split_on};
 
 use announcing::may_announce;
 use answers::{
-    announce_number, announce_value, armed_number, armed_value, blocks_number, blocks_values,
-    bytes_written, card_number, card_values, check_missing, check_number, check_values,
-    differ_number, differ_value, final_number, final_value, head_number, head_values, list_number,
-    list_value, marks_number, marks_values, piece_number, read_number, read_values, records_made,
-    split_number, split_value, start_number, step_number, votes_number, votes_values,
-    weights_number, weights_values, write_number,
+    card_values, cell_values, check_missing, check_values, differ_number, differ_value, head_values,
+    kept_values, list_number, list_value, mark_values, number_of, vote_values, weight_values,
+    yes_value,
 };
 use cards::read_card;
 use checker::{check_certificate, check_proof};
@@ -78,20 +75,23 @@ pub fn qr_outbox_words() -> usize
 }
 
 // Makes the record's words a fresh node.
+#[tactic(auto, unfolding(rulebook::specs::PaperNumbers::start_panel))]
 pub fn qr_start(rec: &mut [u64], stakes: &[u64], own: usize, genesis: u64) -> u64
     ensures { Started rec.old stakes.now own genesis result rec.new }
 {
-    start_number(start(rec, stakes, Node(own), genesis))
+    number_of(start(rec, stakes, Node(own), genesis))
 }
 
 // Makes the record's words a fresh watcher, a node that has no own number and never votes.
+#[tactic(auto, unfolding(rulebook::specs::PaperNumbers::start_panel))]
 pub fn qr_watch(rec: &mut [u64], stakes: &[u64], genesis: u64) -> u64
     ensures { Watched rec.old stakes.now genesis result rec.new }
 {
-    start_number(watch(rec, stakes, genesis))
+    number_of(watch(rec, stakes, genesis))
 }
 
 // Gives the node another node's vote.
+#[tactic(auto, unfolding(rulebook::specs::PaperNumbers::step_panel))]
 pub fn qr_vote(
     rec: &mut [u64],
     outbox: &mut [u64],
@@ -104,11 +104,12 @@ pub fn qr_vote(
     ensures { Stepped rec.old outbox.old (vote_input kind node slot block) result made.new rec.new outbox.new }
 {
     let a = step(rec, outbox, vote_input(kind, Node(node), Slot(slot), block));
-    *made = records_made(a);
-    step_number(a)
+    *made = a.unwrap_or(0);
+    number_of(a)
 }
 
 // Announces a block with its parent to the node.
+#[tactic(auto, unfolding(rulebook::specs::PaperNumbers::step_panel))]
 pub fn qr_block(
     rec: &mut [u64],
     outbox: &mut [u64],
@@ -125,38 +126,42 @@ pub fn qr_block(
         outbox,
         block_input(Slot(slot), number, Slot(parentslot), parent),
     );
-    *made = records_made(a);
-    step_number(a)
+    *made = a.unwrap_or(0);
+    number_of(a)
 }
 
 // Tells the node that a slot's time is out.
+#[tactic(auto, unfolding(rulebook::specs::PaperNumbers::step_panel))]
 pub fn qr_timeout(rec: &mut [u64], outbox: &mut [u64], made: &mut usize, slot: usize) -> u64
     ensures { Stepped rec.old outbox.old (timeout_input slot) result made.new rec.new outbox.new }
 {
     let a = step(rec, outbox, timeout_input(Slot(slot)));
-    *made = records_made(a);
-    step_number(a)
+    *made = a.unwrap_or(0);
+    number_of(a)
 }
 
 // Has the node run its rules and nothing else.
+#[tactic(auto, unfolding(rulebook::specs::PaperNumbers::step_panel))]
 pub fn qr_look(rec: &mut [u64], outbox: &mut [u64], made: &mut usize) -> u64
     ensures { Stepped rec.old outbox.old input.Look result made.new rec.new outbox.new }
 {
     let a = step(rec, outbox, Input::Look);
-    *made = records_made(a);
-    step_number(a)
+    *made = a.unwrap_or(0);
+    number_of(a)
 }
 
 // Gives the node a certificate that another node wrote.
+#[tactic(auto, unfolding(rulebook::specs::PaperNumbers::step_panel))]
 pub fn qr_take(rec: &mut [u64], outbox: &mut [u64], made: &mut usize, packet: &[u8]) -> u64
     ensures { Taken rec.old outbox.old packet.now result made.new rec.new outbox.new }
 {
     let a = take(rec, outbox, packet);
-    *made = records_made(a);
-    step_number(a)
+    *made = a.unwrap_or(0);
+    number_of(a)
 }
 
 // Gives the node a run of other nodes' votes, four words each; one number for each vote from the answer buffer's front.
+#[tactic(auto, unfolding(rulebook::specs::PaperNumbers::step_panel))]
 pub fn qr_tray(
     rec: &mut [u64],
     outbox: &mut [u64],
@@ -167,11 +172,12 @@ pub fn qr_tray(
     ensures { Trayed rec.old outbox.old votes.now answers.old result made.new rec.new outbox.new answers.new }
 {
     let a = tray(rec, outbox, votes, answers);
-    *made = records_made(a);
-    step_number(a)
+    *made = a.unwrap_or(0);
+    number_of(a)
 }
 
 // Writes a certificate of a kind, by its number in the record's table, for a slot and a block to the buffer's front.
+#[tactic(auto, unfolding(rulebook::specs::PaperNumbers::write_panel))]
 pub fn qr_write_certificate(
     rec: &[u64],
     buffer: &mut [u8],
@@ -183,11 +189,12 @@ pub fn qr_write_certificate(
     ensures { Wrote (certificate_on rec.now (length buffer.old) kind slot block) buffer.old result written.new buffer.new }
 {
     let a = write_certificate(rec, buffer, kind, Slot(slot), block);
-    *written = bytes_written(a);
-    write_number(a)
+    *written = a.unwrap_or(0);
+    number_of(a)
 }
 
 // Writes a finality proof for a slot and a block to the buffer's front.
+#[tactic(auto, unfolding(rulebook::specs::PaperNumbers::write_panel))]
 pub fn qr_write_proof(
     rec: &[u64],
     buffer: &mut [u8],
@@ -198,56 +205,62 @@ pub fn qr_write_proof(
     ensures { Wrote (proof_on rec.now (length buffer.old) slot block) buffer.old result written.new buffer.new }
 {
     let a = write_proof(rec, buffer, Slot(slot), block);
-    *written = bytes_written(a);
-    write_number(a)
+    *written = a.unwrap_or(0);
+    number_of(a)
 }
 
 // Reads a slot's tally card: its five words.
+#[tactic(auto, unfolding(cards::specs::Asked::card_panel))]
 pub fn qr_card(rec: &[u64], slot: usize, values: &mut [u64; 5]) -> u64
     ensures { CardRead (card_on rec.now slot) result values.new }
 {
     let a = read_card(rec, Slot(slot));
-    *values = card_values(a);
-    card_number(a)
+    *values = a.map_or([0; 5], card_values);
+    number_of(a)
 }
 
 // Reads a slot's final block.
+#[tactic(auto, unfolding(readers::specs::Asked::final_panel))]
 pub fn qr_final_block(rec: &[u64], slot: usize, block: &mut u64) -> u64
     ensures { FinalRead (final_on rec.now slot) result block.new }
 {
     let a = read_final(rec, Slot(slot));
-    *block = final_value(a);
-    final_number(a)
+    *block = a.unwrap_or(0);
+    number_of(a)
 }
 
 // Reads whether a slot's window is armed: 1 or 0.
+#[tactic(auto, unfolding(readers::specs::Asked::armed_panel))]
 pub fn qr_is_armed(rec: &[u64], slot: usize, armed: &mut u64) -> u64
     ensures { ArmedRead (armed_on rec.now slot) result armed.new }
 {
     let a = read_armed(rec, Slot(slot));
-    *armed = armed_value(a);
-    armed_number(a)
+    *armed = yes_value(a);
+    number_of(a)
 }
 
 // Reads a node's stored votes in a slot: the seven words of its cell.
+#[tactic(auto, unfolding(readers::specs::Asked::votes_panel))]
 pub fn qr_kept_votes(rec: &[u64], slot: usize, node: usize, values: &mut [u64; 7]) -> u64
     ensures { VotesRead (votes_on rec.now slot node) result values.new }
 {
     let a = read_votes(rec, Slot(slot), Node(node));
-    *values = votes_values(a);
-    votes_number(a)
+    *values = a.map_or([0; 7], cell_values);
+    number_of(a)
 }
 
 // Asks where the first certificate of a finality proof ends.
+#[tactic(auto, unfolding(vouched_packets::specs::Split::split_panel))]
 pub fn qr_split_proof(rec: &[u64], packet: &[u8], first: &mut usize) -> u64
     ensures { SplitRead (split_on rec.now packet.now) result first.new }
 {
     let a = split_proof(rec, packet);
-    *first = split_value(a);
-    split_number(a)
+    *first = a.unwrap_or(0);
+    number_of(a)
 }
 
 // Asks whether announcing a block now is right, by the policy for blocks: 1 or 0.
+#[tactic(auto, unfolding(announcing::specs::Asked::announce_panel))]
 pub fn qr_may_announce(
     rec: &[u64],
     slot: usize,
@@ -264,35 +277,38 @@ pub fn qr_may_announce(
         parent,
     };
     let a = may_announce(rec, Slot(slot), b);
-    *may = announce_value(a);
-    announce_number(a)
+    *may = yes_value(a);
+    number_of(a)
 }
 
 // Reads a slot's kept blocks: three words for each of its four places.
+#[tactic(auto, unfolding(readers::specs::Asked::blocks_panel))]
 pub fn qr_kept_blocks(rec: &[u64], slot: usize, values: &mut [u64; 12]) -> u64
     ensures { BlocksRead (blocks_on rec.now slot) result values.new }
 {
     let a = read_blocks(rec, Slot(slot));
-    *values = blocks_values(a);
-    blocks_number(a)
+    *values = a.map_or([0; 12], kept_values);
+    number_of(a)
 }
 
 // Reads a slot's marks: timed out, and another final block.
+#[tactic(auto, unfolding(readers::specs::Asked::marks_panel))]
 pub fn qr_slot_marks(rec: &[u64], slot: usize, values: &mut [u64; 2]) -> u64
     ensures { MarksRead (marks_on rec.now slot) result values.new }
 {
     let a = read_marks(rec, Slot(slot));
-    *values = marks_values(a);
-    marks_number(a)
+    *values = a.map_or([0; 2], mark_values);
+    number_of(a)
 }
 
 // Reads whose record it is and of which ring: the four words of its head.
+#[tactic(auto, unfolding(readers::specs::Asked::head_panel))]
 pub fn qr_head(rec: &[u64], values: &mut [u64; 4]) -> u64
     ensures { HeadRead (head_on rec.now) result values.new }
 {
     let a = read_head(rec);
-    *values = head_values(a);
-    head_number(a)
+    *values = a.map_or([0; 4], head_values);
+    number_of(a)
 }
 
 // Lists the certificates that a slot keeps from the list's front, five words a line.
@@ -305,15 +321,17 @@ pub fn qr_kept_certificates(rec: &[u64], slot: usize, list: &mut [u64], beside: 
 }
 
 // Reads what a slot's stored votes weigh for a block: four weights.
+#[tactic(auto, unfolding(readers::specs::Weighed::weights_panel))]
 pub fn qr_block_weights(rec: &[u64], slot: usize, block: u64, values: &mut [u64; 4]) -> u64
     ensures { WeightsRead (weights_on rec.now slot block) result values.new }
 {
     let a = read_weights(rec, Slot(slot), block);
-    *values = weights_values(a);
-    weights_number(a)
+    *values = a.map_or([0; 4], weight_values);
+    number_of(a)
 }
 
 // Checks a packet that is to be one certificate.
+#[tactic(auto, unfolding(rulebook::specs::PaperNumbers::check_number))]
 pub fn qr_check_certificate(
     stakes: &[u64],
     packet: &[u8],
@@ -324,12 +342,12 @@ pub fn qr_check_certificate(
 {
     let a = check_certificate(stakes, packet);
     *values = check_values(stakes.len(), a);
-    let short = check_missing(a);
-    *missing = short.0;
-    check_number(a)
+    *missing = check_missing(a).0;
+    number_of(a)
 }
 
 // Checks a packet that is to be a finality proof.
+#[tactic(auto, unfolding(rulebook::specs::PaperNumbers::check_number))]
 pub fn qr_check_proof(
     stakes: &[u64],
     packet: &[u8],
@@ -340,9 +358,8 @@ pub fn qr_check_proof(
 {
     let a = check_proof(stakes, packet);
     *values = check_values(stakes.len(), a);
-    let short = check_missing(a);
-    *missing = short.0;
-    check_number(a)
+    *missing = check_missing(a).0;
+    number_of(a)
 }
 
 // How many words the state of a proof in pieces has.
@@ -360,34 +377,37 @@ pub fn qr_pieces_bytes() -> usize
 }
 
 // Takes a piece of a finality proof; the table is that of the first piece.
+#[tactic(auto, unfolding(pieces::specs::Pieces::piece_panel))]
 pub fn qr_piece(words: &mut [u64], front: &mut [u8], stakes: &[u64], bytes: &[u8]) -> u64
     ensures { Pieced words.old front.old stakes.now bytes.now result words.new front.new }
 {
-    piece_number(piece(words, front, stakes, bytes))
+    number_of(piece(words, front, stakes, bytes))
 }
 
 // Ends a finality proof that came in pieces: what the whole packet is answered.
+#[tactic(auto, unfolding(rulebook::specs::PaperNumbers::check_number))]
 pub fn qr_end(words: &mut [u64], front: &mut [u8], values: &mut [u64; 5], missing: &mut u64) -> u64
     ensures { Ended words.old front.old result values.new missing.new words.new front.new }
 {
     let count = node_count(words);
     let a = end(words, front);
     *values = check_values(count, a);
-    let short = check_missing(a);
-    *missing = short.0;
-    check_number(a)
+    *missing = check_missing(a).0;
+    number_of(a)
 }
 
 // Reads a vote message: the vote's four numbers.
+#[tactic(auto, unfolding(rulebook::specs::PaperNumbers::read_panel))]
 pub fn qr_read_vote(count: usize, message: &[u8], values: &mut [u64; 4]) -> u64
     ensures { MessageRead (read_vote count message.now) result values.new }
 {
     let a = read_vote(count, message);
-    *values = read_values(a);
-    read_number(a)
+    *values = a.map_or([0; 4], vote_values);
+    number_of(a)
 }
 
 // Writes a vote message to the buffer's front.
+#[tactic(auto, unfolding(rulebook::specs::PaperNumbers::write_panel))]
 pub fn qr_write_vote(
     buffer: &mut [u8],
     written: &mut usize,
@@ -401,8 +421,8 @@ pub fn qr_write_vote(
 {
     let v = vote_of(kind, Node(node), Slot(slot), block);
     let a = write_vote(count, v, buffer);
-    *written = bytes_written(a);
-    write_number(a)
+    *written = a.unwrap_or(0);
+    number_of(a)
 }
 
 // Lists the stored votes in which two records differ from the list's front, five words a line.
@@ -452,10 +472,11 @@ pub fn qr_same_parents(first: &[u64], second: &[u64], list: &mut [u64], beside: 
 }
 
 // Writes what a number means, in a sentence, to the buffer's front.
+#[tactic(auto, unfolding(rulebook::specs::PaperNumbers::write_panel))]
 pub fn qr_refusal_text(buffer: &mut [u8], written: &mut usize, number: u64) -> u64
     ensures { Wrote (text_on (length buffer.old) number) buffer.old result written.new buffer.new }
 {
     let a = refusal_text(buffer, number);
-    *written = bytes_written(a);
-    write_number(a)
+    *written = a.unwrap_or(0);
+    number_of(a)
 }

@@ -1,6 +1,0 @@
--- The list's own contract through the paper's numbers.
-use Rattle.answers.proofs.Answers.{lines_read}
-use Rattle.quointrowel.proofs.qr_same_parents.Goals as goal
-
-pub returns : goal.returns
-returns c = lines_read _ _ _ _ _ _ c.same_parents-a.ensures c.list_number.ensures c.list_value.ensures

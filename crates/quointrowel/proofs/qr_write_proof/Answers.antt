@@ -1,6 +1,0 @@
--- The writer's own contract through the paper's numbers.
-use Rattle.answers.proofs.Answers.{wrote}
-use Rattle.quointrowel.proofs.qr_write_proof.Goals as goal
-
-pub returns : goal.returns
-returns c = wrote _ _ _ _ _ _ c.write_proof-a.ensures c.write_number.ensures c.bytes_written.ensures
