@@ -1,4 +1,3 @@
 -- Laws that the proofs of a certificate as numbers cite.
-pub mod Fell
 pub mod Parts
 pub mod Whole

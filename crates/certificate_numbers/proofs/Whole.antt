@@ -1,24 +1,17 @@
 -- A certificate is its heading and then its two masks. Assumes nothing.
 use Rattle.std.specs.Prelude.{Result, Ok, Err}
 use mathlib.Core.Path.{◌≡◌, refl, sym, ap, ap₂, ◌∙◌}
-use mathlib.Core.List.{List, [], ◌∷◌, ◌++◌}
-use mathlib.Core.Logic.{inl, inr}
-use Prim.Native.Nat.{ℕ, ◌+◌, ◌-◌, ◌≤◌}
+use mathlib.Core.List.{List, ◌++◌}
+use Prim.Native.Nat.{ℕ, ◌≤◌}
 use native.Mathlib.Omega.{arith}
-use types.Run.{OneOf}
-use denote.Enum.Declared.{tag_of}
 use lib.ListN.{length, take, drop, length-append, length-drop}
 use lib.Seq.{take_at, length-take-le}
 use Rattle.rulebook.specs.declared.Heading.{Heading}
-use Rattle.rulebook.specs.contracts.Laid as laid-type
-use Rattle.rulebook.specs.contracts.Found as found_type
 use Rattle.rulebook.specs.Certificates as found
 use Rattle.rulebook.specs.Packets.{number_at, mask_at, and_then, joined, words_in, certificate_at}
 use Rattle.rule_laws.proofs.KindLaws.{words_most}
 use Rattle.mask_words.specs.Told.{laid_as}
-use Rattle.certificate_numbers.specs.Failed.{failed_mask}
 use Rattle.certificate_numbers.specs.Told.{most_words, found_as, head_then, heading_at}
-use Rattle.certificate_numbers.proofs.Fell.{fell_mask}
 use Rattle.rulebook.specs.declared.Unread.{Unread}
 use Rattle.rulebook.specs.declared.Unread.TheVariants.{Early, Malformed}
 
@@ -52,17 +45,21 @@ heading_then bytes at =
     head_then_lem bytes (number_at bytes p) _ _ (λ slot q.
     head_then_lem bytes (number_at bytes q) _ _ (λ block r. refl)))
 
+fell_as : (e : Unread) (a b bytes : List ℕ) → found_as (Err e) a b ≡ with_masks bytes (Err e)
+unfolding found_as with_masks
+fell_as Early a b bytes = refl
+fell_as Malformed a b bytes = refl
+
+-- A mask that could not be read decides the certificate.
+fell_mask : (e : Unread) (m : Result (ℕ × ℕ) Unread) (f : ℕ → ℕ → found.Found) (x : ℕ) (a b : List ℕ) → laid_as (Err e) x ≡ m → found_as (Err e) a b ≡ and_then m f
+unfolding and_then laid_as found_as
+fell_mask Early m f x a b q = ap (λ (r : Result (ℕ × ℕ) Unread). and_then r f) q
+fell_mask Malformed m f x a b q = ap (λ (r : Result (ℕ × ℕ) Unread). and_then r f) q
+
 module _ (bytes : List ℕ) (at : ℕ) where
   -- The heading could not be read.
-  pub heading_fell : (h : Result (Heading × ℕ) Unread) (a b : List ℕ) → OneOf (1 ∷ 2 ∷ []) (tag_of found_type.the_type h) → h ≡ heading_at bytes at → found_as h a b ≡ certificate_at bytes at
-  unfolding found_as with_masks
-  heading_fell h a b k e = go h k ∙ ap (with_masks bytes) e ∙ sym (heading_then bytes at)
-    where
-      go : (h : Result (Heading × ℕ) Unread) → OneOf (1 ∷ 2 ∷ []) (tag_of found_type.the_type h) → found_as h a b ≡ with_masks bytes h
-      go (Ok (c, p)) (inl z) = absurd (omega arith)
-      go (Ok (c, p)) (inr z) = absurd (omega arith)
-      go (Err Early) k = refl
-      go (Err Malformed) k = refl
+  pub heading_fell : (e : Unread) (a b : List ℕ) → heading_at bytes at ≡ Err e → found_as (Err e) a b ≡ certificate_at bytes at
+  heading_fell e a b q = fell_as e a b bytes ∙ ap (with_masks bytes) (sym q) ∙ sym (heading_then bytes at)
 
   module _ (h : Heading) (p w : ℕ) (e : heading_at bytes at ≡ Ok (h, p)) (ew : w ≡ words_in h.kind) where
     after_heading : masks_after bytes h p ≡ certificate_at bytes at
@@ -70,9 +67,8 @@ module _ (bytes : List ℕ) (at : ℕ) where
     after_heading = sym (heading_then bytes at ∙ ap (with_masks bytes) e)
 
     -- Mask A could not be read.
-    pub first_fell : (l : Result ℕ Unread) (x : ℕ) (a b : List ℕ) → OneOf (1 ∷ 2 ∷ []) (tag_of laid-type.the_type l) → laid_as l x ≡ mask_at w bytes p
-        → found_as (failed_mask l) a b ≡ certificate_at bytes at
-    first_fell l x a b k m = fell_mask l (mask_at (words_in h.kind) bytes p) _ x a b k (m ∙ ap (λ (n : ℕ). mask_at n bytes p) ew) ∙ after_heading
+    pub first_fell : (o : Unread) (x : ℕ) (a b : List ℕ) → laid_as (Err o) x ≡ mask_at w bytes p → found_as (Err o) a b ≡ certificate_at bytes at
+    first_fell o x a b m = fell_mask o (mask_at (words_in h.kind) bytes p) _ x a b (m ∙ ap (λ (n : ℕ). mask_at n bytes p) ew) ∙ after_heading
 
     module _ (q x : ℕ) (m : laid_as (Ok q) x ≡ mask_at w bytes p) where
       after_first : second_after bytes h x q ≡ certificate_at bytes at
@@ -80,9 +76,8 @@ module _ (bytes : List ℕ) (at : ℕ) where
       after_first = ap (λ (r : Result (ℕ × ℕ) Unread). and_then r (second_after bytes h)) (m ∙ ap (λ (n : ℕ). mask_at n bytes p) ew) ∙ after_heading
 
       -- Mask B could not be read.
-      pub second_fell : (l : Result ℕ Unread) (y : ℕ) (a b : List ℕ) → OneOf (1 ∷ 2 ∷ []) (tag_of laid-type.the_type l) → laid_as l y ≡ mask_at w bytes q
-          → found_as (failed_mask l) a b ≡ certificate_at bytes at
-      second_fell l y a b k n = fell_mask l (mask_at (words_in h.kind) bytes q) _ y a b k (n ∙ ap (λ (i : ℕ). mask_at i bytes q) ew) ∙ after_first
+      pub second_fell : (o : Unread) (y : ℕ) (a b : List ℕ) → laid_as (Err o) y ≡ mask_at w bytes q → found_as (Err o) a b ≡ certificate_at bytes at
+      second_fell o y a b n = fell_mask o (mask_at (words_in h.kind) bytes q) _ y a b (n ∙ ap (λ (i : ℕ). mask_at i bytes q) ew) ∙ after_first
 
       -- All is read: the masks stand at the front of the lent words.
       pub all_read : (next y : ℕ) (xs ys a b : List ℕ) → laid_as (Ok next) y ≡ mask_at w bytes q → x ≡ joined xs → y ≡ joined ys → length xs ≡ w → length ys ≡ w

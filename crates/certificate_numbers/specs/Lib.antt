@@ -1,3 +1,2 @@
 -- What the contracts of a certificate as numbers cite beside the rule book.
-pub mod Failed
 pub mod Told

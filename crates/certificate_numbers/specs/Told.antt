@@ -28,8 +28,7 @@ pub record Masks (h : Heading) (a b : List ℕ) : Type 0 where
 -- Kind, slot and block from a place of the packet on, "12 and 13 as met".
 unfoldable pub head_then : Result (ℕ × ℕ) Unread → (ℕ → ℕ → Result (Heading × ℕ) Unread) → Result (Heading × ℕ) Unread
 head_then (Ok (v, next)) f = f v next
-head_then (Err Early) f = Err Early
-head_then (Err Malformed) f = Err Malformed
+head_then (Err e) f = Err e
 
 unfoldable pub heading_at : List ℕ → ℕ → Result (Heading × ℕ) Unread
 heading_at bytes at =

@@ -3,91 +3,58 @@
 
 ghost use Rattle.std.specs.Prelude.{◌≡◌};
 ghost use Rattle.rulebook.specs.Packets.{words_in, certificate_of, certificate_at, certificate_bytes};
-ghost use Rattle.certificate_numbers.specs.Failed.{failed_of, failed_mask};
 ghost use Rattle.certificate_numbers.specs.Told.{heading_at, found_as, Scratch, Masks};
 ghost use Rattle.numbers.specs.Written.{Room, Written};
 
 use mask_words::{read_mask, write_mask};
 use numbers::{take_number, write_number};
-use rulebook::{Unread, Heading, Slot};
+use rulebook::{Heading, Slot, Unread};
 
 // The words to lend for a mask of any kind: room for 2,048 nodes.
 pub const MOST_WORDS: usize = 32;
 
 // The words of each mask, by the kind's number: 67 numbers for kinds 11 to 15, otherwise five.
+#[tactic(auto, unfolding(rulebook::specs::Packets::words_in, rulebook::specs::Tools::choose))]
 pub fn words_in(kind: u64) -> usize
     ensures { result ≡ words_in kind }
 {
-    if (11 <= kind) & (kind <= 15) {
-        return MOST_WORDS;
-    }
-    1
-}
-
-// What a number that could not be read makes of the certificate.
-fn failed(n: Result<(u64, usize), Unread>) -> Result<(Heading, usize), Unread>
-    ensures { result ≡ failed_of n }
-{
-    match n {
-        Err(Unread::Early) => Err(Unread::Early),
-        Err(Unread::Malformed) => Err(Unread::Malformed),
-        Ok(_) => Err(Unread::Malformed),
-    }
-}
-
-// The same for a mask.
-fn failed_mask(m: Result<usize, Unread>) -> Result<(Heading, usize), Unread>
-    ensures { result ≡ failed_mask m }
-{
-    match m {
-        Err(Unread::Early) => Err(Unread::Early),
-        Err(Unread::Malformed) => Err(Unread::Malformed),
-        Ok(_) => Err(Unread::Malformed),
+    match kind {
+        11..=15 => MOST_WORDS,
+        _ => 1,
     }
 }
 
 // The kind, slot and block at a place: the first that cannot be read decides.
+#[tactic(auto, unfolding(crate::specs::Told::heading_at, crate::specs::Told::head_then))]
 fn read_heading(bytes: &[u8], at: usize) -> Result<(Heading, usize), Unread>
     ensures { result ≡ heading_at bytes.now at }
 {
-    let n1 = take_number(bytes, at);
-    let Ok((kind, p)) = n1 else {
-        return failed(n1);
-    };
-    let n2 = take_number(bytes, p);
-    let Ok((number, q)) = n2 else {
-        return failed(n2);
-    };
+    let (kind, p) = take_number(bytes, at)?;
+    let (number, q) = take_number(bytes, p)?;
+    let (block, next) = take_number(bytes, q)?;
     let slot = Slot(number as usize);
-    let n3 = take_number(bytes, q);
-    let Ok((block, next)) = n3 else {
-        return failed(n3);
-    };
     Ok((Heading { kind, slot, block }, next))
 }
 
 // The certificate at a place: its heading, and then its masks at the front of lent words, as many as its kind says.
-pub fn read_certificate(bytes: &[u8], at: usize, a: &mut [u64], b: &mut [u64]) -> Result<(Heading, usize), Unread>
+pub fn read_certificate(
+    bytes: &[u8],
+    at: usize,
+    a: &mut [u64],
+    b: &mut [u64],
+) -> Result<(Heading, usize), Unread>
     requires { Scratch a.old b.old }
     ensures { found_as result a.new b.new ≡ certificate_at bytes.now at }
 {
-    let h = read_heading(bytes, at);
-    let Ok((c, p)) = h else {
-        return h;
-    };
+    let (c, p) = read_heading(bytes, at)?;
     let words = words_in(c.kind);
-    let m1 = read_mask(bytes, p, &mut a[..words]);
-    let Ok(q) = m1 else {
-        return failed_mask(m1);
-    };
-    let m2 = read_mask(bytes, q, &mut b[..words]);
-    let Ok(next) = m2 else {
-        return failed_mask(m2);
-    };
+    let q = read_mask(bytes, p, &mut a[..words])?;
+    let next = read_mask(bytes, q, &mut b[..words])?;
     Ok((c, next))
 }
 
 // Writes a certificate's heading and the words of its masks from a place on and answers the place after them.
+#[tactic(auto, using(crate::proofs::Parts::parts_long))]
 pub fn write_certificate(bytes: &mut [u8], at: usize, c: Heading, a: &[u64], b: &[u64]) -> usize
     requires { (Masks c a.now b.now) × Room bytes.old at (certificate_bytes (certificate_of c a.now b.now)) }
     ensures { Written bytes.old at (certificate_bytes (certificate_of c a.now b.now)) bytes.new result }
