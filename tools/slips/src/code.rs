@@ -51,6 +51,7 @@ pub enum Shape {
     Suc(Box<Shape>),
     Builtin(Builtin),
     Cons(Box<Shape>, Box<Shape>),
+    Holds(Builtin, Vec<Shape>),
     Construct(usize, Vec<Shape>),
 }
 
@@ -162,13 +163,19 @@ impl Maker<'_> {
             (Some(Entity::Builtin(Builtin::Cons | Builtin::TextCons)), [head, tail]) => {
                 Ok(Shape::Cons(Box::new(self.shape(head)?), Box::new(self.shape(tail)?)))
             }
+            (Some(Entity::Builtin(builtin)), parts) if builtin.holds() && parts.len() == builtin.arity() => {
+                Ok(Shape::Holds(builtin, self.shapes(parts)?))
+            }
             (Some(Entity::Builtin(builtin)), []) => Ok(Shape::Builtin(builtin)),
             (Some(Entity::Constructor(constructor)), parts) => {
-                let parts = parts.iter().map(|part| self.shape(part)).collect::<Result<_, _>>()?;
-                Ok(Shape::Construct(constructor, parts))
+                Ok(Shape::Construct(constructor, self.shapes(parts)?))
             }
             _ => Err(format!("`{name}` in a pattern")),
         }
+    }
+
+    fn shapes(&mut self, parts: &[Pattern]) -> Result<Vec<Shape>, String> {
+        parts.iter().map(|part| self.shape(part)).collect()
     }
 
     fn bind(&mut self, name: &str) -> usize {
@@ -299,7 +306,8 @@ pub fn is_constructor(entity: &Entity) -> bool {
         Entity::Definition(_) => false,
         Entity::Builtin(builtin) => {
             use Builtin::{Cons, EmptyText, False, Nil, Suc, TextCons, True, Unit, Zero};
-            matches!(builtin, True | False | Unit | Zero | Suc | Nil | Cons | EmptyText | TextCons)
+            builtin.holds()
+                || matches!(builtin, True | False | Unit | Zero | Suc | Nil | Cons | EmptyText | TextCons)
         }
     }
 }

@@ -148,12 +148,17 @@ impl<'a> Machine<'a> {
                 self.apply(head, args)
             }
             Step::Project(of, field) => {
-                let Value::Record(shape, values) = self.eval(of, base)? else {
-                    return fault("a field of no record");
+                let (at, values) = match self.eval(of, base)? {
+                    Value::Record(shape, values) => {
+                        (self.names.shapes[shape].iter().position(|of| of == field), values)
+                    }
+                    Value::Holding(Builtin::Pair, values) => {
+                        (self.names.field_name(*field).parse().ok(), values)
+                    }
+                    _ => return fault("a field of no record"),
                 };
-                let at = self.names.shapes[shape].iter().position(|of| of == field);
-                match at {
-                    Some(at) => Ok(values[at].clone()),
+                match at.and_then(|at| values.get(at)) {
+                    Some(value) => Ok(value.clone()),
                     None => fault(&format!("no field `{}`", self.names.field_name(*field))),
                 }
             }
@@ -249,11 +254,17 @@ impl<'a> Machine<'a> {
                 self.fits(head, &cell.0, base) && self.fits(tail, &cell.1, base)
             }
             (Shape::Construct(wanted, shapes), Value::Constructed(constructor, parts)) => {
-                wanted == constructor
-                    && shapes.iter().zip(parts.iter()).all(|(shape, part)| self.fits(shape, part, base))
+                wanted == constructor && self.all_fit(shapes, parts, base)
+            }
+            (Shape::Holds(wanted, shapes), Value::Holding(builtin, parts)) => {
+                wanted == builtin && self.all_fit(shapes, parts, base)
             }
             _ => false,
         }
+    }
+
+    fn all_fit(&mut self, shapes: &[Shape], parts: &[Value], base: usize) -> bool {
+        shapes.iter().zip(parts).all(|(shape, part)| self.fits(shape, part, base))
     }
 
     fn apply(&mut self, head: Value, mut args: Vec<Value>) -> Run<Value> {
@@ -298,6 +309,7 @@ impl<'a> Machine<'a> {
 
     fn builtin_lazy(&mut self, builtin: Builtin, args: &[Code], base: usize) -> Run<Value> {
         match (builtin, args) {
+            (holding, args) if holding.holds() => Ok(Value::Holding(holding, Rc::new(self.all(args, base)?))),
             (Builtin::And, [left, right]) => match self.eval(left, base)? {
                 Value::Bool(true) => self.eval(right, base),
                 left => Ok(left),
@@ -333,6 +345,7 @@ impl<'a> Machine<'a> {
     fn builtin(&mut self, builtin: Builtin, args: Vec<Value>) -> Run<Value> {
         use Builtin as B;
         match (builtin, &args[..]) {
+            (holding, args) if holding.holds() => Ok(Value::Holding(holding, Rc::new(args.to_vec()))),
             (B::Not, [Value::Bool(holds)]) => Ok(Value::Bool(!holds)),
             (B::And, [Value::Bool(one), Value::Bool(two)]) => Ok(Value::Bool(*one && *two)),
             (B::Or, [Value::Bool(one), Value::Bool(two)]) => Ok(Value::Bool(*one || *two)),

@@ -260,7 +260,7 @@ impl<'a> Parser<'a> {
             let to = self.signature_type(variables)?;
             return Ok(names.iter().fold(to, |to, _| Type::Arrow(Box::new(from.clone()), Box::new(to))));
         }
-        let from = self.ty_apply()?;
+        let from = self.ty_product()?;
         if self.takes("→") {
             let to = self.signature_type(variables)?;
             return Ok(Type::Arrow(Box::new(from), Box::new(to)));
@@ -282,6 +282,15 @@ impl<'a> Parser<'a> {
         let ty = self.signature_type(&mut Vec::new())?;
         self.expect(")")?;
         Ok(Some((names, ty)))
+    }
+
+    /// Types of pairs, which group to the right.
+    fn ty_product(&mut self) -> Parsed<Type> {
+        let one = self.ty_apply()?;
+        if self.takes("×") {
+            return Ok(Type::Name("×".to_string(), vec![one, self.ty_product()?]));
+        }
+        Ok(one)
     }
 
     fn ty_apply(&mut self) -> Parsed<Type> {
@@ -306,7 +315,7 @@ impl<'a> Parser<'a> {
             }
         }
         match self.peek() {
-            Some(token) if token.kind == Kind::Name && !token.is("→") && !token.is("=") => {
+            Some(token) if token.kind == Kind::Name && !["→", "×", "="].contains(&&token.text[..]) => {
                 Err("no type of values".to_string())
             }
             _ => Ok(Type::Name(head, args)),
@@ -317,7 +326,7 @@ impl<'a> Parser<'a> {
 
     fn pattern_atom(&mut self) -> Parsed<Pattern> {
         if self.takes("(") {
-            let pattern = self.pattern()?;
+            let pattern = self.pattern_pair()?;
             self.expect(")")?;
             return Ok(pattern);
         }
@@ -329,6 +338,15 @@ impl<'a> Parser<'a> {
         }
     }
 
+    /// What stands in parentheses: a pair's sides, or one pattern.
+    fn pattern_pair(&mut self) -> Parsed<Pattern> {
+        let one = self.pattern()?;
+        if self.takes(",") {
+            return Ok(Pattern::Apply(",".to_string(), vec![one, self.pattern_pair()?]));
+        }
+        Ok(one)
+    }
+
     fn pattern(&mut self) -> Parsed<Pattern> {
         let Pattern::Name(head) = self.pattern_atom()? else {
             return Err("a pattern in front of others".to_string());
@@ -338,7 +356,7 @@ impl<'a> Parser<'a> {
             return Ok(Pattern::Apply("∷".to_string(), vec![Pattern::Name(head), tail]));
         }
         let mut parts = Vec::new();
-        while !self.sees(")") {
+        while !self.sees(")") && !self.sees(",") {
             if self.takes("∷") {
                 let tail = self.pattern()?;
                 return Ok(Pattern::Apply("∷".to_string(), vec![Pattern::Apply(head, parts), tail]));
@@ -405,7 +423,7 @@ impl<'a> Parser<'a> {
         let token = self.next()?;
         let form = match token.kind {
             Kind::Mark('(') => {
-                let mut expr = self.expr(0)?;
+                let mut expr = self.pair()?;
                 self.expect(")")?;
                 expr.outer = token.start..self.tokens[self.at - 1].end;
                 return Ok(expr);
@@ -422,6 +440,17 @@ impl<'a> Parser<'a> {
             _ => return Err(format!("{} is not read", token.text)),
         };
         Ok(made(form, token.start, self.tokens[self.at - 1].end))
+    }
+
+    /// The sides of a pair, which groups to the right, or one expression.
+    fn pair(&mut self) -> Parsed<Expr> {
+        let one = self.expr(0)?;
+        let Some(comma) = self.peek().filter(|token| token.is(",")) else { return Ok(one) };
+        self.at += 1;
+        let two = self.pair()?;
+        let (start, end) = (one.outer.start, two.outer.end);
+        let head = made(Form::Name(comma.text.clone()), comma.start, comma.end);
+        Ok(made(Form::Apply { head: Box::new(head), args: vec![one, two], infix: true }, start, end))
     }
 
     fn lambda(&mut self) -> Parsed<Form> {

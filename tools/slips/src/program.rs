@@ -110,6 +110,11 @@ builtins! {
     Or "||" 2 "Bool → Bool → Bool",
     Cond "cond" 3 "{A : Type 0} → Bool → A → A → A",
     Unit "tt" 0 "Unit",
+    Pair "," 2 "{A B : Type 0} → A → B → A × B",
+    Ok "Ok" 1 "{A B : Type 0} → A → Result A B",
+    Err "Err" 1 "{A B : Type 0} → B → Result A B",
+    Some "Some" 1 "{A : Type 0} → A → Option A",
+    None "None" 0 "{A : Type 0} → Option A",
     Zero "zero" 0 "ℕ",
     Suc "suc" 1 "ℕ → ℕ",
     Plus "+" 2 "ℕ → ℕ → ℕ",
@@ -140,6 +145,14 @@ builtins! {
     Code "code" 1 "Char → ℕ",
     EmptyText "string.[]" 0 "String",
     TextCons "string.◌∷◌" 2 "Char → String → String",
+}
+
+impl Builtin {
+    /// What holds other values, or is `None`.
+    pub fn holds(self) -> bool {
+        use Builtin::{Err, None, Ok, Pair, Some};
+        matches!(self, Pair | Ok | Err | Some | None)
+    }
 }
 
 /// An operator's name without its argument places.

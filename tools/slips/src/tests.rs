@@ -21,7 +21,7 @@ pub struct Pair {
 ";
 
 const RULES: &str = "-- Rules.
-use Rattle.std.specs.Prelude.{Bool, true, false, not, ◌&&◌, List, [], ◌∷◌, ◌++◌, ℕ, zero, suc, ◌+◌, ◌-◌, ◌*◌, ◌^◌, leb}
+use Rattle.std.specs.Prelude.{Bool, true, false, not, ◌&&◌, List, [], ◌∷◌, ◌++◌, ℕ, zero, suc, ◌+◌, ◌-◌, ◌*◌, ◌/◌, ◌%◌, ◌^◌, leb, Option, Some, None, Result, Ok, Err}
 use Rattle.small.specs.declared.Kind.{Kind}
 use Rattle.small.specs.declared.Kind.TheVariants as kind
 use Rattle.small.specs.declared.Pair.{Pair}
@@ -44,15 +44,24 @@ shut = record { left = 2; right = 4; fits = true }
 unfoldable pub outside : Pair → ℕ → Bool
 outside p n = not (within p n)
 
+-- Half of a number and what is left; of 0 nothing.
+unfoldable pub halves : ℕ → Result (ℕ × ℕ) Kind
+halves zero = Err kind.High
+halves (suc n) = Ok (suc n / 2, suc n % 2)
+
+unfoldable pub both : Result (ℕ × ℕ) Kind → Option ℕ
+both (Ok (half, left)) = Some (half + left)
+both (Err k) = None
+
 -- Nobody asks for it.
 abbrev pub lonely : ℕ
 lonely = 7
 ";
 
 const CASES: &str = "-- Cases.
-use Rattle.std.specs.Prelude.{Bool, true, not, ◌&&◌, List, [], ◌∷◌, ◌++◌, ◌≡◌, ℕ, ◌+◌, ◌-◌, ◌*◌, ◌^◌, ◌/◌, ◌%◌, T, eqb}
+use Rattle.std.specs.Prelude.{Bool, true, not, ◌&&◌, List, [], ◌∷◌, ◌++◌, ◌≡◌, ℕ, ◌+◌, ◌-◌, ◌*◌, ◌^◌, ◌/◌, ◌%◌, T, eqb, Some, None}
 use Rattle.small.specs.declared.Kind.TheVariants as kind
-use Rattle.small.specs.Rules.{sum_to, within, outside, number, shut}
+use Rattle.small.specs.Rules.{sum_to, within, outside, number, shut, halves, both}
 
 abbrev all : List Bool → Bool
 all [] = true
@@ -72,6 +81,14 @@ cases = tt
 
 joined : 1 ∷ 2 ∷ [] ++ (3 ∷ []) ≡ 1 ∷ 2 ∷ 3 ∷ []
 joined = refl
+
+halved : both (halves 7) ≡ Some 4
+unfolding halves both
+halved = refl
+
+none_halved : both (halves 0) ≡ None
+unfolding halves both
+none_halved = refl
 
 said : (p : Pair) → within p 5 ≡ true → T (not (outside p 5))
 unfolding outside
@@ -106,7 +123,7 @@ fn unnoticed(program: &Program, name: &str) -> (Vec<String>, usize) {
 fn cases_are_computed() {
     let program = small("whole", "", "");
     let trial = Trial::new(&program);
-    assert_eq!((program.cases.len(), trial.parts.len(), trial.troubles.len()), (3, 6, 0));
+    assert_eq!((program.cases.len(), trial.parts.len(), trial.troubles.len()), (5, 8, 0));
 }
 
 #[test]
@@ -118,7 +135,7 @@ fn a_wrong_case_is_told() {
     ] {
         let program = small(name, old, new);
         let trial = Trial::new(&program);
-        assert_eq!((trial.parts.len(), trial.troubles.len()), (5, 1), "{name}");
+        assert_eq!((trial.parts.len(), trial.troubles.len()), (7, 1), "{name}");
     }
 }
 
@@ -133,6 +150,11 @@ fn slips_are_noticed() {
         (vec!["number kind.High = [9 => 10]".to_string(), "number kind.High = [9 => 8]".to_string()], 2)
     );
     assert_eq!(unnoticed(&program, "lonely").0.len(), 2);
+    // Their sum is the same in either order.
+    let (texts, _) = unnoticed(&program, "halves");
+    let exchanged = "halves (suc n) = Ok ([suc n / 2, suc n % 2 => (suc n % 2), (suc n / 2)])";
+    assert!(texts.contains(&exchanged.to_string()), "{texts:?}");
+    assert_eq!(unnoticed(&program, "both").0, Vec::<String>::new());
     // By a case that is said of any pair.
     let (texts, of) = unnoticed(&program, "outside");
     assert_eq!((texts, of), (Vec::<String>::new(), 1));

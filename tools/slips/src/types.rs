@@ -114,8 +114,8 @@ impl Checker<'_> {
                     ("ℕ" | "Bool" | "String" | "Char", _) => {
                         Ty::Of(Kind::Native(short.to_string()), Vec::new())
                     }
-                    ("Unit", _) => Ty::Of(Kind::Native(short.to_string()), Vec::new()),
-                    ("List", _) => Ty::Of(Kind::Native(short.to_string()), args),
+                    ("Unit" | "⊤", _) => Ty::Of(Kind::Native("Unit".to_string()), Vec::new()),
+                    ("List" | "Option" | "Result" | "×", _) => Ty::Of(Kind::Native(short.to_string()), args),
                     _ => Ty::Any,
                 }
             }
@@ -205,6 +205,10 @@ impl Checker<'_> {
                 let of = ty.fields.iter().find(|(name, _)| name == field);
                 let (_, of) = of.ok_or_else(|| format!("`{}` has no field `{field}`", ty.name))?;
                 Ok(self.read(of, ty.file, &ty.home, &HashMap::new()))
+            }
+            Ty::Of(Kind::Native(pair), sides) if pair == "×" => {
+                let side = field.parse().ok().and_then(|at: usize| sides.get(at));
+                side.cloned().ok_or_else(|| format!("a pair has no field `{field}`"))
             }
             Ty::Any | Ty::Open(_) => Ok(Ty::Any),
             _ => Err(format!("no record has a field `{field}`")),

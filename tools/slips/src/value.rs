@@ -12,6 +12,8 @@ pub enum Value {
     Unit,
     Nil,
     Cons(Rc<(Value, Value)>),
+    /// A pair, a Result or an Option.
+    Holding(Builtin, Rc<Vec<Value>>),
     Constructed(usize, Rc<Vec<Value>>),
     /// Its values in the order of its shape's fields.
     Record(usize, Rc<Vec<Value>>),
@@ -51,6 +53,7 @@ impl Value {
             Builtin::Unit => Some(Value::Unit),
             Builtin::Zero => Some(Value::Number(Number::Small(0))),
             Builtin::Nil | Builtin::EmptyText => Some(Value::Nil),
+            Builtin::None => Some(Value::Holding(builtin, Rc::default())),
             _ => None,
         }
     }
@@ -61,7 +64,7 @@ impl Value {
 
     /// None where a function is among what is compared.
     pub fn same(&self, other: &Value) -> Option<bool> {
-        use Value::{Any, Bool, Cons, Constructed, Function, Nil, Number, Record, Unit};
+        use Value::{Any, Bool, Cons, Constructed, Function, Holding, Nil, Number, Record, Unit};
         let all = |one: &[Value], two: &[Value]| {
             one.iter().zip(two).try_fold(true, |same, (one, two)| Some(same && one.same(two)?))
         };
@@ -72,6 +75,7 @@ impl Value {
             (Unit, Unit) | (Nil, Nil) => Some(true),
             (Any(one), Any(two)) => Some(one == two),
             (Cons(one), Cons(two)) => Some(one.0.same(&two.0)? && one.1.same(&two.1)?),
+            (Holding(c, one), Holding(d, two)) => Some(c == d && all(one, two)?),
             (Constructed(c, one), Constructed(d, two)) | (Record(c, one), Record(d, two)) => {
                 Some(c == d && all(one, two)?)
             }
