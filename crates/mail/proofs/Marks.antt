@@ -12,6 +12,7 @@ use lib.ListN.{get_or, set}
 use lib.Seq.{get_or-set_same, get_or-set_other}
 use Rattle.rulebook.specs.declared.Input.{Input}
 use Rattle.rulebook.specs.declared.Input.TheVariants as input
+use Rattle.rulebook.specs.declared.Refusal.{Refusal}
 use Rattle.rulebook.specs.Certificates.{Certificate}
 use Rattle.rulebook.specs.Weights.{last_slot, window_of, slot_ok}
 use Rattle.rulebook.specs.Ledger.{Ledger, Row, none, places, table_of, row_at, is_watcher, is_armed, no_initial, own_cell, certificates_at, put_row, put_armed, put_timed_out}
@@ -42,7 +43,6 @@ use Rattle.mail.specs.Mail.{times_out, timed_out_in}
 use Rattle.mail.proofs.Votes.{slot_fine}
 use Rattle.mail.proofs.Quiet.{intake_armed}
 use Rattle.mail.proofs.Arrivals.{any_is}
-use Rattle.rulebook.specs.declared.Refusal.{Refusal}
 
 -- The timeout of slot s is marked as taken.
 abbrev pub marked : Ledger → ℕ → Bool

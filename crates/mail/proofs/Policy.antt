@@ -223,7 +223,7 @@ module _ {most : ℕ} (me : ℕ) (l : Ledger) (s : ℕ) (o : Orderly most me l s
     unfolding verdict intake
     shown_kept u may new =
         let free = room lo hi b y.some may new in
-        let fine : block_verdict l t.0 k ≡ (Ok tt) = rw y.slot (block_fine new free) in
+        let fine : block_verdict l t.0 k ≡ Ok tt = rw y.slot (block_fine new free) in
         (intake_grows me l o.ready (input.Block t k) fine).blocks s b p x
         (rw y.slot (keeps_it (and_t (eqb t.0 s) (is_block b p x k) u).1 free))
 

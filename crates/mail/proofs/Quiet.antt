@@ -9,6 +9,7 @@ use lib.ListN.{length, length-append, length-reverse}
 use Rattle.rulebook.specs.declared.Input.{Input}
 use Rattle.rulebook.specs.declared.Input.TheVariants as input
 use Rattle.rulebook.specs.declared.VoteKind.TheVariants as vote
+use Rattle.rulebook.specs.declared.Refusal.{Refusal}
 use Rattle.rulebook.specs.Certificates.{Certificate}
 use Rattle.rulebook.specs.Ledger.{Ledger, table_of, no_initial, own_cell, certificates_at, put_timed_out}
 use Rattle.rulebook.specs.Votes.{store_vote}
@@ -26,7 +27,6 @@ use Rattle.settling.proofs.Spending.{came_more, run_comes}
 use Rattle.settling.proofs.Life.{intake_paid, taken_fine, served_paid}
 use Rattle.safety.specs.Ballots.{same_record, among}
 use Rattle.safety.specs.Ring.{after_all, made_in}
-use Rattle.rulebook.specs.declared.Refusal.{Refusal}
 
 -- ---- records
 

@@ -10,6 +10,7 @@ use Rattle.rulebook.specs.declared.Cell.{Cell}
 use Rattle.rulebook.specs.declared.Input.{Input}
 use Rattle.rulebook.specs.declared.Input.TheVariants as input
 use Rattle.rulebook.specs.declared.VoteKind.TheVariants as vote
+use Rattle.rulebook.specs.declared.Refusal.{Refusal}
 use Rattle.rulebook.specs.Tools.{all_to}
 use Rattle.rulebook.specs.Weights.{last_slot, slot_ok, window_of, first_of}
 use Rattle.rulebook.specs.Ledger.{Ledger, none, no_initial, fresh, cell_at, own_cell, put_timed_out}
@@ -33,7 +34,6 @@ use Rattle.safety.proofs.Steps.{Going, Ready, passed, mine, skip_going, row_goin
 use Rattle.safety.proofs.Lives.{step_ready, life_grow, life_ready, start_sized, fresh_ready}
 use Rattle.mail.specs.Mail.{times_out, timed_out_in, TimedOutIsEnough}
 use Rattle.mail.proofs.Votes.{intake_grows}
-use Rattle.rulebook.specs.declared.Refusal.{Refusal}
 
 -- Node me has an initial vote in slot s.
 abbrev Voted : ℕ → Ledger → ℕ → Type 0

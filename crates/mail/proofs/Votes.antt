@@ -13,6 +13,7 @@ use Rattle.rulebook.specs.declared.VoteKind.{VoteKind}
 use Rattle.rulebook.specs.declared.VoteKind.TheVariants as vote
 use Rattle.rulebook.specs.declared.Input.{Input}
 use Rattle.rulebook.specs.declared.Input.TheVariants as input
+use Rattle.rulebook.specs.declared.Refusal.{Refusal}
 use Rattle.rulebook.specs.Weights.{last_slot, slot_ok}
 use Rattle.rulebook.specs.PaperNumbers.{vote_number}
 use Rattle.rulebook.specs.Ledger.{Ledger, none, no_initial, fresh, cell_at}
@@ -34,7 +35,6 @@ use Rattle.safety.proofs.Steps.{Going, Ready, pass, run_going, intake_going, sta
 use Rattle.safety.proofs.Lives.{step_ready, life_grow, life_table, fresh_ready, watch_sized}
 use Rattle.safety.proofs.Safety.{in_table_lem, start_ready, end_ready, pooled, own_stored}
 use Rattle.mail.specs.Mail.{FedIsEnough, WatcherFedIsEnough}
-use Rattle.rulebook.specs.declared.Refusal.{Refusal}
 
 -- ---- kinds
 

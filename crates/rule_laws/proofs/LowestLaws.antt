@@ -9,8 +9,8 @@ use native.Mathlib.Omega.{arith}
 use native.Mathlib.Nat.{eq-or-lt_of_le, min-eq_left, min-eq_right, le-max_left, le-max_right}
 use lib.Dec.{eqb, leb, ltb}
 use borrow.Author.Tests.{eq-eqb, ne_eqb, eqb-true, eqb-false, leb-true, leb-false, ltb-true, lt-ltb, not-true}
-use Rattle.rulebook.specs.Tools.{any_of, some_to, lower, lowest, largest}
 use Rattle.rulebook.specs.declared.Who.TheVariants as who
+use Rattle.rulebook.specs.Tools.{any_of, some_to, lower, lowest, largest}
 use Rattle.rulebook.specs.Ledger.{Ledger, none, cell_at}
 use Rattle.rulebook.specs.Pool.{counts, weigh, named, names_to, names}
 use Rattle.rule_laws.proofs.ToolLaws.{given_on, given_off, by_test, and_both, both_and, or_cases, or_left, or_right, or_none, true_not_false, some_find, some_each}

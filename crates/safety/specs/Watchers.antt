@@ -1,8 +1,8 @@
 -- Watchers, which take what a node takes and never vote: what their writers give, and what that is worth. "A watcher has no stake in
 -- demand 3": a ring may have any number of them, and says nothing of them.
 use Rattle.std.specs.Prelude.{◌≡◌, Bool, List, ◌++◌, ℕ, ◌<◌, ◌^◌, length, T, Ok}
-use Rattle.rulebook.specs.Certificates.{Certificate}
 use Rattle.rulebook.specs.declared.CertificateKind.{CertificateKind}
+use Rattle.rulebook.specs.Certificates.{Certificate}
 use Rattle.rulebook.specs.Ledger.{Ledger, fresh, cell_at, kept_at, is_kept}
 use Rattle.rulebook.specs.Pool.{place_kind}
 use Rattle.rulebook.specs.Rules.{record_of}

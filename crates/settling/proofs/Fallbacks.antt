@@ -17,6 +17,7 @@ use Rattle.rulebook.specs.declared.VoteKind.{VoteKind}
 use Rattle.rulebook.specs.declared.Place.TheVariants.{Free}
 use Rattle.rulebook.specs.declared.Input.{Input}
 use Rattle.rulebook.specs.declared.Input.TheVariants as input
+use Rattle.rulebook.specs.declared.Refusal.{Refusal}
 use Rattle.rulebook.specs.Tools.{part}
 use Rattle.rulebook.specs.Weights.{last_slot}
 use Rattle.rulebook.specs.PaperNumbers.{vote_number}
@@ -45,7 +46,6 @@ use Rattle.settling.proofs.LawfulRules.{voter_casting, skips_keep, run_keeps}
 use Rattle.settling.proofs.Soundness.{sound_lawful, intake_sound, served_sound}
 use Rattle.settling.proofs.Verdicts.{vote_fine, block_fine, timeout_fine}
 use Rattle.settling.proofs.Life.{taken_fine}
-use Rattle.rulebook.specs.declared.Refusal.{Refusal}
 
 -- ---- told in any order
 

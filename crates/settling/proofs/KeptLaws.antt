@@ -11,6 +11,7 @@ use lib.Seq.{get_or-take, length-take-le}
 use borrow.Author.Tests.{not-false, eqb-true}
 use Rattle.rulebook.specs.declared.CertificateKind.{CertificateKind}
 use Rattle.rulebook.specs.declared.CertificateKind.TheVariants as certificate
+use Rattle.rulebook.specs.declared.Refusal.{Refusal}
 use Rattle.rulebook.specs.declared.Refusal.TheVariants as refusal
 use Rattle.rulebook.specs.Certificates.{Certificate, Kept}
 use Rattle.rulebook.specs.Weights.{slot_ok, stake_in, total_to, weight, reaches}
@@ -28,7 +29,6 @@ use Rattle.rule_laws.proofs.CertificateLaws.{same_kind_lem, fill_each, fill_kept
 use Rattle.settling.specs.Facts.{HeadFacts, Formed}
 use Rattle.settling.specs.Steps.{kind_for, CertificateFine}
 use Rattle.settling.proofs.FactLaws.{count_placed}
-use Rattle.rulebook.specs.declared.Refusal.{Refusal}
 
 -- ---- the table of a record
 

@@ -11,6 +11,7 @@ use Rattle.rulebook.specs.declared.Block.{Block}
 use Rattle.rulebook.specs.declared.Vote.{Vote}
 use Rattle.rulebook.specs.declared.Input.{Input}
 use Rattle.rulebook.specs.declared.Input.TheVariants as input
+use Rattle.rulebook.specs.declared.Refusal.{Refusal}
 use Rattle.rulebook.specs.declared.Refusal.TheVariants as refusal
 use Rattle.rulebook.specs.Weights.{last_slot}
 use Rattle.rulebook.specs.Ledger.{is_watcher, Ledger, table_of, no_initial, own_cell, blocks_at, fill_block, certificates_at, put_timed_out}
@@ -33,7 +34,6 @@ use Rattle.settling.proofs.SpareLaws.{spare_most, spare_other, spare_blocks, spa
 use Rattle.settling.proofs.Spending.{same_node, stored_same, skips_come, run_comes}
 use Rattle.settling.proofs.Settling.{run_settles}
 use Rattle.settling.proofs.Verdicts.{vote_fine, block_fine, certificate_fine, timeout_fine}
-use Rattle.rulebook.specs.declared.Refusal.{Refusal}
 
 -- ---- paying
 

@@ -84,7 +84,7 @@ module _ {l m : Ledger} (g : Sound l) (b : Beside l m) where
       let there : n < m.count = omega (arith, e.count) in
       let place : place_of (cell_at m s n) k x ≡ Free = ap (λ (cs : List Cell). place_of (get_or cs n no_cell) k x) (e.cells s) ∙ free in
       let slot : slot_ok s ≡ true = both_and (leb 1 s) (leb s last_slot) (le-leb 1 s low) (le-leb s last_slot high) in
-      let fine : vote_verdict m v ≡ (Ok tt) = rw (kind, slot, lt-leb m.count n there, ne_eqb n m.own (other_number n node), fits, place) in
+      let fine : vote_verdict m v ≡ Ok tt = rw (kind, slot, lt-leb m.count n there, ne_eqb n m.own (other_number n node), fits, place) in
       let p = watcher_serves (served m (of_input (input.Vote v))) (intake m (input.Vote v)) (feed_fine m (input.Vote v) fine)
       (record {
         sound = sound_vote m b.sound s low high n k x there place fits (λ q. absurd (other_number n node q));
@@ -117,7 +117,7 @@ module _ {l m : Ledger} (g : Sound l) (b : Beside l m) where
   unfolding served is_watcher keep_certificate
   packet_shown packet c next o long f =
       let read : one_at (table_of m) packet 0 ≡ good c next = ap (λ (ws : List ℕ). one_at ws packet 0) (pool_table e) ∙ o in
-      let kept : kept_verdict (certificates_at m c.slot) (kind_for m c) c.block ≡ (Ok tt) =
+      let kept : kept_verdict (certificates_at m c.slot) (kind_for m c) c.block ≡ Ok tt =
       (λ i. kept_verdict (e.certificates c.slot i) (kind_in (e.count i) c.kind) c.block) ∙ f in
       let d = taken_fine m b.sound c (one_good (table_of m) packet 0 c next read).1 kept in
       let p = watcher_serves (served m (of_packet packet)) (state_of (keep_certificate m c) []) (packet_whole m packet c next read long ∙ taken_kept m c kept)
@@ -266,7 +266,7 @@ fresh_beside : (stakes : List ℕ) (me genesis : ℕ) → start_verdict stakes m
 unfolding fresh is_watcher watch_verdict refuse_if
 fresh_beside stakes me genesis e =
     let f = start_fine stakes me genesis e in
-    let w : watch_verdict stakes genesis ≡ (Ok tt) = rw (f.0, f.2) in
+    let w : watch_verdict stakes genesis ≡ Ok tt = rw (f.0, f.2) in
     record {
       sound = watching_sound stakes genesis w;
       watcher = eq-eqb (length stakes) (length stakes) refl;

@@ -9,6 +9,7 @@ use lib.Dec.{eqb}
 use borrow.Author.Tests.{eq-eqb}
 use Rattle.rulebook.specs.declared.Input.{Input}
 use Rattle.rulebook.specs.declared.Input.TheVariants as input
+use Rattle.rulebook.specs.declared.Refusal.{Refusal}
 use Rattle.rulebook.specs.Certificates.{Certificate}
 use Rattle.rulebook.specs.Ledger.{Ledger, is_watcher, table_of, certificates_at, fresh}
 use Rattle.rulebook.specs.Votes.{store_vote}
@@ -28,7 +29,6 @@ use Rattle.settling.proofs.Life.{taken_fine, served_paid}
 use Rattle.settling.proofs.Start.{watching_sound}
 use Rattle.watchers.specs.Watching.{tells_vote, as_votes, WatcherNeverVotes}
 use Rattle.watchers.proofs.ShownLaws.{votes_append, told_none}
-use Rattle.rulebook.specs.declared.Refusal.{Refusal}
 
 -- ---- the rules
 

@@ -3,6 +3,7 @@ use Rattle.std.specs.Prelude.{◌≡◌, Bool, true, false, ◌&&◌, List, [], 
 use Rattle.rulebook.specs.declared.CertificateKind.{CertificateKind}
 use Rattle.rulebook.specs.declared.Input.TheVariants as input
 use Rattle.rulebook.specs.declared.Vote.{Vote}
+use Rattle.rulebook.specs.declared.Refusal.{Refusal}
 use Rattle.rulebook.specs.Tools.{whenever}
 use Rattle.rulebook.specs.PaperNumbers.{vote_kind}
 use Rattle.rulebook.specs.Ledger.{Ledger, row_at, blocks_at, certificates_at, fresh}
@@ -11,7 +12,6 @@ use Rattle.rulebook.specs.Rules.{Record}
 use Rattle.rulebook.specs.Inputs.{Fed, start_verdict, watch_verdict}
 use Rattle.rulebook.specs.Taking.{Arrival, of_input, of_packet, served}
 use Rattle.settling.specs.Steps.{after, life}
-use Rattle.rulebook.specs.declared.Refusal.{Refusal}
 
 -- ---- what a watcher is shown
 
