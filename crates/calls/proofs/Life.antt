@@ -7,6 +7,7 @@ use Prim.Native.Nat.{ℕ}
 use lib.Dec.{T, eqb}
 use lib.ListN.{length}
 use Rattle.rulebook.specs.declared.Input.{Input}
+use Rattle.rulebook.specs.declared.Refusal.{Refusal}
 use Rattle.rulebook.specs.declared.Refusal.TheVariants as refusal
 use Rattle.rulebook.specs.PaperNumbers.{start_panel, step_panel}
 use Rattle.rulebook.specs.Weights.{places_for}
@@ -34,7 +35,6 @@ use Rattle.seen.proofs.Numbers.{refusal_above}
 use Rattle.calls.specs.Operation.{Operation, one_input, a_tray, a_packet, fed_by}
 use Rattle.calls.specs.Life.{Met, MetWith, begun, next, Calls, none, then, not_started, not_watched, Life, Watch, LifeIsSeen, WatchIsSeen, LivesAreNodes, CallsEarlier, LifeBegins, WatchBegins, MetGoesOn, RefusedStays}
 use Rattle.calls.proofs.OneCall.{call_did}
-use Rattle.rulebook.specs.declared.Refusal.{Refusal}
 
 -- ---- the public operations, in numbers
 

@@ -9,6 +9,7 @@ use lib.Dec.{T, eqb, leb, eqb→eq}
 use lib.ListN.{length}
 use borrow.Author.Tests.{leb-true, leb-false, eqb-true}
 use Rattle.rulebook.specs.declared.Input.{Input}
+use Rattle.rulebook.specs.declared.Refusal.{Refusal}
 use Rattle.rulebook.specs.PaperNumbers.{step_panel}
 use Rattle.rulebook.specs.Tools.{whenever}
 use Rattle.rulebook.specs.Ledger.{Ledger, fresh}
@@ -39,7 +40,6 @@ use Rattle.calls.specs.Life.{Met, Calls, none, then, not_started, not_watched}
 use Rattle.calls.specs.Observed.{is_step, woken_by, WokenSeen, is_timeout, timed_out_by, TimedOutSeen, calls_by_policy, PolicySeen, shown_one, shown_with, shown_by, ShownSeen}
 use Rattle.calls.proofs.OneCall.{OneServed, step_leaves_lem, take_leaves_lem, call_served, short_nine, step_served}
 use Rattle.calls.proofs.Life.{many, born_seen, life_is_seen}
-use Rattle.rulebook.specs.declared.Refusal.{Refusal}
 
 -- 0 is the number of "done".
 pub done_zero : (a : Result ℕ Refusal) (number : ℕ) → number ≡ (step_panel a).number → eqb number 0 ≡ is_done a

@@ -1,6 +1,7 @@
 -- A LIFE: a start and the calls since, each known by its contract alone, as a statement about what is seen of it. No list of calls is kept: the words,
 -- the told records and what arrived are all that a promise speaks of. Functions of the header and public operations may be mixed.
 use Rattle.std.specs.Prelude.{◌≡◌, List, [], ◌++◌, ℕ, T, Result}
+use Rattle.rulebook.specs.declared.Refusal.{Refusal}
 use Rattle.rulebook.specs.PaperNumbers.{step_panel}
 use Rattle.answers.specs.Face.{Beside, Started, Watched, Stepped, Trayed, Taken}
 use Rattle.safety.specs.Slot.{Test}
@@ -8,7 +9,6 @@ use Rattle.safety.specs.Ring.{FewOthers}
 use Rattle.seen.specs.Seen.{Seen, NodeSeen, WatcherSeen, Earlier}
 use Rattle.seen.specs.Ring.{Lives, Nodes}
 use Rattle.calls.specs.Operation.{Operation, one_input, a_tray, a_packet, fed_by, first_records}
-use Rattle.rulebook.specs.declared.Refusal.{Refusal}
 
 -- ---- calls
 

@@ -6,13 +6,13 @@ use mathlib.Core.List.{List, [], ◌∷◌}
 use Prim.Native.Nat.{ℕ, ◌^◌, ◌<◌, ◌-◌}
 use native.Mathlib.Omega.{arith}
 use lib.ListN.{length, get_or, take}
-use Rattle.rulebook.specs.Certificates.{Certificate}
 use Rattle.rulebook.specs.declared.Accepted.{Accepted}
 use Rattle.rulebook.specs.declared.Refusal.{Refusal}
 use Rattle.rulebook.specs.declared.Refusal.TheVariants as refusal
 use Rattle.rulebook.specs.declared.Vote.{Vote}
 use Rattle.rulebook.specs.declared.VoteKind.{VoteKind}
 use Rattle.rulebook.specs.declared.VoteKind.TheVariants as vote
+use Rattle.rulebook.specs.Certificates.{Certificate}
 use Rattle.rulebook.specs.Ledger.{Ledger, table_of}
 use Rattle.rulebook.specs.PaperNumbers.{refusal_number, vote_kind, vote_number, write_panel, read_panel, check_number, check_values, check_missing}
 use Rattle.rulebook.specs.Tools.{choose}

@@ -1,8 +1,9 @@
 -- THE WRITERS OF THE FACE: 0 exactly where what is asked for is there, and what was written reads back.
 use Rattle.std.specs.Prelude.{◌≡◌, Bool, true, false, List, [], ◌∷◌, ℕ, ◌^◌, ◌<◌, length, take, Result}
-use Rattle.rulebook.specs.Certificates.{Certificate}
 use Rattle.rulebook.specs.declared.Accepted.{Accepted}
 use Rattle.rulebook.specs.declared.Vote.{Vote}
+use Rattle.rulebook.specs.declared.Refusal.{Refusal}
+use Rattle.rulebook.specs.Certificates.{Certificate}
 use Rattle.rulebook.specs.Ledger.{Ledger, table_of}
 use Rattle.rulebook.specs.Pool.{held}
 use Rattle.rulebook.specs.Rules.{is_final}
@@ -15,7 +16,6 @@ use Rattle.record.specs.Layout.{ledger_of}
 use Rattle.writers.specs.Writing.{kind_on, certificate_on, proof_on}
 use Rattle.answers.specs.Face.{Wrote, Checked, MessageRead, vote_values, accepted_values}
 use Rattle.promises.specs.Exactly.{CertificateAsked, ProofAsked}
-use Rattle.rulebook.specs.declared.Refusal.{Refusal}
 
 -- ---- "A certificate is written exactly when it is held."
 

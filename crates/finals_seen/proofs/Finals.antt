@@ -8,6 +8,7 @@ use native.Mathlib.Omega.{arith}
 use lib.Dec.{T, ltb, leb, leb→le, le→leb, not_T}
 use lib.ListN.{length}
 use Rattle.rulebook.specs.declared.CertificateKind.TheVariants as certificate
+use Rattle.rulebook.specs.declared.Refusal.{Refusal}
 use Rattle.rulebook.specs.Weights.{last_slot, slot_ok}
 use Rattle.rulebook.specs.PaperNumbers.{write_panel}
 use Rattle.rulebook.specs.Ledger.{Ledger, none, fresh, row_at, cell_at, is_armed, is_block, first_block, keeps_block}
@@ -40,7 +41,6 @@ use Rattle.seen.proofs.More.{holds_more}
 use Rattle.seen.proofs.Chain.{parents}
 use Rattle.seen.proofs.Progress.{mail_in}
 use Rattle.finals_seen.specs.Finals.{Proved, Told, SkiplessIsPatient, GenesisReady, Led, FinalsIn, Heard, by_notars, by_finals, BlocksVoted, FastFinal, SlowFinal, FinalTold, BlocksFinal, OthersToo, WatchersToo, NextLeader, FirstWindow, AnyWindow}
-use Rattle.rulebook.specs.declared.Refusal.{Refusal}
 
 -- ---- one life, a node's or a watcher's
 

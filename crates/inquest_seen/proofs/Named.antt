@@ -9,6 +9,7 @@ use lib.Dec.{T, leb}
 use lib.ListN.{length, get_or}
 use borrow.Author.Tests.{le-leb}
 use Rattle.rulebook.specs.declared.Slot.{Slot}
+use Rattle.rulebook.specs.declared.Refusal.TheVariants as refusal
 use Rattle.rulebook.specs.Ledger.{Ledger}
 use Rattle.rulebook.specs.Taking.{Arrival}
 use Rattle.rulebook.specs.Writers.{over}
@@ -29,7 +30,6 @@ use Rattle.inquest.proofs.Honest.{own_votes_stand as votes_stand, watchers_stand
 use Rattle.inquest.proofs.Lists.{nothing_fallen}
 use Rattle.inquest_lines.specs.Lent.{spell_lines, Told, refused_by, listed_in, list_panel}
 use Rattle.inquest_lines.specs.declared.ListRefusal.TheVariants as why
-use Rattle.rulebook.specs.declared.Refusal.TheVariants as refusal
 use Rattle.standing.specs.Asked.{stands_on}
 use Rattle.seen.specs.Seen.{Seen, ledger_in, Alive, node, watcher}
 use Rattle.seen.specs.Ring.{Lives, told_ballot}

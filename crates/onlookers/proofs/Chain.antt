@@ -8,6 +8,7 @@ use native.Mathlib.Omega.{arith}
 use lib.Dec.{T, eqb}
 use lib.ListN.{length}
 use borrow.Author.Tests.{eq-eqb, ne_eqb, eqb-true}
+use Rattle.rulebook.specs.declared.Refusal.{Refusal}
 use Rattle.rulebook.specs.Weights.{slot_ok}
 use Rattle.rulebook.specs.Ledger.{Ledger, none, fresh, row_at}
 use Rattle.rulebook.specs.Rules.{Record, record_of}
@@ -45,7 +46,6 @@ use Rattle.spreading.proofs.Spreading.{Onlooks, onlooks, observes, no_other}
 use Rattle.told.specs.Told.{count_of, tells}
 use Rattle.told.proofs.Told.{marks_are_told}
 use Rattle.onlookers.specs.Chain.{SettledFor, proved, told, read, wrote, OnlookersChained, OnlookersAgree, OnlookersNoAlarm}
-use Rattle.rulebook.specs.declared.Refusal.{Refusal}
 use Rattle.readers.specs.declared.SlotMarks.{SlotMarks}
 
 -- Where no record of the kind and slot is among them, none is counted.

@@ -7,6 +7,8 @@ use Prim.Native.Nat.{ℕ}
 use lib.ListN.{length}
 use lib.Dec.{eqb}
 use Rattle.rulebook.specs.declared.Refusal.{Refusal}
+use Rattle.rulebook.specs.declared.Cell.{Cell}
+use Rattle.rulebook.specs.declared.Tally.{Tally}
 use Rattle.rulebook.specs.PaperNumbers.{Panel, refusal_number, verdict_number}
 use Rattle.rulebook.specs.Tools.{choose}
 use Rattle.rulebook.specs.Weights.{slot_ok}
@@ -42,11 +44,9 @@ use Rattle.promises.proofs.Vouched.{face_vouched, face_same_parents, face_vouche
 use Rattle.promises.proofs.Readers.{unsound_final, unsound_armed, unsound_votes, unsound_blocks, unsound_marks, unsound_weights, face_certificates}
 use Rattle.promises.proofs.Printed.{sends}
 use Rattle.readers.specs.declared.BlockWeights.{BlockWeights}
-use Rattle.rulebook.specs.declared.Cell.{Cell}
 use Rattle.readers.specs.declared.KeptBlocks.{KeptBlocks}
 use Rattle.readers.specs.declared.RecordHead.{RecordHead}
 use Rattle.readers.specs.declared.SlotMarks.{SlotMarks}
-use Rattle.rulebook.specs.declared.Tally.{Tally}
 
 -- ---- what is answered
 

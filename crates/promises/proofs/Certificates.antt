@@ -9,6 +9,7 @@ use lib.ListN.{length}
 use lib.Dec.{eqb}
 use borrow.Author.Tests.{le-ltb, eq-eqb}
 use Rattle.rulebook.specs.declared.CertificateKind.{CertificateKind}
+use Rattle.rulebook.specs.declared.Refusal.{Refusal}
 use Rattle.rulebook.specs.declared.Refusal.TheVariants as refusal
 use Rattle.rulebook.specs.Certificates.{Found}
 use Rattle.rulebook.specs.Certificates as found
@@ -36,7 +37,6 @@ use Rattle.promises.proofs.Numbered.{refusal_numbered}
 use Rattle.promises.proofs.Shown.{take_shown}
 use Rattle.promises.proofs.ShownChecks.{certificate_check_shown}
 use Rattle.promises.proofs.Cards.{unsound_refused}
-use Rattle.rulebook.specs.declared.Refusal.{Refusal}
 
 -- ---- the checker's refusals
 

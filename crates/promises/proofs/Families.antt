@@ -8,10 +8,10 @@ use native.Mathlib.Omega.{arith}
 use lib.ListN.{length, get_or}
 use lib.Dec.{ltb}
 use borrow.Author.Tests.{le-ltb, lt-ltb}
-use Rattle.rulebook.specs.Certificates.{Certificate, Found}
-use Rattle.rulebook.specs.Certificates as found
 use Rattle.rulebook.specs.declared.Accepted.{Accepted}
 use Rattle.rulebook.specs.declared.Refusal.TheVariants as refusal
+use Rattle.rulebook.specs.Certificates.{Certificate, Found}
+use Rattle.rulebook.specs.Certificates as found
 use Rattle.rulebook.specs.Tools.{part}
 use Rattle.rulebook.specs.Weights.{is_large, family, stakes_fit}
 use Rattle.rulebook.specs.PaperNumbers.{certificate_kind, kind_in, number_in, refusal_number, write_panel, check_number, check_values}

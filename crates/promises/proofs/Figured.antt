@@ -8,12 +8,12 @@ use native.Mathlib.Omega.{arith}
 use lib.ListN.{length}
 use lib.Dec.{eqb, ltb}
 use Rattle.rulebook.specs.declared.Accepted.{Accepted}
-use Rattle.rulebook.specs.Certificates.{Certificate, Found}
 use Rattle.rulebook.specs.declared.CertificateKind.{CertificateKind}
 use Rattle.rulebook.specs.declared.CertificateKind.TheVariants as certificate
-use Rattle.rulebook.specs.Certificates as found
 use Rattle.rulebook.specs.declared.Refusal.{Refusal}
 use Rattle.rulebook.specs.declared.Refusal.TheVariants as refusal
+use Rattle.rulebook.specs.Certificates.{Certificate, Found}
+use Rattle.rulebook.specs.Certificates as found
 use Rattle.rulebook.specs.Tools.{choose, whenever}
 use Rattle.rulebook.specs.Weights.{reaches, total_to, slot_ok, stakes_fit}
 use Rattle.rulebook.specs.PaperNumbers.{kind_in, number_in, refusal_number, refusal_missing, verdict_number, check_number, check_missing}

@@ -6,8 +6,8 @@ use native.Mathlib.Omega.{arith}
 use Rattle.rulebook.specs.declared.Accepted.{Accepted}
 use Rattle.rulebook.specs.declared.Refusal.{Refusal}
 use Rattle.rulebook.specs.declared.Refusal.TheVariants as refusal
-use Rattle.rulebook.specs.PaperNumbers.{refusal_number, start_panel, step_panel, write_panel, read_panel, check_number}
 use Rattle.rulebook.specs.declared.Vote.{Vote}
+use Rattle.rulebook.specs.PaperNumbers.{refusal_number, start_panel, step_panel, write_panel, read_panel, check_number}
 
 -- A number that is not 0 is a refusal's.
 pub start_refusal : (a : Result ⊤ Refusal) → ¬ ((start_panel a).number ≡ 0) → (r : Refusal) × (a ≡ Err r)

@@ -9,12 +9,13 @@ use lib.ListN.{length, take, drop, length-drop}
 use lib.Seq.{length-take-le}
 use lib.Dec.{eqb}
 use borrow.Author.Tests.{eqb-true, eqb-false}
-use Rattle.rulebook.specs.Certificates.{Certificate, Found}
-use Rattle.rulebook.specs.Certificates as found
 use Rattle.rulebook.specs.declared.CertificateKind.{CertificateKind}
 use Rattle.rulebook.specs.declared.CertificateKind.TheVariants as certificate
 use Rattle.rulebook.specs.declared.Refusal.{Refusal}
 use Rattle.rulebook.specs.declared.Refusal.TheVariants as refusal
+use Rattle.rulebook.specs.declared.Accepted.{Accepted}
+use Rattle.rulebook.specs.Certificates.{Certificate, Found}
+use Rattle.rulebook.specs.Certificates as found
 use Rattle.rulebook.specs.PaperNumbers.{Panel, verdict_number, check_number, check_values, check_missing, check_panel, refusal_number}
 use Rattle.rulebook.specs.Weights.{stakes_fit}
 use Rattle.rulebook.specs.Ledger.{none}
@@ -34,7 +35,6 @@ use Rattle.promises.specs.Panels.{beside_it, shown, else_then, whole_then, nothi
 use Rattle.promises.specs.Pieces.{piece_judged, PieceShown, end_judged, EndShown, FacePieceRefused, EndLeaves, FaceEndRefused, Reply, FaceMeets, as_piece, as_end, FaceCalls, no_more, called, check_reply, count_in, reply_to, replies_to, FaceCallsAnswer, more, FaceCutsAnywhere}
 use Rattle.promises.proofs.ShownChecks.{refusal_shown, proof_check_shown}
 use Rattle.promises.proofs.Refused.{face_check_refused}
-use Rattle.rulebook.specs.declared.Accepted.{Accepted}
 
 -- ---- a piece's number
 

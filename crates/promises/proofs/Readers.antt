@@ -12,6 +12,8 @@ use Rattle.rulebook.specs.declared.Block.{Block}
 use Rattle.rulebook.specs.declared.Refusal.{Refusal}
 use Rattle.rulebook.specs.declared.Refusal.TheVariants as refusal
 use Rattle.rulebook.specs.declared.Who.TheVariants as who
+use Rattle.rulebook.specs.declared.Accepted.{Accepted}
+use Rattle.rulebook.specs.declared.Cell.{Cell}
 use Rattle.rulebook.specs.PaperNumbers.{Panel, refusal_number, verdict_number, write_panel, check_number}
 use Rattle.rulebook.specs.Weights.{slot_ok, d_weights}
 use Rattle.rulebook.specs.Ledger.{none, table_of}
@@ -46,9 +48,7 @@ use Rattle.promises.specs.Differs.{shown_as}
 use Rattle.promises.proofs.Numbered.{refusal_numbered}
 use Rattle.promises.proofs.ShownChecks.{proof_check_shown}
 use Rattle.promises.specs.Readers.{FinalShown, ArmedShown, AnnounceShown, SplitShown, VotesShown, BlocksShown, MarksShown, HeadShown, WeightsShown, FaceWeightsMissing, kept_of, KeptTold, CertificatesShown, FaceCertificates, TextShown, FaceFinalRefused, FaceArmedRefused, FaceAnnounceRefused, FaceSplitRefused, FaceVotesRefused, FaceBlocksRefused, FaceMarksRefused, FaceHeadRefused, FaceWeightsRefused, FaceCertificatesRefused, FaceTextRefused}
-use Rattle.rulebook.specs.declared.Accepted.{Accepted}
 use Rattle.readers.specs.declared.BlockWeights.{BlockWeights}
-use Rattle.rulebook.specs.declared.Cell.{Cell}
 use Rattle.readers.specs.declared.KeptBlocks.{KeptBlocks}
 use Rattle.readers.specs.declared.RecordHead.{RecordHead}
 use Rattle.readers.specs.declared.SlotMarks.{SlotMarks}

@@ -10,6 +10,7 @@ use lib.Dec.{eqb, leb}
 use Rattle.rulebook.specs.declared.Input.{Input}
 use Rattle.rulebook.specs.declared.Refusal.{Refusal}
 use Rattle.rulebook.specs.declared.Refusal.TheVariants as refusal
+use Rattle.rulebook.specs.declared.Vote.{Vote}
 use Rattle.rulebook.specs.Ledger.{Ledger}
 use Rattle.rulebook.specs.PaperNumbers.{step_panel, write_panel, read_panel, check_values}
 use Rattle.rulebook.specs.Inputs.{Fed, verdict, fed_with, refused_with, fed_on, feed}
@@ -33,7 +34,6 @@ use Rattle.writers.specs.Writing.{unsound, kind_on, certificate_on, proof_on}
 use Rattle.answers.specs.Face.{Beside}
 use Rattle.promises.specs.Refusals.{StartRefused, WatchRefused, StepRefused, TakeRefused, TrayRefused, CertificateRefused, ProofRefused, MessageRefused, FaceStartRefused, FaceWatchRefused, FaceStepRefused, FaceTakeRefused, FaceTrayRefused, FaceCertificateRefused, FaceProofRefused, FaceMessageRefused, FaceReadRefused, FaceCheckRefused}
 use Rattle.promises.proofs.Numbered.{start_refusal, step_refusal, write_refusal, read_refusal, check_refusal}
-use Rattle.rulebook.specs.declared.Vote.{Vote}
 
 -- ---- start
 

@@ -7,8 +7,6 @@ use Prim.Native.Nat.{ℕ, ◌%◌}
 use lib.ListN.{length, length-reverse}
 use lib.Dec.{eqb, leb, ltb}
 use borrow.Author.Tests.{ne_eqb, le-ltb, le-leb, lt-leb, ltb-true, ltb-false}
-use Rattle.rulebook.specs.Certificates.{Certificate, Found}
-use Rattle.rulebook.specs.Certificates as found
 use Rattle.rulebook.specs.declared.Input.{Input}
 use Rattle.rulebook.specs.declared.Input.TheVariants as input
 use Rattle.rulebook.specs.declared.Place.{Place}
@@ -16,6 +14,8 @@ use Rattle.rulebook.specs.declared.Place.TheVariants as place
 use Rattle.rulebook.specs.declared.Refusal.{Refusal}
 use Rattle.rulebook.specs.declared.Refusal.TheVariants as refusal
 use Rattle.rulebook.specs.declared.Vote.{Vote}
+use Rattle.rulebook.specs.Certificates.{Certificate, Found}
+use Rattle.rulebook.specs.Certificates as found
 use Rattle.rulebook.specs.Tools.{whenever}
 use Rattle.rulebook.specs.PaperNumbers.{Panel, kind_in, verdict_number, place_number, start_panel, step_panel, write_panel, refusal_number}
 use Rattle.rulebook.specs.Weights.{stakes_fit}

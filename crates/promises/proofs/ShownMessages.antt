@@ -5,7 +5,10 @@ use mathlib.Core.Bool.{Bool, true, false, not}
 use mathlib.Core.List.{List, [], ◌∷◌}
 use Prim.Native.Nat.{ℕ}
 use lib.ListN.{length, replicate}
+use Rattle.rulebook.specs.declared.Refusal.{Refusal}
 use Rattle.rulebook.specs.declared.Refusal.TheVariants as refusal
+use Rattle.rulebook.specs.declared.Unread.{Unread}
+use Rattle.rulebook.specs.declared.Vote.{Vote}
 use Rattle.rulebook.specs.Tools.{whenever}
 use Rattle.rulebook.specs.PaperNumbers.{vote_number, vote_kind, verdict_number, write_panel, read_panel, refusal_number}
 use Rattle.rulebook.specs.Weights.{count_fits}
@@ -16,10 +19,6 @@ use Rattle.rule_laws.proofs.RuleLaws.{refuse_fine}
 use Rattle.messages.proofs.Promises.{kind_number}
 use Rattle.promises.specs.Panels.{beside_it, shown, nothing_after, number_then, four_then, read_judged, four_of, MessageShown, ReadShown}
 use Rattle.promises.proofs.Shown.{wrote_shown}
-use Rattle.rulebook.specs.declared.Refusal.{Refusal}
-use Rattle.rulebook.specs.declared.Unread.{Unread}
-use Rattle.rulebook.specs.declared.Vote.{Vote}
-use Rattle.rulebook.specs.declared.Unread.TheVariants.{Early, Malformed}
 
 -- ---- the writer
 
@@ -42,15 +41,13 @@ number_shown : (x : Result (ℕ × ℕ) Unread) (f : ℕ → ℕ → Result Vote
     → read_panel (as_read x f) ≡ shown (number_then x Err v) (number_then x (λ _. replicate 4 0) values)
 unfolding as_read number_then read_panel shown beside_it verdict_number
 number_shown (Ok (n, next)) f v values h = h n next
-number_shown (Err Early) f v values h = refl
-number_shown (Err Malformed) f v values h = refl
+number_shown (Err e) f v values h = refl
 
 number_four : (x : Result (ℕ × ℕ) Unread) (values : ℕ → ℕ → List ℕ) → ((n next : ℕ) → length (values n next) ≡ 4)
     → length (number_then x (λ _. replicate 4 0) values) ≡ 4
 unfolding number_then
 number_four (Ok (n, next)) values h = h n next
-number_four (Err Early) values h = refl
-number_four (Err Malformed) values h = refl
+number_four (Err e) values h = refl
 
 four_told : (bytes : List ℕ) → length (four_of bytes) ≡ 4
 unfolding four_of four_then

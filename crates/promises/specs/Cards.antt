@@ -2,7 +2,10 @@
 -- recount is 17 wherever a node's record is lent; a refusal leaves every card as found.
 use Rattle.std.specs.Prelude.{◌≡◌, true, not, List, [], ◌∷◌, ℕ, ◌≤◌, length, Result, Ok}
 use Rattle.rulebook.specs.declared.Input.{Input}
+use Rattle.rulebook.specs.declared.Refusal.{Refusal}
 use Rattle.rulebook.specs.declared.Refusal.TheVariants as refusal
+use Rattle.rulebook.specs.declared.Block.{Block}
+use Rattle.rulebook.specs.declared.Tally.{Tally}
 use Rattle.rulebook.specs.PaperNumbers.{Panel, step_panel}
 use Rattle.rulebook.specs.Weights.{last_slot, slot_ok}
 use Rattle.rulebook.specs.Ledger.{Ledger, row_at}
@@ -13,7 +16,6 @@ use Rattle.soundness.specs.Sound.{sound_words}
 use Rattle.lines.specs.Answers.{answer_line, five_values, check_line}
 use Rattle.writers.specs.Writing.{certificate_on, proof_on}
 use Rattle.cards.specs.Asked.{card_on, card_values, card_panel}
-use Rattle.rulebook.specs.declared.Block.{Block}
 use Rattle.announcing.specs.Asked.{announced_on}
 use Rattle.readers.specs.Asked.{final_on, armed_on, votes_on, blocks_on, marks_on, head_on}
 use Rattle.readers.specs.Weighed.{weights_on}
@@ -26,8 +28,6 @@ use Rattle.same_parents.specs.Parents.{parents_on}
 use Rattle.answers.specs.Face.{Stepped, Taken, Trayed, Wrote, CardRead, FinalRead, ArmedRead, AnnounceRead, SplitRead, VotesRead, BlocksRead, MarksRead, HeadRead, WeightsRead, Compared, LinesRead, CertificatesRead}
 use Rattle.promises.specs.Panels.{shown, sound_first}
 use Rattle.promises.specs.Printed.{Sends}
-use Rattle.rulebook.specs.declared.Refusal.{Refusal}
-use Rattle.rulebook.specs.declared.Tally.{Tally}
 
 -- ---- what is answered
 

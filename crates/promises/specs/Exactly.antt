@@ -1,6 +1,7 @@
 -- "A certificate is written exactly when it is held": over a record's words and the writers' contract, for every question.
 use Rattle.std.specs.Prelude.{◌≡◌, Bool, true, false, List, ℕ, ◌≤◌, length, Result, Ok, Err}
 use Rattle.rulebook.specs.declared.CertificateKind.{CertificateKind}
+use Rattle.rulebook.specs.declared.Refusal.{Refusal}
 use Rattle.rulebook.specs.declared.Refusal.TheVariants as refusal
 use Rattle.rulebook.specs.Weights.{slot_ok}
 use Rattle.rulebook.specs.Ledger.{none}
@@ -11,7 +12,6 @@ use Rattle.rulebook.specs.Writers.{certificate_room, proof_room, Writes}
 use Rattle.record.specs.Layout.{ledger_of}
 use Rattle.soundness.specs.Sound.{sound_words}
 use Rattle.writers.specs.Writing.{kind_on, certificate_on, proof_on}
-use Rattle.rulebook.specs.declared.Refusal.{Refusal}
 
 -- None of 17, 9, 4, 3, 5 is due to the question for a certificate.
 pub record CertificateAsked (ws buffer : List ℕ) (k : CertificateKind) (s b : ℕ) : Type 0 where

@@ -1,8 +1,10 @@
 -- "Tables of up to 64 nodes write and read only the old kinds; larger tables only the new, and the other family is 4": at the face.
 use Rattle.std.specs.Prelude.{◌≡◌, true, List, ℕ, ◌≤◌, ◌<◌, length, get_or, Result}
+use Rattle.rulebook.specs.declared.CertificateKind.{CertificateKind}
+use Rattle.rulebook.specs.declared.Accepted.{Accepted}
+use Rattle.rulebook.specs.declared.Refusal.{Refusal}
 use Rattle.rulebook.specs.Certificates.{Certificate}
 use Rattle.rulebook.specs.Certificates as found
-use Rattle.rulebook.specs.declared.CertificateKind.{CertificateKind}
 use Rattle.rulebook.specs.Weights.{stakes_fit}
 use Rattle.rulebook.specs.PaperNumbers.{certificate_kind, certificate_number, kind_in, number_in}
 use Rattle.rulebook.specs.Packets.{certificate_at}
@@ -12,8 +14,6 @@ use Rattle.record.specs.Layout.{ledger_of}
 use Rattle.soundness.specs.Sound.{sound_words}
 use Rattle.writers.specs.Writing.{certificate_on}
 use Rattle.answers.specs.Face.{Wrote, Checked}
-use Rattle.rulebook.specs.declared.Accepted.{Accepted}
-use Rattle.rulebook.specs.declared.Refusal.{Refusal}
 
 -- A kind's number is of the family of a table of so many nodes.
 pub record OfTable (count kind : ℕ) : Type 0 where

@@ -1,7 +1,9 @@
 -- "No certificate is held or refused that was not before": of the stored votes; and what stands beside 15, over the contracts.
 use Rattle.std.specs.Prelude.{◌≡◌, not, ◌||◌, List, ℕ, ◌+◌, ◌*◌, ◌≤◌, ◌<◌, length, eqb, leb, Result, Ok}
-use Rattle.rulebook.specs.Certificates.{Certificate}
 use Rattle.rulebook.specs.declared.CertificateKind.{CertificateKind}
+use Rattle.rulebook.specs.declared.Accepted.{Accepted}
+use Rattle.rulebook.specs.declared.Refusal.{Refusal}
+use Rattle.rulebook.specs.Certificates.{Certificate}
 use Rattle.rulebook.specs.Certificates as found
 use Rattle.rulebook.specs.Tools.{choose}
 use Rattle.rulebook.specs.Weights.{total_to, slot_ok}
@@ -11,8 +13,6 @@ use Rattle.rulebook.specs.Pool.{weigh, signers_of, fifths_of, reached, kept_as, 
 use Rattle.rulebook.specs.Packets.{certificate_at}
 use Rattle.rulebook.specs.Checker.{is_other_kind, block_misfits, bad_signers, signed_weight, judge, check_certificate, check_proof}
 use Rattle.answers.specs.Face.{Checked}
-use Rattle.rulebook.specs.declared.Accepted.{Accepted}
-use Rattle.rulebook.specs.declared.Refusal.{Refusal}
 
 -- x is the least further weight with which w would reach k fifths of t.
 pub record Least (k t w x : ℕ) : Type 0 where

@@ -1,16 +1,18 @@
 -- "When an answer is an enum, a definition gives this paper's number and values for each case of that enum. The promises use that
 -- definition": what the panel shows of each public operation's answer.
 use Rattle.std.specs.Prelude.{◌≡◌, true, false, not, ◌&&◌, List, [], ◌∷◌, ℕ, ◌%◌, ◌≤◌, ◌<◌, length, replicate, eqb, leb, ltb, ⊤, Result, Ok, Err}
-use Rattle.rulebook.specs.Certificates.{Certificate, Found}
 use Rattle.rulebook.specs.declared.CertificateKind.{CertificateKind}
 use Rattle.rulebook.specs.declared.CertificateKind.TheVariants as certificate
-use Rattle.rulebook.specs.Certificates as found
 use Rattle.rulebook.specs.declared.Input.{Input}
 use Rattle.rulebook.specs.declared.Input.TheVariants as input
 use Rattle.rulebook.specs.declared.Refusal.{Refusal}
 use Rattle.rulebook.specs.declared.Refusal.TheVariants as refusal
 use Rattle.rulebook.specs.declared.Vote.{Vote}
-use Rattle.rulebook.specs.PaperNumbers.{Panel, vote_kind, kind_in, number_in, verdict_number, place_number, found_panel, start_panel, step_panel, write_panel, read_panel, check_number, check_panel}
+use Rattle.rulebook.specs.declared.Accepted.{Accepted}
+use Rattle.rulebook.specs.declared.Unread.{Unread}
+use Rattle.rulebook.specs.Certificates.{Certificate, Found}
+use Rattle.rulebook.specs.Certificates as found
+use Rattle.rulebook.specs.PaperNumbers.{Panel, vote_kind, kind_in, number_in, refusal_of, verdict_number, place_number, found_panel, start_panel, step_panel, write_panel, read_panel, check_number, check_panel}
 use Rattle.rulebook.specs.Weights.{slot_ok, count_fits, stakes_fit}
 use Rattle.rulebook.specs.Ledger.{Ledger, table_of, cell_at, certificates_at}
 use Rattle.rulebook.specs.Votes.{place_of}
@@ -29,9 +31,6 @@ use Rattle.taking.specs.Taking.{TakeOf}
 use Rattle.tray_rules.specs.Trays.{votes_in, whole_votes, serve}
 use Rattle.trays.specs.Lent.{TrayOf}
 use Rattle.writers.specs.Writing.{kind_on, certificate_on, proof_on}
-use Rattle.rulebook.specs.declared.Accepted.{Accepted}
-use Rattle.rulebook.specs.declared.Unread.{Unread}
-use Rattle.rulebook.specs.declared.Unread.TheVariants.{Early, Malformed}
 
 -- "Every refusal answers zeros beside its number".
 unfoldable pub beside_it : Result ⊤ Refusal → List ℕ → List ℕ
@@ -205,8 +204,7 @@ ProofCheckShown =
 -- "12 and 13 as met": what follows a number that was read, else what is made of its refusal.
 unfoldable pub number_then : {A : Type 0} → Result (ℕ × ℕ) Unread → (Refusal → A) → (ℕ → ℕ → A) → A
 number_then (Ok (n, next)) met f = f n next
-number_then (Err Early) met f = met refusal.BadLength
-number_then (Err Malformed) met f = met refusal.BadNumber
+number_then (Err e) met f = met (refusal_of e)
 
 -- "four numbers .. namely kind, node, slot, block", each read where the one before it ends: what follows them and the place after the last.
 unfoldable pub four_then : {A : Type 0} → List ℕ → (Refusal → A) → (ℕ → ℕ → ℕ → ℕ → ℕ → A) → A

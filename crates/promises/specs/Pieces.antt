@@ -1,6 +1,8 @@
 -- Proofs in pieces, in the paper's numbers and at the face: what each call shows and leaves, and what a run of calls of the face answers.
 use Rattle.std.specs.Prelude.{◌≡◌, true, not, ◌&&◌, List, [], ◌∷◌, ◌++◌, map, ℕ, length, ⊤, Result, Ok}
+use Rattle.rulebook.specs.declared.Refusal.{Refusal}
 use Rattle.rulebook.specs.declared.Refusal.TheVariants as refusal
+use Rattle.rulebook.specs.declared.Accepted.{Accepted}
 use Rattle.rulebook.specs.PaperNumbers.{check_number, check_values, check_missing, check_panel}
 use Rattle.rulebook.specs.Weights.{stakes_fit}
 use Rattle.rulebook.specs.Ledger.{none}
@@ -12,8 +14,6 @@ use Rattle.pieces.specs.State.{mark, nodes, table, front, is_ready, is_whole, Pi
 use Rattle.pieces.specs.Promises.{zero_words, zero_bytes}
 use Rattle.answers.specs.Face.{Checked, Pieced, Ended}
 use Rattle.promises.specs.Panels.{shown, proof_checked, told_of}
-use Rattle.rulebook.specs.declared.Accepted.{Accepted}
-use Rattle.rulebook.specs.declared.Refusal.{Refusal}
 
 -- ---- numbers and values
 

@@ -2,6 +2,9 @@
 -- and left room there, the bytes up to its end, which are what is sent, are the line for that answer.
 use Rattle.std.specs.Prelude.{◌≡◌, List, [], ◌∷◌, ℕ, ◌<◌, length, take, Result}
 use Rattle.rulebook.specs.declared.Input.{Input}
+use Rattle.rulebook.specs.declared.Accepted.{Accepted}
+use Rattle.rulebook.specs.declared.Refusal.{Refusal}
+use Rattle.rulebook.specs.declared.Vote.{Vote}
 use Rattle.rulebook.specs.PaperNumbers.{start_panel, step_panel, write_panel, read_panel, check_panel, check_missing}
 use Rattle.rulebook.specs.Writers as written
 use Rattle.lines.specs.Put.{Put}
@@ -12,9 +15,6 @@ use Rattle.taking.specs.Taking.{take_leaves}
 use Rattle.tray_rules.specs.Trays.{whole_votes}
 use Rattle.trays.specs.Lent.{tray_leaves}
 use Rattle.answers.specs.Face.{Started, Watched, Stepped, Taken, Trayed, Wrote, MessageRead, Checked}
-use Rattle.rulebook.specs.declared.Accepted.{Accepted}
-use Rattle.rulebook.specs.declared.Refusal.{Refusal}
-use Rattle.rulebook.specs.declared.Vote.{Vote}
 
 -- A page in which one text was put, and the other is what is sent of it.
 abbrev pub Sends : List ℕ → List ℕ → Type 0

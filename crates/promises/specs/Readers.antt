@@ -1,9 +1,11 @@
 -- What a host reads of a record, and the text of a number, over the contracts: the answer on the panel, and what a refusal leaves.
 use Rattle.std.specs.Prelude.{◌≡◌, true, false, not, List, [], ◌∷◌, ℕ, ◌+◌, ◌*◌, ◌≤◌, ◌<◌, length, get_or, leb, ltb, eqb, Bool, Result, Ok}
 use Rattle.rulebook.specs.declared.Block.{Block}
+use Rattle.rulebook.specs.declared.Refusal.{Refusal}
 use Rattle.rulebook.specs.declared.Refusal.TheVariants as refusal
 use Rattle.rulebook.specs.declared.Accepted.{Accepted}
 use Rattle.rulebook.specs.declared.Who.TheVariants as who
+use Rattle.rulebook.specs.declared.Cell.{Cell}
 use Rattle.rulebook.specs.PaperNumbers.{Panel, write_panel}
 use Rattle.rulebook.specs.Tools.{part}
 use Rattle.rulebook.specs.Weights.{slot_ok, d_weights}
@@ -29,10 +31,8 @@ use Rattle.answers.specs.Face.{FinalRead, ArmedRead, AnnounceRead, SplitRead, Vo
 use Rattle.promises.specs.Panels.{shown, sound_first, proof_checked}
 use Rattle.promises.specs.Differs.{shown_as}
 use Rattle.readers.specs.declared.BlockWeights.{BlockWeights}
-use Rattle.rulebook.specs.declared.Cell.{Cell}
 use Rattle.readers.specs.declared.KeptBlocks.{KeptBlocks}
 use Rattle.readers.specs.declared.RecordHead.{RecordHead}
-use Rattle.rulebook.specs.declared.Refusal.{Refusal}
 use Rattle.readers.specs.declared.SlotMarks.{SlotMarks}
 
 -- ---- what is answered

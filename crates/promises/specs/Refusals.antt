@@ -5,6 +5,7 @@ use Rattle.std.specs.Prelude.{◌≡◌, List, [], ◌∷◌, ℕ, length, Resul
 use Rattle.rulebook.specs.declared.Input.{Input}
 use Rattle.rulebook.specs.declared.Refusal.{Refusal}
 use Rattle.rulebook.specs.declared.Vote.{Vote}
+use Rattle.rulebook.specs.declared.Accepted.{Accepted}
 use Rattle.rulebook.specs.Writers.{Writes}
 use Rattle.rulebook.specs.Messages.{write_vote}
 use Rattle.starts.specs.Starting.{StartOf, WatchOf}
@@ -13,7 +14,6 @@ use Rattle.taking.specs.Taking.{TakeOf}
 use Rattle.trays.specs.Lent.{TrayOf}
 use Rattle.writers.specs.Writing.{certificate_on, proof_on}
 use Rattle.answers.specs.Face.{Started, Watched, Stepped, Taken, Trayed, Wrote, MessageRead, Checked}
-use Rattle.rulebook.specs.declared.Accepted.{Accepted}
 
 -- ---- the public operations
 

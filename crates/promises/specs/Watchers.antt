@@ -2,6 +2,7 @@
 use Rattle.std.specs.Prelude.{◌≡◌, true, false, List, ℕ, ◌+◌, ◌*◌, ◌<◌, length, get_or, ltb, ⊤, Result, Err}
 use Rattle.rulebook.specs.declared.Input.{Input}
 use Rattle.rulebook.specs.declared.Input.TheVariants as input
+use Rattle.rulebook.specs.declared.Refusal.{Refusal}
 use Rattle.rulebook.specs.declared.Refusal.TheVariants as refusal
 use Rattle.rulebook.specs.declared.Slot.{Slot}
 use Rattle.rulebook.specs.declared.Vote.{Vote}
@@ -16,7 +17,6 @@ use Rattle.node.specs.Stepping.{StepOf}
 use Rattle.watchers.specs.Watching.{tells_vote}
 use Rattle.answers.specs.Face.{vote_input, timeout_input, Watched, Stepped, Taken, Trayed}
 use Rattle.promises.specs.Panels.{sound_first}
-use Rattle.rulebook.specs.declared.Refusal.{Refusal}
 
 -- The words are a watcher's record.
 pub record Watches (ws : List ℕ) : Type 0 where

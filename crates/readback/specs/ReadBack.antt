@@ -1,8 +1,8 @@
 -- What the checker says of what a writer wrote, given the same stakes.
 use Rattle.std.specs.Prelude.{◌≡◌, List, ℕ, Result, Ok, Err}
 use Rattle.rulebook.specs.declared.Accepted.{Accepted}
-use Rattle.rulebook.specs.Writers.{Wrote, over}
 use Rattle.rulebook.specs.declared.Refusal.{Refusal}
+use Rattle.rulebook.specs.Writers.{Wrote, over}
 
 -- The writer's refusal, or the acceptance.
 unfoldable pub read_as : Result ℕ Refusal → Accepted → Result Accepted Refusal

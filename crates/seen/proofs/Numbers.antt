@@ -7,6 +7,7 @@ use native.Mathlib.Omega.{arith}
 use Rattle.rulebook.specs.declared.CertificateKind.{CertificateKind}
 use Rattle.rulebook.specs.declared.Refusal.{Refusal}
 use Rattle.rulebook.specs.declared.Refusal.TheVariants as refusal
+use Rattle.rulebook.specs.declared.Accepted.{Accepted}
 use Rattle.rulebook.specs.PaperNumbers.{refusal_number, step_panel, kind_in, number_in, write_panel, check_number, check_values}
 use Rattle.rulebook.specs.Writers as writer
 use Rattle.rulebook.specs.Writers.{Writes}
@@ -14,7 +15,6 @@ use Rattle.rule_laws.proofs.KindLaws.{kind_back}
 use Rattle.safety.specs.Promises.{AcceptedAs}
 use Rattle.answers.specs.Face.{Beside, accepted_values, Wrote, Checked}
 use Rattle.seen.specs.Written.{NamedAs}
-use Rattle.rulebook.specs.declared.Accepted.{Accepted}
 
 -- No refusal's number is 0.
 pub refusal_above : {X : Type 0} (r : Refusal) → refusal_number r ≡ 0 → X

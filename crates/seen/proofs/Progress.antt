@@ -10,9 +10,10 @@ use lib.ListN.{length}
 use borrow.Author.Tests.{le-leb, le-ltb}
 use Rattle.rulebook.specs.declared.CertificateKind.{CertificateKind}
 use Rattle.rulebook.specs.declared.CertificateKind.TheVariants as certificate
+use Rattle.rulebook.specs.declared.Refusal.{Refusal}
 use Rattle.rulebook.specs.declared.Refusal.TheVariants as refusal
 use Rattle.rulebook.specs.Weights.{last_slot, slot_ok, total_to}
-use Rattle.rulebook.specs.PaperNumbers.{number_in}
+use Rattle.rulebook.specs.PaperNumbers.{number_in, write_panel}
 use Rattle.rulebook.specs.Ledger.{Ledger, none, fresh, cell_at, no_initial, is_armed, keeps_block}
 use Rattle.rulebook.specs.Pool.{held}
 use Rattle.rulebook.specs.Packets.{certificate_bytes}
@@ -37,14 +38,12 @@ use Rattle.progress.proofs.Ends as ends
 use Rattle.progress.proofs.NeverHangs as hangs
 use Rattle.progress.proofs.Watching as watching
 use Rattle.progress.proofs.Watching.{watcher_woken_armed, watchers_decide}
-use Rattle.rulebook.specs.PaperNumbers.{write_panel}
 use Rattle.safety.proofs.Lives.{Sized, start_sized, watch_sized}
 use Rattle.seen.specs.Seen.{Seen, ledger_in, LifeSeen, NodeSeen}
 use Rattle.seen.specs.Ring.{Lives, told_ballot, Ring}
 use Rattle.seen.specs.Progress.{Gives, told_stake, MailIn, WatcherMail, Decided, notarized, skipped_over, WokenArmed, NeverHangs, NextWindowArmed, WatchersArm}
 use Rattle.seen.proofs.Ring.{cast_told, book_ring}
 use Rattle.seen.proofs.Written.{certificate_on_lem}
-use Rattle.rulebook.specs.declared.Refusal.{Refusal}
 
 -- ---- what is held is written
 

@@ -5,6 +5,8 @@ use mathlib.Core.Bool.{true}
 use mathlib.Core.List.{List, [], ◌∷◌}
 use Prim.Native.Nat.{ℕ}
 use lib.ListN.{length}
+use Rattle.rulebook.specs.declared.Cell.{Cell}
+use Rattle.rulebook.specs.declared.Refusal.{Refusal}
 use Rattle.rulebook.specs.Weights.{slot_ok}
 use Rattle.rulebook.specs.Ledger.{row_at}
 use Rattle.rulebook.specs.Writers.{over}
@@ -23,10 +25,8 @@ use Rattle.seen.specs.Seen.{Seen}
 use Rattle.seen.specs.Readers.{ReadsTold, ReadersTell}
 use Rattle.seen.proofs.Alive.{alive_sound}
 use Rattle.readers.specs.declared.BlockWeights.{BlockWeights}
-use Rattle.rulebook.specs.declared.Cell.{Cell}
 use Rattle.readers.specs.declared.KeptBlocks.{KeptBlocks}
 use Rattle.readers.specs.declared.RecordHead.{RecordHead}
-use Rattle.rulebook.specs.declared.Refusal.{Refusal}
 use Rattle.readers.specs.declared.SlotMarks.{SlotMarks}
 
 -- The one value beside a number.

@@ -17,10 +17,9 @@ use Rattle.watchers.specs.Watching.{tells_vote, vote_in, as_votes, shown, SamePo
 use Rattle.watchers.proofs.Following as following
 use Rattle.watchers.proofs.Silent as silent
 use Rattle.safety.specs.Ballots.{same_record, among}
-use Rattle.safety.specs.Ring.{after_all}
+use Rattle.safety.specs.Ring.{after_all, cast_by}
 use Rattle.safety.proofs.Tests.{and_t, or_t}
 use Rattle.seen.specs.Seen.{ledger_in}
-use Rattle.safety.specs.Ring.{cast_by}
 use Rattle.safety.specs.Watchers.{HoldsGenuine}
 use Rattle.safety.proofs.Lives.{watch_sized}
 use Rattle.safety.proofs.Safety.{in_table_lem}

@@ -9,6 +9,7 @@ use native.Mathlib.Omega.{arith}
 use lib.Dec.{T}
 use lib.ListN.{length, take}
 use Rattle.rulebook.specs.declared.Accepted.{Accepted}
+use Rattle.rulebook.specs.declared.Refusal.{Refusal}
 use Rattle.rulebook.specs.declared.Refusal.TheVariants as refusal
 use Rattle.rulebook.specs.Certificates.{Certificate}
 use Rattle.rulebook.specs.PaperNumbers.{refusal_number, step_panel, kind_in, number_in}
@@ -49,7 +50,6 @@ use Rattle.seen.specs.Written.{NamedAs, CertificateAccepted, ProofAccepted, Writ
 use Rattle.seen.proofs.Numbers.{eight_refused, named, zero_written}
 use Rattle.seen.proofs.Alive.{alive_common}
 use Rattle.seen.proofs.Ring.{cast_told, genuine, book_ring}
-use Rattle.rulebook.specs.declared.Refusal.{Refusal}
 
 -- The first bytes of the buffer, as many as were written.
 front : {w : writer.Wrote} {buffer after : List ℕ} {a : Result ℕ Refusal} (n : ℕ) → Writes w buffer a after → n ≡ length w.bytes → take n after ≡ w.bytes

@@ -11,6 +11,7 @@ use lib.ListN.{length, take}
 use Rattle.rulebook.specs.declared.Accepted.{Accepted}
 use Rattle.rulebook.specs.declared.CertificateKind.{CertificateKind}
 use Rattle.rulebook.specs.declared.CertificateKind.TheVariants as certificate
+use Rattle.rulebook.specs.declared.Refusal.{Refusal}
 use Rattle.rulebook.specs.declared.Refusal.TheVariants as refusal
 use Rattle.rulebook.specs.Certificates.{Certificate, Kept}
 use Rattle.rulebook.specs.Certificates as found
@@ -65,7 +66,6 @@ use Rattle.seen.proofs.Written.{certificate_accepted, written_genuine}
 use Rattle.seen.proofs.Progress.{gives}
 use Rattle.spreading.specs.Spreading.{LooksOn, a_node, a_watcher, Given, FinalGiven, fast, slow, FinalIsGiven, GivenIsHeld, FinalitySpreads}
 use Rattle.spreading.proofs.Kept.{IsKept, kept_stays, kept_as_lem, kept_certifiable, taken_kept}
-use Rattle.rulebook.specs.declared.Refusal.{Refusal}
 
 -- A packet that is one certificate, which the table's check accepts, is taken as that certificate.
 single_taken : (l : Ledger) (packet : List ℕ) (c : Certificate) → certificate_at packet 0 ≡ found.Whole c (length packet) → judge (table_of l) c ≡ Ok tt → take_packet l packet ≡ taken l c

@@ -11,6 +11,7 @@ use lib.Seq.{get_or-set_other}
 use borrow.Author.Tests.{eq-eqb, eqb-false, leb-true, leb-false, le-leb}
 use Rattle.rulebook.specs.declared.Input.{Input}
 use Rattle.rulebook.specs.declared.Input.TheVariants as input
+use Rattle.rulebook.specs.declared.Refusal.{Refusal}
 use Rattle.rulebook.specs.declared.Refusal.TheVariants as refusal
 use Rattle.rulebook.specs.declared.VoteKind.{VoteKind}
 use Rattle.rulebook.specs.Certificates.{Certificate, Found, Whole}
@@ -50,7 +51,6 @@ use Rattle.told.specs.Told.{count_of, tells}
 use Rattle.told.specs.Apart.{is_for, names, some_names, casts, Apart, OtherSlotsStay, AsFound, QuietLook}
 use Rattle.told.proofs.Counting.{count_reverse, count_append}
 use Rattle.told.proofs.Once.{vote_low}
-use Rattle.rulebook.specs.declared.Refusal.{Refusal}
 
 -- ---- rows one after the other
 

@@ -12,17 +12,18 @@ use borrow.Author.Tests.{eq-eqb, leb-true, leb-false}
 use Rattle.rulebook.specs.declared.Cell.{Cell}
 use Rattle.rulebook.specs.declared.Input.{Input}
 use Rattle.rulebook.specs.declared.Input.TheVariants as input
+use Rattle.rulebook.specs.declared.Refusal.{Refusal}
 use Rattle.rulebook.specs.declared.Refusal.TheVariants as refusal
 use Rattle.rulebook.specs.declared.Vote.{Vote}
 use Rattle.rulebook.specs.declared.VoteKind.{VoteKind}
 use Rattle.rulebook.specs.declared.Who.{Who}
 use Rattle.rulebook.specs.declared.Who.TheVariants as who
+use Rattle.rulebook.specs.declared.Place.TheVariants.{Free}
 use Rattle.rulebook.specs.Tools.{choose}
 use Rattle.rulebook.specs.PaperNumbers.{vote_number, vote_kind, step_panel, refusal_number}
 use Rattle.rulebook.specs.Messages.{vote_of}
 use Rattle.rulebook.specs.Ledger.{Ledger, Row, no_cell, row_at, cell_at, fresh}
 use Rattle.rulebook.specs.Pool.{has_fallback, counts}
-use Rattle.rulebook.specs.declared.Place.TheVariants.{Free}
 use Rattle.rulebook.specs.Votes.{place_of, with_vote, store_vote}
 use Rattle.rulebook.specs.Rules.{State, state_of, cast}
 use Rattle.rulebook.specs.Inputs.{Fed, misfits, verdict, intake, fed_with, refused_with, fed_on, feed}
@@ -60,7 +61,6 @@ use Rattle.calls.proofs.OneCall.{call_did, step_served}
 use Rattle.calls.proofs.Life.{many, calls_earlier}
 use Rattle.told.specs.Held.{belongs, VoteIsCounted}
 use Rattle.told.proofs.Once.{as_ballot}
-use Rattle.rulebook.specs.declared.Refusal.{Refusal}
 
 -- ---- a vote in a cell is in the weights that it belongs to
 

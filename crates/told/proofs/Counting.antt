@@ -12,6 +12,7 @@ use Rattle.rulebook.specs.declared.VoteKind.{VoteKind}
 use Rattle.rulebook.specs.declared.Place.TheVariants.{Free}
 use Rattle.rulebook.specs.declared.Input.{Input}
 use Rattle.rulebook.specs.declared.Input.TheVariants as input
+use Rattle.rulebook.specs.declared.Refusal.{Refusal}
 use Rattle.rulebook.specs.Tools.{part}
 use Rattle.rulebook.specs.Weights.{last_slot}
 use Rattle.rulebook.specs.PaperNumbers.{vote_number}
@@ -37,7 +38,6 @@ use Rattle.settling.proofs.Verdicts.{vote_fine, block_fine, timeout_fine}
 use Rattle.settling.proofs.Life.{taken_fine}
 use Rattle.safety.specs.Ring.{after_all}
 use Rattle.told.specs.Told.{count_of}
-use Rattle.rulebook.specs.declared.Refusal.{Refusal}
 
 -- ---- counted in any order
 

@@ -11,14 +11,15 @@ use lib.Dec.{eqb, leb, ltb}
 use borrow.Author.Tests.{eqb-true, eq-eqb, leb-true, leb-false, le-ltb, not-false}
 use Rattle.rulebook.specs.declared.Accepted.{Accepted}
 use Rattle.rulebook.specs.declared.CertificateKind.{CertificateKind}
+use Rattle.rulebook.specs.declared.Refusal.{Refusal}
 use Rattle.rulebook.specs.declared.Refusal.TheVariants as refusal
+use Rattle.rulebook.specs.declared.CertificateKind.TheVariants as certificate
 use Rattle.rulebook.specs.Tools.{choose}
 use Rattle.rulebook.specs.Weights.{last_slot, slot_ok, weight, total_to, reaches}
 use Rattle.rulebook.specs.PaperNumbers.{kind_in, step_panel, refusal_number}
 use Rattle.rulebook.specs.Certificates.{Certificate, Kept, Found}
 use Rattle.rulebook.specs.Packets.{bit}
 use Rattle.rulebook.specs.Ledger.{Ledger, Row, no_kept, table_of, row_at, certificates_at, kept_at, is_kept, put_row, fresh}
-use Rattle.rulebook.specs.declared.CertificateKind.TheVariants as certificate
 use Rattle.rulebook.specs.Pool.{reached, fifths_of, place_kind, same_kind, serves_as, some_kept, is_for, kept_as, held}
 use Rattle.rulebook.specs.Votes.{store_vote}
 use Rattle.rulebook.specs.Rules.{State, state_of, cast}
@@ -61,7 +62,6 @@ use Rattle.calls.specs.Life.{next, none, then}
 use Rattle.calls.proofs.OneCall.{call_did}
 use Rattle.calls.proofs.Life.{many, calls_earlier}
 use Rattle.told.specs.Held.{TakenIsHeld}
-use Rattle.rulebook.specs.declared.Refusal.{Refusal}
 
 -- ---- kept
 

@@ -14,6 +14,7 @@ use borrow.Author.Tests.{eqb-true, eq-eqb, leb-true, le-leb, le-ltb, not-false}
 use Rattle.rulebook.specs.declared.Accepted.{Accepted}
 use Rattle.rulebook.specs.declared.CertificateKind.{CertificateKind}
 use Rattle.rulebook.specs.declared.CertificateKind.TheVariants as certificate
+use Rattle.rulebook.specs.declared.Refusal.{Refusal}
 use Rattle.rulebook.specs.declared.Refusal.TheVariants as refusal
 use Rattle.rulebook.specs.Weights.{slot_ok, stakes_fit}
 use Rattle.rulebook.specs.Certificates.{Certificate}
@@ -51,7 +52,6 @@ use Rattle.calls.specs.Life.{next, Calls, none, then, not_started, not_watched}
 use Rattle.calls.proofs.Life.{many}
 use Rattle.told.specs.Parts.{Parts, whole, halves, Splits, SplitIsParts, HalvesMakeFinal, WholeMakesFinal, SecondIsTaken}
 use Rattle.told.proofs.Held.{right, single_taken, number_taken, taken_is_held}
-use Rattle.rulebook.specs.declared.Refusal.{Refusal}
 
 -- ---- the parts of a packet
 
@@ -96,7 +96,7 @@ as_accepted stakes packet c k s b e p q r = record { what = accepted_of stakes c
 final_none : (stakes : List ℕ) (d : Certificate) → judge stakes d ≡ Ok tt → kind_in (length stakes) d.kind ≡ certificate.Final → d.block ≡ 0
 unfolding judge judge_kind block_misfits
 final_none stakes d e p =
-    let j : judge_kind stakes certificate.Final d ≡ (Ok tt) = subst (λ (k : CertificateKind). judge_kind stakes k d ≡ Ok tt) p e in
+    let j : judge_kind stakes certificate.Final d ≡ Ok tt = subst (λ (k : CertificateKind). judge_kind stakes k d ≡ Ok tt) p e in
     let slot = refuse_fine (is_other_kind certificate.Final) refusal.BadKind _ j in
     let block = refuse_fine (not (slot_ok d.slot)) refusal.BadSlot _ slot.1 in
     let none_is = refuse_fine (not (ledger.none d.block)) refusal.BadBlock _ block.1 in
