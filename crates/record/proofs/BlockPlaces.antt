@@ -2,20 +2,23 @@
 use mathlib.Core.Path.{◌≡◌, refl, sym, ap, ◌∙◌}
 use mathlib.Core.Bool.{Bool, true, false, not, ◌&&◌, ◌||◌}
 use mathlib.Core.List.{List, [], ◌∷◌}
-use mathlib.Core.Logic.{⊎_elim}
-use Prim.Native.Nat.{ℕ, zero, suc, ◌+◌, ◌<◌, ◌≤◌}
-use native.Mathlib.Nat.{eq-or-lt_of_le}
+use Prim.Native.Nat.{ℕ, zero, suc, ◌+◌, ◌<◌}
 use native.Mathlib.Omega.{arith}
 use lib.ListN.{length, get_or, set}
 use lib.Seq.{set-get_or, set_out}
+use Rattle.std.proofs.Common.{Option, Some, None, ltb-true, ltb-false, cond, map}
+use Rattle.std.specs.Option.{unwrap_or, option_map}
+use Rattle.std.specs.List.{position, position_or_len, find, range_with_len}
+use Rattle.std.proofs.lemmas.Option.{none-some, cond_some}
+use Rattle.std.proofs.lemmas.List.FromFn.{fill_by_all}
 use Rattle.rulebook.specs.declared.Block.{Block}
 use Rattle.rulebook.specs.Tools.{choose, all_to, some_to}
 use Rattle.rulebook.specs.Ledger.{Ledger, Row, no_block, no_row, blocks_at, some_block, all_blocks, is_free, has_number, fill_block, put_blocks}
 use Rattle.rulebook.specs.Rules.{find_block}
 use Rattle.rulebook.specs.Inputs.{keep_block}
 use Rattle.rulebook.specs.WellFormed.{in_order, blocks_apart}
-use Rattle.rule_laws.proofs.ToolLaws.{choose_on, choose_off, all_same}
-use Rattle.record.specs.BlockPlaces.{free_place, behind}
+use Rattle.rule_laws.proofs.ToolLaws.{all_same}
+use Rattle.record.specs.BlockPlaces.{behind}
 
 -- ---- a test of every place, of some place
 
@@ -87,66 +90,61 @@ apart_places (k ∷ ks) =
 pub both_places : (p : Block → Bool) (ks : List Block) → (all_blocks p ks && blocks_apart ks) ≡ all_to (length ks) (λ i. p (get_or ks i no_block) && behind ks i (get_or ks i no_block).number)
 both_places p ks = (λ i. all_places p ks i && apart_places ks i) ∙ all_and (length ks) (λ i. p (get_or ks i no_block)) (is_behind ks)
 
--- ---- the first free place
+-- ---- the places looked through from the front
 
-pub free_at : (ks : List Block) (i : ℕ) → i < length ks → ((j : ℕ) → j < i → is_free (get_or ks j no_block) ≡ false) → is_free (get_or ks i no_block) ≡ true → free_place ks ≡ i
-unfolding free_place
-free_at [] i l f e = absurd (omega arith)
-free_at (k ∷ ks) zero l f e = choose_on (is_free k) 0 (suc (free_place ks)) e
-free_at (k ∷ ks) (suc i) l f e =
-    choose_off (is_free k) 0 (suc (free_place ks)) (f 0 (omega arith)) ∙ ap suc (free_at ks i (omega arith) (λ j h. f (suc j) (omega arith)) e)
-
--- A loop that looks for a place of which a test holds: it holds of none behind it.
-pub none_more : (p : Block → Bool) (ks : List Block) (n : ℕ) → ((j : ℕ) → j < n → p (get_or ks j no_block) ≡ false) → p (get_or ks n no_block) ≡ false
-    → (j : ℕ) → j < n + 1 → p (get_or ks j no_block) ≡ false
-none_more p ks n f e j h =
-    ⊎_elim (λ (q : j ≡ n). ap (λ (i : ℕ). p (get_or ks i no_block)) q ∙ e) (λ q. f j q) (eq-or-lt_of_le {n = j} {m = n} (omega arith))
-
-pub free_none : (ks : List Block) → ((j : ℕ) → j < length ks → is_free (get_or ks j no_block) ≡ false) → free_place ks ≡ length ks
-unfolding free_place
-free_none [] f = refl
-free_none (k ∷ ks) f =
-    choose_off (is_free k) 0 (suc (free_place ks)) (f 0 (omega arith)) ∙ ap suc (free_none ks (λ j h. f (suc j) (omega arith)))
-
--- ---- the block of a number
+-- A slot's places in turn are its list of blocks.
+pub places_listed : (ks : List Block) (n : ℕ) → length ks ≡ n → map (λ i. get_or ks i no_block) (range_with_len 0 n) ≡ ks
+places_listed ks n e = sym (fill_by_all (λ i. get_or ks i no_block) ks n no_block e (λ k h. refl))
 
 -- The place keeps the block that is looked for.
 abbrev pub is_number : ℕ → Block → Bool
 is_number b k = not (is_free k) && has_number b k
 
-pub find_at : (b : ℕ) (ks : List Block) (i : ℕ) → i < length ks → ((j : ℕ) → j < i → is_number b (get_or ks j no_block) ≡ false) → is_number b (get_or ks i no_block) ≡ true
-    → find_block b ks ≡ get_or ks i no_block
-unfolding find_block
-find_at b [] i l f e = absurd (omega arith)
-find_at b (k ∷ ks) zero l f e = choose_on (is_number b k) k (find_block b ks) e
-find_at b (k ∷ ks) (suc i) l f e =
-    choose_off (is_number b k) k (find_block b ks) (f 0 (omega arith)) ∙ find_at b ks i (omega arith) (λ j h. f (suc j) (omega arith)) e
+by_number : (b : ℕ) (ks : List Block) → unwrap_or (find (is_number b) ks) no_block ≡ find_block b ks
+unfolding find_block choose
+by_number b [] = refl
+by_number b (k ∷ ks) = go (is_number b k) (by_number b ks)
+  where
+    go : (z : Bool) → unwrap_or (find (is_number b) ks) no_block ≡ find_block b ks
+        → unwrap_or (cond z (Some k) (find (is_number b) ks)) no_block ≡ choose z k (find_block b ks)
+    go true e = refl
+    go false e = e
 
-pub find_none : (b : ℕ) (ks : List Block) → ((j : ℕ) → j < length ks → is_number b (get_or ks j no_block) ≡ false) → find_block b ks ≡ no_block
-unfolding find_block
-find_none b [] f = refl
-find_none b (k ∷ ks) f =
-    choose_off (is_number b k) k (find_block b ks) (f 0 (omega arith)) ∙ find_none b ks (λ j h. f (suc j) (omega arith))
+-- What a search for it finds; blank where no place keeps it.
+pub found_block : (b : ℕ) (ks : List Block) (r : Option Block) → option_map (λ x. x) r ≡ find (is_number b) ks → unwrap_or r no_block ≡ find_block b ks
+found_block b ks None e = ap (λ (o : Option Block). unwrap_or o no_block) e ∙ by_number b ks
+found_block b ks (Some k) e = ap (λ (o : Option Block). unwrap_or o no_block) e ∙ by_number b ks
 
 -- ---- a block kept
 
 -- A block in the first free place is one store; none where every place keeps a block.
-pub fill_place : (b : Block) (ks : List Block) → fill_block b ks ≡ set ks (free_place ks) b
-unfolding fill_block free_place choose
+fill_place : (b : Block) (ks : List Block) → fill_block b ks ≡ set ks (position_or_len is_free ks) b
+unfolding fill_block choose
 fill_place b [] = refl
 fill_place b (k ∷ ks) = go (is_free k) (fill_place b ks)
   where
-    go : (z : Bool) → fill_block b ks ≡ set ks (free_place ks) b → choose z (b ∷ ks) (k ∷ fill_block b ks) ≡ set (k ∷ ks) (choose z 0 (suc (free_place ks))) b
+    go : (z : Bool) → fill_block b ks ≡ set ks (position_or_len is_free ks) b → choose z (b ∷ ks) (k ∷ fill_block b ks) ≡ set (k ∷ ks) (cond (not z) (1 + position_or_len is_free ks) 0) b
     go true e = refl
-    go false e = ap (λ (js : List Block). k ∷ js) e
+    go false e = ap (λ (js : List Block). k ∷ js) e ∙ (let z : suc (position_or_len is_free ks) ≡ 1 + position_or_len is_free ks = omega arith in ap (λ (i : ℕ). set (k ∷ ks) i b) z)
 
-module _ (l : Ledger) (s n : ℕ) (b : Block) (e : n ≡ free_place (blocks_at l s)) where
-  pub kept_at : put_blocks l s (set (blocks_at l s) n b) ≡ keep_block l s b
+cond_none : {A : Type 0} (z : Bool) (x : A) → cond z (Some x) None ≡ None → z ≡ false
+cond_none true x e = absurd (none-some x (sym e))
+cond_none false x e = refl
+
+module _ (l : Ledger) (s : ℕ) (b : Block) where
+  at_place : (n : ℕ) → position_or_len is_free (blocks_at l s) ≡ n → put_blocks l s (set (blocks_at l s) n b) ≡ keep_block l s b
   unfolding keep_block
-  kept_at = ap (λ (ks : List Block). put_blocks l s ks) (ap (λ (i : ℕ). set (blocks_at l s) i b) e ∙ sym (fill_place b (blocks_at l s)))
+  at_place n e = ap (λ (ks : List Block). put_blocks l s ks) (ap (λ (i : ℕ). set (blocks_at l s) i b) (sym e) ∙ sym (fill_place b (blocks_at l s)))
 
-  pub kept_nowhere : length (blocks_at l s) ≤ n → l ≡ keep_block l s b
-  kept_nowhere h =
+  pub kept_at : (n : ℕ) → Some n ≡ position is_free (blocks_at l s) → put_blocks l s (set (blocks_at l s) n b) ≡ keep_block l s b
+  kept_at n e = at_place n (cond_some _ _ _ (sym e)).1
+
+  -- The first free place is one of the places.
+  pub kept_within : (n : ℕ) → Some n ≡ position is_free (blocks_at l s) → n < length (blocks_at l s)
+  kept_within n e = let h = cond_some _ _ _ (sym e) in omega (arith, ltb-true _ _ h.0, h.1)
+
+  pub kept_nowhere : None ≡ position is_free (blocks_at l s) → l ≡ keep_block l s b
+  kept_nowhere e =
       ap (λ (rs : List Row). record {
         count = l.count;
         total = l.total;
@@ -156,5 +154,5 @@ module _ (l : Ledger) (s n : ℕ) (b : Block) (e : n ≡ free_place (blocks_at l
         stakes = l.stakes;
         rows = rs;
       }) (sym (set-get_or l.rows s no_row))
-      ∙ ap (λ (ks : List Block). put_blocks l s ks) (sym (set_out (blocks_at l s) n b h))
-      ∙ kept_at
+      ∙ ap (λ (ks : List Block). put_blocks l s ks) (sym (set_out (blocks_at l s) _ b (ltb-false _ _ (cond_none _ _ (sym e)))))
+      ∙ at_place _ refl

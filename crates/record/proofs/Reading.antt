@@ -84,18 +84,18 @@ block_read ws s n i h e = ap (block_from ws) e ∙ sym (block_words (places_in w
 pub kept_read : (ws : List ℕ) (s n i : ℕ) → InKept ws s n → i ≡ kept_start (places_in ws) s n → kept_from (mask_words (places_in ws)) ws i ≡ get_or (certificates_at (ledger_of ws) s) n no_kept
 kept_read ws s n i h e = ap (kept_from (mask_words (places_in ws)) ws) e ∙ sym (kept_words_lem (places_in ws) ws s n h.slot h.place)
 
-module _ (ws : List ℕ) (s i : ℕ) (h : InSlot ws s) (e : i ≡ row_start (places_in ws) s) where
+module _ (ws : List ℕ) (s : ℕ) (h : InSlot ws s) where
   here : row_of (places_in ws) ws s ≡ row_at (ledger_of ws) s
   here = sym (row_words_lem (places_in ws) ws s h.slot)
 
-  pub timed_out_read : word_at ws (i + timeout_at) ≡ (row_at (ledger_of ws) s).timed_out
-  timed_out_read = ap (λ (k : ℕ). word_at ws (k + timeout_at)) e ∙ ap (λ (r : Row). r.timed_out) here
+  pub timed_out_read : word_at ws (row_start (places_in ws) s + timeout_at) ≡ (row_at (ledger_of ws) s).timed_out
+  timed_out_read = ap (λ (r : Row). r.timed_out) here
 
-  pub final_read : word_at ws (i + final_at) ≡ (row_at (ledger_of ws) s).final
-  final_read = ap (λ (k : ℕ). word_at ws (k + final_at)) e ∙ ap (λ (r : Row). r.final) here
+  pub final_read : word_at ws (row_start (places_in ws) s + final_at) ≡ (row_at (ledger_of ws) s).final
+  final_read = ap (λ (r : Row). r.final) here
 
-  pub clash_read : word_at ws (i + clash_at) ≡ (row_at (ledger_of ws) s).clash
-  clash_read = ap (λ (k : ℕ). word_at ws (k + clash_at)) e ∙ ap (λ (r : Row). r.clash) here
+  pub clash_read : word_at ws (row_start (places_in ws) s + clash_at) ≡ (row_at (ledger_of ws) s).clash
+  clash_read = ap (λ (r : Row). r.clash) here
 
 pub card_read : (ws : List ℕ) (s i : ℕ) → InSlot ws s → i ≡ card_start (places_in ws) s → card_from ws i ≡ (row_at (ledger_of ws) s).card
 card_read ws s i h e = ap (card_from ws) e ∙ ap (λ (r : Row). r.card) (sym (row_words_lem (places_in ws) ws s h.slot))

@@ -315,24 +315,21 @@ card_put ws s i t h e =
     ∙ ap (λ (k : ℕ). ledger_at (places_in ws) (sets ws k (spell_card t))) e
     ∙ card_in (places_in ws) ws s h.long h.slot t
 
-module _ (ws : List ℕ) (s i : ℕ) (h : InSlot ws s) (e : i ≡ row_start (places_in ws) s) where
-  pub timed_out_put : ledger_of (set ws (i + timeout_at) 1) ≡ put_timed_out (ledger_of ws) s
-  timed_out_put =
-      same_shape ws (set ws (i + timeout_at) 1) (length-set ws (i + timeout_at) 1)
-      ∙ ap (λ (k : ℕ). ledger_at (places_in ws) (set ws (k + timeout_at) 1)) e
-      ∙ timed_out_in_lem (places_in ws) ws s h.long h.slot
+module _ (ws : List ℕ) (s : ℕ) (h : InSlot ws s) where
+  abbrev put_at : ℕ → ℕ → List ℕ
+  put_at k v = set ws (row_start (places_in ws) s + k) v
 
-  pub final_put : (b : ℕ) → ledger_of (set ws (i + final_at) b) ≡ put_final (ledger_of ws) s b
-  final_put b =
-      same_shape ws (set ws (i + final_at) b) (length-set ws (i + final_at) b)
-      ∙ ap (λ (k : ℕ). ledger_at (places_in ws) (set ws (k + final_at) b)) e
-      ∙ final_in (places_in ws) ws s h.long h.slot b
+  shape : (k v : ℕ) → ledger_of (put_at k v) ≡ ledger_at (places_in ws) (put_at k v)
+  shape k v = same_shape ws (put_at k v) (length-set ws (row_start (places_in ws) s + k) v)
 
-  pub clash_put : ledger_of (set ws (i + clash_at) 1) ≡ put_clash (ledger_of ws) s
-  clash_put =
-      same_shape ws (set ws (i + clash_at) 1) (length-set ws (i + clash_at) 1)
-      ∙ ap (λ (k : ℕ). ledger_at (places_in ws) (set ws (k + clash_at) 1)) e
-      ∙ clash_in (places_in ws) ws s h.long h.slot
+  pub timed_out_put : ledger_of (put_at timeout_at 1) ≡ put_timed_out (ledger_of ws) s
+  timed_out_put = shape timeout_at 1 ∙ timed_out_in_lem (places_in ws) ws s h.long h.slot
+
+  pub final_put : (b : ℕ) → ledger_of (put_at final_at b) ≡ put_final (ledger_of ws) s b
+  final_put b = shape final_at b ∙ final_in (places_in ws) ws s h.long h.slot b
+
+  pub clash_put : ledger_of (put_at clash_at 1) ≡ put_clash (ledger_of ws) s
+  clash_put = shape clash_at 1 ∙ clash_in (places_in ws) ws s h.long h.slot
 
 -- ---- the armed windows
 

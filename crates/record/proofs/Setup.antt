@@ -4,9 +4,8 @@ use mathlib.Core.List.{List, [], ◌∷◌}
 use mathlib.Core.Logic.{⊎_elim, inl, inr}
 use Prim.Native.Nat.{ℕ, zero, suc, ◌+◌, ◌<◌, ◌≤◌}
 use native.Mathlib.Omega.{arith}
-use native.Mathlib.Nat.{eq-or-lt_of_le}
-use lib.ListN.{length, set, take, drop, replicate, length-replicate, length-set}
-use lib.Seq.{get_or-set_same, get_or-set_other, get_or-take, ext_get_or, length-take-le, sets, length-sets}
+use lib.ListN.{length, set, take, drop, replicate, length-set}
+use lib.Seq.{get_or-set_same, get_or-set_other, get_or-take, length-take-le, sets, length-sets}
 use Rattle.rulebook.specs.Weights.{last_slot, windows}
 use Rattle.rulebook.specs.Ledger.{card_of, no_cell, no_block, no_kept, most_blocks, most_certificates, blank_row, places}
 use Rattle.record.specs.Layout.{word_at, armed_start, stake_start, row_start, timeout_at, final_at, clash_at, card_start, block_start, kept_start, cell_start, mask_words, record_words, places_in, tabulate, block_of, kept_of, cell_of, row_of, ledger_at, ledger_of, Long, InTable}
@@ -83,15 +82,6 @@ module _ (p m : ℕ) where
         stakes = tabulate_all p (λ n. word_at (replicate m 0) (stake_start + n)) 0 (λ n. zeros m (stake_start + n)) i;
         rows = tabulate_all (suc last_slot) (row_of p (replicate m 0)) (blank_row p) row_zeros i;
       }
-
--- A loop that stores 0 at each place in turn: what is behind it is all 0.
-pub zeros_more : (ws : List ℕ) (n : ℕ) → n < length ws → ((i : ℕ) → i < n → word_at ws i ≡ 0) → (i : ℕ) → i < n + 1 → word_at (set ws n 0) i ≡ 0
-zeros_more ws n h e i l =
-    ⊎_elim (λ (q : i ≡ n). ap (word_at (set ws n 0)) q ∙ get_or-set_same ws n 0 0 h) (λ q. get_or-set_other ws n i 0 0 (λ r. omega arith) ∙ e i q)
-    (eq-or-lt_of_le {n = i} {m = n} (omega arith))
-
-pub zeros_all : (ws : List ℕ) (n : ℕ) → length ws ≡ n → ((i : ℕ) → i < n → word_at ws i ≡ 0) → ws ≡ replicate n 0
-zeros_all ws n h e = ext_get_or 0 ws (replicate n 0) (h ∙ sym (length-replicate n 0)) (λ i l. e i (omega arith) ∙ sym (zeros n i))
 
 -- ---- the head
 

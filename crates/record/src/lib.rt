@@ -2,15 +2,14 @@
 // record through these functions, and kept certificates through those of kept_certificates.
 #![tactic(auto)]
 
-ghost use Rattle.std.specs.Prelude.{◌≡◌, not, ◌<◌, length, get_or, set, take, replicate};
+ghost use Rattle.std.specs.Prelude.{◌≡◌, not, ◌+◌, ◌<◌, length, get_or, set, take, replicate, position};
 ghost use Rattle.rulebook.specs.Weights.{places_for, windows, stake_in};
-ghost use Rattle.rulebook.specs.Ledger.{none, no_block, places, row_at, cell_at, is_watcher, own_cell, blocks_at, is_armed, put_cell, put_card, put_blocks, put_timed_out, put_final, put_clash, put_armed};
+ghost use Rattle.rulebook.specs.Ledger.{none, no_block, places, row_at, cell_at, is_watcher, own_cell, blocks_at, is_armed, is_free, put_cell, put_card, put_blocks, put_timed_out, put_final, put_clash, put_armed};
 ghost use Rattle.rulebook.specs.Rules.{find_block};
 ghost use Rattle.rulebook.specs.Inputs.{keep_block};
-ghost use Rattle.record.specs.Layout.{mask_words, masks_of, row_head, record_words, Long, InSlot, InWindow, InTable, InBlocks, InKept, Placed, RowAt, BlockAt, CardAt, KeptAt, CellAt, Counted, ledger_of};
+ghost use Rattle.record.specs.Layout.{word_at, kept_at, places_in, row_start, mask_words, masks_of, row_head, record_words, Long, InSlot, InWindow, InTable, InBlocks, InKept, Placed, RowAt, BlockAt, CardAt, KeptAt, CellAt, Counted, ledger_of};
 ghost use Rattle.record.specs.Spelling.{is_spelled};
 ghost use Rattle.record.specs.Setting.{put_head, put_stake};
-ghost use Rattle.record.specs.BlockPlaces.{free_place};
 
 use rulebook::{Block, Cell, MOST_NODES, Node, Slot, Tally, Weight};
 
@@ -72,6 +71,13 @@ const NO_CELL: Cell = Cell {
     fallback3: 0,
     skipfallback: 0,
     finalvote: 0,
+};
+
+// A place that keeps no block.
+const NO_BLOCK: Block = Block {
+    number: 0,
+    parentslot: Slot(0),
+    parent: 0,
 };
 
 // How many places for nodes a record has, by the number of stakes.
@@ -232,24 +238,19 @@ fn store_block(rec: &mut [u64], s: Slot, n: usize, b: Block)
     ensures { ledger_of rec.new ≡ put_blocks (ledger_of rec.old) s.0 (set (blocks_at (ledger_of rec.old) s.0) n b) }
 {
     let i = block_start(rec, s, n);
-    let p = b.parentslot;
     rec[i] = b.number;
-    rec[i + 1] = p.0 as u64;
+    rec[i + 1] = b.parentslot.0 as u64;
     rec[i + 2] = b.parent;
 }
 
-// The first of a slot's places that keeps no block, the number of places where there is none.
-fn free_place(rec: &[u64], s: Slot) -> usize
+// The first of a slot's places that keeps no block.
+fn free_place(rec: &[u64], s: Slot) -> Option<usize>
     requires { InSlot rec.now s.0 }
-    ensures { result ≡ free_place (blocks_at (ledger_of rec.now) s.0) }
+    ensures { result ≡ position is_free (blocks_at (ledger_of rec.now) s.0) }
 {
-    for n in 0..MOST_BLOCKS {
-        let b = load_block(rec, s, n);
-        if b.number == 0 {
-            return n;
-        }
-    }
-    MOST_BLOCKS
+    (0..MOST_BLOCKS)
+        .map(|n| load_block(rec, s, n))
+        .position(|k| k.number == 0)
 }
 
 // Keeps a block in the first free place of a slot; where there is none, nothing is kept.
@@ -257,8 +258,7 @@ pub fn keep_block(rec: &mut [u64], s: Slot, b: Block)
     requires { InSlot rec.old s.0 }
     ensures { ledger_of rec.new ≡ keep_block (ledger_of rec.old) s.0 b }
 {
-    let n = free_place(rec, s);
-    if n < MOST_BLOCKS {
+    if let Some(n) = free_place(rec, s) {
         store_block(rec, s, n, b);
     }
 }
@@ -268,17 +268,30 @@ pub fn find_block(rec: &[u64], s: Slot, b: u64) -> Block
     requires { InSlot rec.now s.0 }
     ensures { result ≡ find_block b (blocks_at (ledger_of rec.now) s.0) }
 {
-    for n in 0..MOST_BLOCKS {
-        let k = load_block(rec, s, n);
-        if (k.number != 0) & (k.number == b) {
-            return k;
-        }
-    }
-    Block {
-        number: 0,
-        parentslot: Slot(0),
-        parent: 0,
-    }
+    (0..MOST_BLOCKS)
+        .map(|n| load_block(rec, s, n))
+        .find(|k| (k.number != 0) & (k.number == b))
+        .unwrap_or(NO_BLOCK)
+}
+
+// The word at a place of a slot's row, before its places for certificates.
+fn row_word(rec: &[u64], s: Slot, at: usize) -> u64
+    requires slot { InSlot rec.now s.0 }
+    requires place { at < kept_at }
+    ensures { result ≡ word_at rec.now (row_start (places_in rec.now) s.0 + at) }
+{
+    let i = row_start(rec, s);
+    rec[i + at]
+}
+
+// Puts a word there.
+fn set_row_word(rec: &mut [u64], s: Slot, at: usize, word: u64)
+    requires slot { InSlot rec.old s.0 }
+    requires place { at < kept_at }
+    ensures { rec.new ≡ set rec.old (row_start (places_in rec.old) s.0 + at) word }
+{
+    let i = row_start(rec, s);
+    rec[i + at] = word;
 }
 
 // The word that marks a slot's timeout, whatever stands in it.
@@ -286,8 +299,7 @@ pub fn timeout_word(rec: &[u64], s: Slot) -> u64
     requires { InSlot rec.now s.0 }
     ensures { result ≡ (row_at (ledger_of rec.now) s.0).timed_out }
 {
-    let i = row_start(rec, s);
-    rec[i + TIMEOUT_AT]
+    row_word(rec, s, TIMEOUT_AT)
 }
 
 // Whether a slot's timeout was taken.
@@ -303,8 +315,7 @@ pub fn mark_timed_out(rec: &mut [u64], s: Slot)
     requires { InSlot rec.old s.0 }
     ensures { ledger_of rec.new ≡ put_timed_out (ledger_of rec.old) s.0 }
 {
-    let i = row_start(rec, s);
-    rec[i + TIMEOUT_AT] = 1;
+    set_row_word(rec, s, TIMEOUT_AT, 1);
 }
 
 // The block reported final in a slot, 0 where there is none.
@@ -312,8 +323,7 @@ pub fn final_block(rec: &[u64], s: Slot) -> u64
     requires { InSlot rec.now s.0 }
     ensures { result ≡ (row_at (ledger_of rec.now) s.0).final }
 {
-    let i = row_start(rec, s);
-    rec[i + FINAL_AT]
+    row_word(rec, s, FINAL_AT)
 }
 
 // Marks a block as reported final in a slot.
@@ -321,8 +331,7 @@ pub fn set_final(rec: &mut [u64], s: Slot, b: u64)
     requires { InSlot rec.old s.0 }
     ensures { ledger_of rec.new ≡ put_final (ledger_of rec.old) s.0 b }
 {
-    let i = row_start(rec, s);
-    rec[i + FINAL_AT] = b;
+    set_row_word(rec, s, FINAL_AT, b);
 }
 
 // The word that marks a slot in which another final block was reported, whatever stands in it.
@@ -330,8 +339,7 @@ pub fn clash_word(rec: &[u64], s: Slot) -> u64
     requires { InSlot rec.now s.0 }
     ensures { result ≡ (row_at (ledger_of rec.now) s.0).clash }
 {
-    let i = row_start(rec, s);
-    rec[i + CLASH_AT]
+    row_word(rec, s, CLASH_AT)
 }
 
 // Marks that another final block was reported in a slot.
@@ -339,8 +347,7 @@ pub fn mark_clash(rec: &mut [u64], s: Slot)
     requires { InSlot rec.old s.0 }
     ensures { ledger_of rec.new ≡ put_clash (ledger_of rec.old) s.0 }
 {
-    let i = row_start(rec, s);
-    rec[i + CLASH_AT] = 1;
+    set_row_word(rec, s, CLASH_AT, 1);
 }
 
 // The first word of a slot's tally card.
@@ -372,15 +379,11 @@ pub fn store_card(rec: &mut [u64], s: Slot, t: Tally)
     ensures { ledger_of rec.new ≡ put_card (ledger_of rec.old) s.0 t }
 {
     let i = card_start(rec, s);
-    let skip = t.skip;
-    let finals = t.finals;
-    let skipcert = t.skipcert;
-    let weight = t.weight;
-    rec[i] = skip.0;
-    rec[i + 1] = finals.0;
-    rec[i + 2] = skipcert.0;
+    rec[i] = t.skip.0;
+    rec[i + 1] = t.finals.0;
+    rec[i + 2] = t.skipcert.0;
     rec[i + 3] = t.leader;
-    rec[i + 4] = weight.0;
+    rec[i + 4] = t.weight.0;
 }
 
 // The first word of one of a slot's places for certificates: the block, then the words of its masks.
@@ -472,8 +475,7 @@ pub fn is_watcher(rec: &[u64]) -> bool
     requires { Long rec.now }
     ensures { result ≡ is_watcher (ledger_of rec.now) }
 {
-    let n = own(rec);
-    n.0 == count(rec)
+    own(rec).0 == count(rec)
 }
 
 // The own votes in a slot: none where the own number has no place, as a watcher's has not.
@@ -492,9 +494,7 @@ pub fn own_cell(rec: &[u64], s: Slot) -> Cell
 pub fn clear(rec: &mut [u64])
     ensures { rec.new ≡ replicate (length rec.old) 0 }
 {
-    for i in 0..rec.len() {
-        rec[i] = 0;
-    }
+    rec.fill(0);
 }
 
 // Puts in the number of nodes, the total stake, the own number and genesis's number.

@@ -1,6 +1,6 @@
--- The word behind the timeout's mark is the final block.
+use mathlib.Core.Path.{◌∙◌}
 use Rattle.record.proofs.Reading.{final_read}
 use Rattle.record.proofs.final_block.Goals as goal
 
 pub returns : goal.returns
-returns c = final_read c.args.rec.now c.args.s.0 _ c.requires c.row_start-i.ensures.is
+returns c = c.row_word.ensures ∙ final_read c.args.rec.now c.args.s.0 c.requires

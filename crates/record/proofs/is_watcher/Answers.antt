@@ -5,4 +5,4 @@ use Rattle.record.proofs.is_watcher.Goals as goal
 
 pub returns : goal.returns
 unfolding is_watcher
-returns c = λ i. eqb (c.own-n.ensures i) (c.count.ensures i)
+returns c = λ i. eqb (c.own.ensures i) (c.count.ensures i)
