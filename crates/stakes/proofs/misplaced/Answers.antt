@@ -6,6 +6,10 @@ use Rattle.rule_laws.proofs.ToolLaws.{some_none, some_more}
 use Rattle.rule_laws.proofs.WordLaws.{Words, beyond_words, both_more}
 use Rattle.stakes.specs.Masks.{misplaced_in}
 use Rattle.stakes.proofs.misplaced.Invariants.{past_to, both_to}
+use Rattle.std.proofs.lemmas.Slice.Zip.{zip_turn, zip_end}
+use Rattle.std.proofs.lemmas.List.{length_push}
+use Rattle.std.specs.Iterator.Adapters.{zip_first, zip_second}
+use Rattle.std.specs.Slice.Iter.{iter_rest}
 use Rattle.stakes.proofs.misplaced.Goals as goal
 
 -- Three tests of words before, and of one more.
@@ -32,34 +36,45 @@ more a b count left i bad x y z h g l e ex ey ez =
     ap (λ (t : Bool). t || ((x || y) || z)) e ∙ shuffle (past_to a count i) (past_to b count i) (both_to a b i) x y z
     ∙ sym (ap₂ (λ (s t : Bool). s || t) (ap₂ (λ (s t : Bool). s || t) p q) r)
 
-pub loop-i-init : goal.loop-i-init
-loop-i-init c =
-    (refl, omega arith, c.requires.same, omega arith, sym (ap₂ (λ (s t : Bool). s || t) (ap₂ (λ (s t : Bool). s || t) (some_none _) (some_none _)) (some_none _)))
+pub loop-x-init : goal.loop-x-init
+loop-x-init c =
+    (omega arith, sym (ap₂ (λ (s t : Bool). s || t) (ap₂ (λ (s t : Bool). s || t) (some_none _) (some_none _)) (some_none _)))
 
-pub loop-i-preserved : goal.loop-i-preserved
-loop-i-preserved c =
-    let l = c.loop-i in
-    let s = c.args in (
-      refl,
-      omega arith,
-      l.invariant.2,
-      omega (arith, c.after_word-left.ensures, l.invariant.3),
-      more s.a.now s.b.now s.count l.left l.i l.bad _ _ _ (λ n. (c.shared_slice_known-in-loop-i-1.given n).fits) (λ n. (c.shared_slice_known-in-loop-i-2-1.given n).fits)
-          l.invariant.3 l.invariant.4 c.word_beyond-past_a.ensures c.word_beyond-past_b.ensures c.word_overlap-both.ensures,
+pub loop-x-preserved : goal.loop-x-preserved
+loop-x-preserved c =
+    let l = c.loop-x in
+    let s = c.args in
+    let a = s.a.now in
+    let b = s.b.now in
+    let first : iter_rest (zip_first c.into_iter-x-iterator.result) ≡ a = cc in
+    let second : iter_rest (zip_second c.into_iter-x-iterator.result) ≡ b = cc in
+    let t =
+    zip_turn a b l.yielded c.into_iter-x-iterator.result l.x-iterator c.next.new.self _ first second l.yielded_by _ c.in-Some.is c.next.ensures.steps in
+    let n : ℕ = length l.yielded in
+    rw (length_push l.yielded (c.in-Some.field-0-0, c.in-Some.field-0-1)) (
+      omega (arith, c.saturating_sub-left.ensures, l.invariant.0),
+      more a b s.count l.left n l.bad _ _ _ (λ n. (c.type_inv.a n).fits) (λ n. (c.type_inv.b n).fits) l.invariant.0 l.invariant.1
+          (c.word_beyond-past_a.ensures ∙ ap (λ (x : ℕ). leb (2 ^ l.left) x) (t.2 0))
+          (c.word_beyond-past_b.ensures ∙ ap (λ (x : ℕ). leb (2 ^ l.left) x) (t.3 0))
+          (c.word_overlap-both.ensures ∙ ap₂ (λ (x y : ℕ). some_to 64 (λ j. bit x j && bit y j)) (t.2 0) (t.3 0)),
     )
 
 pub returns : goal.returns
 unfolding misplaced_in
 returns c =
-    let l = c.loop-i in
+    let l = c.loop-x in
     let s = c.args in
     let a = s.a.now in
     let b = s.b.now in
-    let e : l.i ≡ length a = omega arith in
-    let d : l.i ≡ length b = omega (arith, l.invariant.2) in
-    l.invariant.4
+    let first : iter_rest (zip_first c.into_iter-x-iterator.result) ≡ a = cc in
+    let second : iter_rest (zip_second c.into_iter-x-iterator.result) ≡ b = cc in
+    let n =
+    zip_end a b l.yielded c.into_iter-x-iterator.result l.x-iterator c.next.new.self _ first second l.yielded_by c.in-None.is c.next.ensures.steps in
+    let e : length l.yielded ≡ length a = omega (arith, n, c.requires.same) in
+    let d : length l.yielded ≡ length b = omega (arith, n, c.requires.same) in
+    l.invariant.1
     ∙ ap₂ (λ (p q : Bool). p || q)
     (ap₂ (λ (p q : Bool). p || q)
-    (ap (past_to a s.count) e ∙ sym (beyond_words a s.count (λ n. (c.shared_slice_known-1.given n).fits)))
-    (ap (past_to b s.count) d ∙ sym (beyond_words b s.count (λ n. (c.shared_slice_known-2-1.given n).fits))))
+    (ap (past_to a s.count) e ∙ sym (beyond_words a s.count (λ n. (c.type_inv.a n).fits)))
+    (ap (past_to b s.count) d ∙ sym (beyond_words b s.count (λ n. (c.type_inv.b n).fits))))
     (ap (both_to a b) e)

@@ -1,5 +1,4 @@
 -- `weigh_word` answers `weighed` of its 64 places: it steps from set bit to set bit. Assumes nothing.
-use Rattle.std.proofs.Common.{◌-◌}
 use Rattle.stakes.proofs.Stepping.{Stepped}
 use Rattle.stakes.proofs.weigh_word.Given as goal
 

@@ -1,5 +1,4 @@
 -- `word_overlap` finds by and whether some of the 64 nodes is in both words. Assumes nothing.
-use Rattle.std.proofs.Common.{◌-◌}
 use Rattle.rule_laws.proofs.MaskLaws.{overlap_is}
 use Rattle.stakes.proofs.word_overlap.Goals as goal
 
