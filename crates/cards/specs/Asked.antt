@@ -1,6 +1,7 @@
--- The question for a slot's tally card: what is answered, and its number and values on the panel.
-use Rattle.std.specs.Prelude.{List, [], ◌∷◌, ℕ, Result, Ok, Err}
+-- A slot asked of a record, and the question for its tally card: what is answered, and its number and values on the panel.
+use Rattle.std.specs.Prelude.{List, [], ◌∷◌, ℕ, ⊤, Result, Ok, Err}
 use Rattle.rulebook.specs.declared.Tally.{Tally}
+use Rattle.rulebook.specs.declared.Refusal.{Refusal}
 use Rattle.rulebook.specs.declared.Refusal.TheVariants as refusal
 use Rattle.rulebook.specs.Tools.{whenever}
 use Rattle.rulebook.specs.Weights.{slot_ok}
@@ -8,7 +9,11 @@ use Rattle.rulebook.specs.Ledger.{row_at}
 use Rattle.rulebook.specs.PaperNumbers.{Panel, refusal_number, panel_of}
 use Rattle.record.specs.Layout.{ledger_of}
 use Rattle.soundness.specs.Sound.{sound_words}
-use Rattle.rulebook.specs.declared.Refusal.{Refusal}
+
+-- 17, then 3.
+unfoldable pub asked_on : List ℕ → ℕ → Result ⊤ Refusal
+asked_on ws s =
+    whenever (sound_words ws) (λ _. whenever (slot_ok s) (λ _. Ok tt) (Err refusal.BadSlot)) (Err refusal.BadRecord)
 
 -- 17, then 3, then the card that the slot's row keeps.
 unfoldable pub card_on : List ℕ → ℕ → Result Tally Refusal

@@ -1,47 +1,41 @@
 -- The ways through a host's questions: 17, 3, for a node's votes 2, and what is asked. Assumes nothing.
-use Rattle.std.specs.Prelude.{Ok, Err}
+use Rattle.std.specs.Prelude.{Result, Ok, Err}
 use mathlib.Core.Path.{◌≡◌, sym, ap, ◌∙◌}
 use mathlib.Core.Bool.{Bool, true, false, not}
 use mathlib.Core.List.{List}
-use Prim.Native.Nat.{ℕ, ◌≤◌, ◌<◌}
+use Prim.Native.Nat.{ℕ}
 use native.Mathlib.Omega.{arith}
-use lib.Dec.{leb}
-use borrow.Author.Tests.{leb-true, leb-false, eq-eqb, ne_eqb}
-use lib.ListN.{get_or}
-use Rattle.rulebook.specs.declared.Block.{Block}
-use Rattle.rulebook.specs.declared.Node.{Node}
+use borrow.Author.Tests.{leb-false, eq-eqb, ne_eqb}
 use Rattle.rulebook.specs.declared.Refusal.{Refusal}
 use Rattle.rulebook.specs.declared.Refusal.TheVariants as refusal
 use Rattle.rulebook.specs.declared.Weight.{Weight}
 use Rattle.rulebook.specs.declared.Who.TheVariants as who
-use Rattle.rulebook.specs.Weights.{last_slot, slot_ok}
-use Rattle.rulebook.specs.Ledger.{none, no_block, row_at, cell_at, blocks_at}
+use Rattle.rulebook.specs.Weights.{slot_ok}
+use Rattle.rulebook.specs.Ledger.{none, cell_at}
 use Rattle.rulebook.specs.Pool.{weigh}
 use Rattle.rulebook.specs.Inputs.{not_in_table}
-use Rattle.rule_laws.proofs.ToolLaws.{given_on, given_off, and_both}
-use Rattle.record.specs.Layout.{ledger_of, InSlot, InWindow, InBlocks, Placed}
+use Rattle.rule_laws.proofs.ToolLaws.{given_on, given_off}
+use Rattle.record.specs.Layout.{ledger_of, InSlot, InWindow, Placed}
 use Rattle.pool.specs.Weighing.{Carded}
 use Rattle.pool.proofs.HeldLaws.{weigh_light}
 use Rattle.soundness.specs.Sound.{sound_words}
 use Rattle.soundness.proofs.Laws.{sound_long, sound_placed, sound_cards, sound_tabled}
-use Rattle.readers.specs.declared.KeptBlocks.{KeptBlocks}
-use Rattle.readers.specs.declared.SlotMarks.{SlotMarks}
-use Rattle.readers.specs.declared.RecordHead.{RecordHead}
-use Rattle.readers.specs.Asked.{on_slot, votes_on, blocks_kept, marks_kept, head_kept, head_on}
+use Rattle.cards.specs.Asked.{asked_on}
+use Rattle.cards.proofs.Ways.{slot_range, asked_refused}
+use Rattle.readers.specs.Asked.{on_slot, votes_on, head_kept, head_on}
 use Rattle.readers.specs.Weighed.{missing_d, Light, weights_kept, weights_on}
-
--- One of the slots 1 to 16.
-slot_range : (s : ℕ) → slot_ok s ≡ true → (1 ≤ s) × (s ≤ last_slot)
-unfolding slot_ok
-slot_range s e =
-    let h = and_both (leb 1 s) (leb s last_slot) e in
-    (leb-true 1 s h.0, leb-true s last_slot h.1)
 
 -- The test of a node against the count that was read is that against the ledger's.
 pub in_table_lem : (count m n : ℕ) (t : Bool) → m ≡ count → t ≡ not_in_table m n → not_in_table count n ≡ t
 in_table_lem count m n t a b = sym (b ∙ ap (λ (x : ℕ). not_in_table x n) a)
 
 -- ---- a question about a slot
+
+-- The refusal of a slot that may not be asked is that of the question.
+module _ {A : Type 0} (ws : List ℕ) (s : ℕ) (asked : Unit {0} → Result A Refusal) where
+  pub slot_refused : (r : Refusal) → asked_on ws s ≡ Err r → on_slot Err ws s asked ≡ Err r
+  unfolding on_slot
+  slot_refused r e = asked_refused ws s r asked e
 
 module _ {A : Type 0} (refused : Refusal → A) (ws : List ℕ) (s : ℕ) (asked : Unit {0} → A) where
   pub slot_unsound : sound_words ws ≡ false → on_slot refused ws s asked ≡ refused refusal.BadRecord
@@ -89,38 +83,9 @@ module _ (ws : List ℕ) (s : ℕ) (e : sound_words ws ≡ true) (q : slot_ok s 
           node = omega (arith, leb-false (ledger_of ws).count n t, sound_placed ws e);
         }
 
--- ---- a slot's four places for blocks, its marks, the record's head
-
-module _ (ws : List ℕ) (s : ℕ) where
-  pub in_first : InSlot ws s → InBlocks ws s 0
-  in_first h = record { long = h.long; slot = h.slot; place = omega arith }
-
-  pub in_second : InSlot ws s → InBlocks ws s 1
-  in_second h = record { long = h.long; slot = h.slot; place = omega arith }
-
-  pub in_third : InSlot ws s → InBlocks ws s 2
-  in_third h = record { long = h.long; slot = h.slot; place = omega arith }
-
-  pub in_fourth : InSlot ws s → InBlocks ws s 3
-  in_fourth h = record { long = h.long; slot = h.slot; place = omega arith }
-
-  -- What was read place by place.
-  pub blocks_four : (k l m n : Block) → k ≡ get_or (blocks_at (ledger_of ws) s) 0 no_block → l ≡ get_or (blocks_at (ledger_of ws) s) 1 no_block
-      → m ≡ get_or (blocks_at (ledger_of ws) s) 2 no_block → n ≡ get_or (blocks_at (ledger_of ws) s) 3 no_block
-      → record { first = k; second = l; third = m; fourth = n } ≡ blocks_kept ws s
-  unfolding blocks_kept
-  blocks_four k l m n a b c d = λ j. record { first = a j; second = b j; third = c j; fourth = d j }
-
-  pub marks_two : (t c : ℕ) → t ≡ (row_at (ledger_of ws) s).timed_out → c ≡ (row_at (ledger_of ws) s).clash → record { timedout = t; clash = c } ≡ marks_kept ws s
-  unfolding marks_kept
-  marks_two t c a b = λ j. record { timedout = a j; clash = b j }
+-- ---- the record's head
 
 module _ (ws : List ℕ) where
-  pub head_four : (o : Node) (n : ℕ) (t : Weight) (g : ℕ) → o.0 ≡ (ledger_of ws).own → n ≡ (ledger_of ws).count → t.0 ≡ (ledger_of ws).total → g ≡ (ledger_of ws).genesis
-      → record { own = o; nodes = n; stake = t; genesis = g } ≡ head_kept ws
-  unfolding head_kept
-  head_four o n t g a b c d = λ j. record { own = record { 0 = a j }; nodes = b j; stake = record { 0 = c j }; genesis = d j }
-
   pub head_unsound : sound_words ws ≡ false → head_on ws ≡ Err refusal.BadRecord
   unfolding head_on
   head_unsound e = given_off (sound_words ws) (Err refusal.BadRecord) _ e

@@ -2,13 +2,14 @@
 // marks, and what its votes weigh for a block; and whose record it is.
 #![tactic(auto)]
 
-ghost use Rattle.std.specs.Prelude.{◌≡◌, min, max};
+ghost use Rattle.std.specs.Prelude.{◌≡◌};
 ghost use Rattle.readers.specs.Asked.{final_on, armed_on, votes_on, blocks_kept, blocks_on, marks_kept, marks_on, head_kept, head_on};
 ghost use Rattle.readers.specs.Weighed.{missing_d, Light, weights_kept, weights_on};
 ghost use Rattle.record.specs.Layout.{Long, InSlot};
 ghost use Rattle.pool.specs.Weighing.{Carded};
 
-use kinds::{not_in_table, slot_ok};
+use cards::asked;
+use kinds::not_in_table;
 use pool::weight_of;
 use record::{
     clash_word, count, final_block, genesis, is_armed, load_block, load_cell, own, timeout_word,
@@ -19,7 +20,7 @@ use soundness::sound;
 use thresholds::Threshold;
 
 // What stands in a slot's four places for blocks, in the order in which they were announced.
-#[derive(Clone, Copy)]
+#[derive(Clone, Copy, Debug, PartialEq, Eq)]
 pub struct KeptBlocks {
     pub first: Block,
     pub second: Block,
@@ -28,14 +29,14 @@ pub struct KeptBlocks {
 }
 
 // A slot's two marks: its timeout was taken, another final block was reported; 1 or 0 each.
-#[derive(Clone, Copy)]
+#[derive(Clone, Copy, Debug, PartialEq, Eq)]
 pub struct SlotMarks {
     pub timedout: u64,
     pub clash: u64,
 }
 
 // Whose record it is, and of which ring: the own number, how many nodes, all their stake, the number of genesis.
-#[derive(Clone, Copy)]
+#[derive(Clone, Copy, Debug, PartialEq, Eq)]
 pub struct RecordHead {
     pub own: Node,
     pub nodes: usize,
@@ -45,7 +46,7 @@ pub struct RecordHead {
 
 // What a slot's stored votes weigh for a block: its notar votes, those who count in its notar-fallback certificate, the slot's skip votes;
 // and what is missing to rule D's weights.
-#[derive(Clone, Copy)]
+#[derive(Clone, Copy, Debug, PartialEq, Eq)]
 pub struct BlockWeights {
     pub notar: Weight,
     pub fallback: Weight,
@@ -57,12 +58,7 @@ pub struct BlockWeights {
 pub fn read_final(rec: &[u64], s: Slot) -> Result<u64, Refusal>
     ensures { result ≡ final_on rec.now s.0 }
 {
-    if !sound(rec) {
-        return Err(Refusal::BadRecord);
-    }
-    if !slot_ok(s) {
-        return Err(Refusal::BadSlot);
-    }
+    asked(rec, s)?;
     Ok(final_block(rec, s))
 }
 
@@ -70,12 +66,7 @@ pub fn read_final(rec: &[u64], s: Slot) -> Result<u64, Refusal>
 pub fn read_armed(rec: &[u64], s: Slot) -> Result<bool, Refusal>
     ensures { result ≡ armed_on rec.now s.0 }
 {
-    if !sound(rec) {
-        return Err(Refusal::BadRecord);
-    }
-    if !slot_ok(s) {
-        return Err(Refusal::BadSlot);
-    }
+    asked(rec, s)?;
     Ok(is_armed(rec, s))
 }
 
@@ -83,12 +74,7 @@ pub fn read_armed(rec: &[u64], s: Slot) -> Result<bool, Refusal>
 pub fn read_votes(rec: &[u64], s: Slot, n: Node) -> Result<Cell, Refusal>
     ensures { result ≡ votes_on rec.now s.0 n.0 }
 {
-    if !sound(rec) {
-        return Err(Refusal::BadRecord);
-    }
-    if !slot_ok(s) {
-        return Err(Refusal::BadSlot);
-    }
+    asked(rec, s)?;
     if not_in_table(count(rec), n) {
         return Err(Refusal::BadNode);
     }
@@ -99,29 +85,21 @@ pub fn read_votes(rec: &[u64], s: Slot, n: Node) -> Result<Cell, Refusal>
 pub fn read_blocks(rec: &[u64], s: Slot) -> Result<KeptBlocks, Refusal>
     ensures { result ≡ blocks_on rec.now s.0 }
 {
-    if !sound(rec) {
-        return Err(Refusal::BadRecord);
-    }
-    if !slot_ok(s) {
-        return Err(Refusal::BadSlot);
-    }
+    asked(rec, s)?;
     Ok(load_blocks(rec, s))
 }
 
 // The blocks in a slot's four places.
+#[tactic(auto, unfolding(crate::specs::Asked::blocks_kept))]
 fn load_blocks(rec: &[u64], s: Slot) -> KeptBlocks
     requires { InSlot rec.now s.0 }
     ensures { result ≡ blocks_kept rec.now s.0 }
 {
-    let first = load_block(rec, s, 0);
-    let second = load_block(rec, s, 1);
-    let third = load_block(rec, s, 2);
-    let fourth = load_block(rec, s, 3);
     KeptBlocks {
-        first: first,
-        second: second,
-        third: third,
-        fourth: fourth,
+        first: load_block(rec, s, 0),
+        second: load_block(rec, s, 1),
+        third: load_block(rec, s, 2),
+        fourth: load_block(rec, s, 3),
     }
 }
 
@@ -129,25 +107,19 @@ fn load_blocks(rec: &[u64], s: Slot) -> KeptBlocks
 pub fn read_marks(rec: &[u64], s: Slot) -> Result<SlotMarks, Refusal>
     ensures { result ≡ marks_on rec.now s.0 }
 {
-    if !sound(rec) {
-        return Err(Refusal::BadRecord);
-    }
-    if !slot_ok(s) {
-        return Err(Refusal::BadSlot);
-    }
+    asked(rec, s)?;
     Ok(load_marks(rec, s))
 }
 
 // A slot's two marks.
+#[tactic(auto, unfolding(crate::specs::Asked::marks_kept))]
 fn load_marks(rec: &[u64], s: Slot) -> SlotMarks
     requires { InSlot rec.now s.0 }
     ensures { result ≡ marks_kept rec.now s.0 }
 {
-    let timedout = timeout_word(rec, s);
-    let clash = clash_word(rec, s);
     SlotMarks {
-        timedout: timedout,
-        clash: clash,
+        timedout: timeout_word(rec, s),
+        clash: clash_word(rec, s),
     }
 }
 
@@ -162,19 +134,16 @@ pub fn read_head(rec: &[u64]) -> Result<RecordHead, Refusal>
 }
 
 // The four numbers of a record's head.
+#[tactic(auto, unfolding(crate::specs::Asked::head_kept))]
 fn load_head(rec: &[u64]) -> RecordHead
     requires { Long rec.now }
     ensures { result ≡ head_kept rec.now }
 {
-    let o = own(rec);
-    let n = count(rec);
-    let t = total(rec);
-    let g = genesis(rec);
     RecordHead {
-        own: o,
-        nodes: n,
-        stake: t,
-        genesis: g,
+        own: own(rec),
+        nodes: count(rec),
+        stake: total(rec),
+        genesis: genesis(rec),
     }
 }
 
@@ -182,12 +151,7 @@ fn load_head(rec: &[u64]) -> RecordHead
 pub fn read_weights(rec: &[u64], s: Slot, b: u64) -> Result<BlockWeights, Refusal>
     ensures { result ≡ weights_on rec.now s.0 b }
 {
-    if !sound(rec) {
-        return Err(Refusal::BadRecord);
-    }
-    if !slot_ok(s) {
-        return Err(Refusal::BadSlot);
-    }
+    asked(rec, s)?;
     if b == 0 {
         return Err(Refusal::BadBlock);
     }
@@ -202,16 +166,16 @@ fn load_weights(rec: &[u64], s: Slot, b: u64) -> BlockWeights
     let notar = weight_of(rec, s, Who::Notar(b));
     let fallback = weight_of(rec, s, Who::NotarOrFallback(b));
     let skip = weight_of(rec, s, Who::Skip);
-    let missing = missing_to_d(notar, skip, total(rec));
     BlockWeights {
-        notar: notar,
-        fallback: fallback,
-        skip: skip,
-        missing: missing,
+        notar,
+        fallback,
+        skip,
+        missing: missing_to_d(notar, skip, total(rec)),
     }
 }
 
 // The least further stake with which a block would have rule D's weights: to 40, or to 20 and with skip to 60, whichever is less.
+#[tactic(auto, unfolding(crate::specs::Weighed::missing_d))]
 fn missing_to_d(notar: Weight, skip: Weight, total: Weight) -> Weight
     requires { Light total.0 notar.0 skip.0 }
     ensures { result.0 ≡ missing_d total.0 notar.0 skip.0 }
@@ -219,25 +183,5 @@ fn missing_to_d(notar: Weight, skip: Weight, total: Weight) -> Weight
     let to_forty = Threshold::FORTY.missing(notar, total);
     let to_twenty = Threshold::TWENTY.missing(notar, total);
     let to_sixty = Threshold::SIXTY.missing(Weight(skip.0 + notar.0), total);
-    lighter(to_forty, heavier(to_twenty, to_sixty))
-}
-
-// The heavier of two weights.
-fn heavier(a: Weight, b: Weight) -> Weight
-    ensures { result.0 ≡ max a.0 b.0 }
-{
-    if a.0 <= b.0 {
-        return b;
-    }
-    a
-}
-
-// The lighter of two weights.
-fn lighter(a: Weight, b: Weight) -> Weight
-    ensures { result.0 ≡ min a.0 b.0 }
-{
-    if a.0 <= b.0 {
-        return a;
-    }
-    b
+    to_forty.min(to_twenty.max(to_sixty))
 }

@@ -1,21 +1,23 @@
 -- Each way through the question.
-use Rattle.std.specs.Prelude.{Ok}
+use Rattle.std.specs.Prelude.{◌≡◌, Ok, Err}
+use Rattle.std.proofs.Common.{rules}
 use mathlib.Core.Path.{sym, ap, ◌∙◌}
-use Rattle.cards.proofs.Ways.{unsound_card, slotless_card, card_there, card_placed}
+use Rattle.cards.specs.Asked.{card_on}
+use Rattle.cards.proofs.Ways.{asked_fine, asked_refused, card_there, card_placed}
 use Rattle.cards.proofs.read_card.Goals as goal
 
-pub returns-then-not-sound : goal.returns-then-not-sound
-returns-then-not-sound c = sym (unsound_card _ _ (sym c.sound.ensures ∙ c.if-not-sound.true))
-
-pub returns-then-not-slot_ok : goal.returns-then-not-slot_ok
-returns-then-not-slot_ok c =
-    sym (slotless_card _ _ (sym c.sound.ensures ∙ c.if-not-sound.false) (sym c.slot_ok.ensures ∙ c.if-not-slot_ok.true))
+pub returns-in_err-asked : goal.returns-in_err-asked
+unfolding card_on
+returns-in_err-asked c =
+    let e : c.from_residual.result ≡ Err c.in_err-asked.field-0.0 = search rules in
+    e ∙ sym (asked_refused _ _ _ _ (sym c.asked.ensures ∙ c.in_err-asked.was))
 
 pub load_card-requires : goal.load_card-requires
 load_card-requires c =
-    card_placed _ _ (sym c.sound.ensures ∙ c.if-not-sound.false) (sym c.slot_ok.ensures ∙ c.if-not-slot_ok.false)
+    let k = asked_fine _ _ (sym c.asked.ensures ∙ c.in_ok-asked.was) in
+    card_placed _ _ k.0 k.1
 
 pub returns : goal.returns
 returns c =
-    ap Ok c.load_card.ensures
-    ∙ sym (card_there _ _ (sym c.sound.ensures ∙ c.if-not-sound.false) (sym c.slot_ok.ensures ∙ c.if-not-slot_ok.false))
+    let k = asked_fine _ _ (sym c.asked.ensures ∙ c.in_ok-asked.was) in
+    ap Ok c.load_card.ensures ∙ sym (card_there _ _ k.0 k.1)
