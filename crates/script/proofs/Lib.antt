@@ -1,4 +1,3 @@
 -- Laws that the proofs of the readers cite.
-pub mod Stretches
 pub mod Digits
 pub mod Reading

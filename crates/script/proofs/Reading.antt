@@ -1,19 +1,18 @@
 -- One turn of the loop over the numbers of a line. Assumes nothing.
-use Rattle.std.specs.Prelude.{Option, Some, None}
+use Rattle.std.specs.Prelude.{Option, Some, None, Result}
 use mathlib.Core.Path.{◌≡◌, refl, sym, ap, ◌∙◌}
-use mathlib.Core.Bool.{Bool, true, false}
 use mathlib.Core.List.{List}
-use Prim.Native.Nat.{ℕ, zero, suc, ◌+◌, ◌-◌, ◌<◌, ◌≤◌, min}
+use Prim.Native.Nat.{ℕ, zero, suc, ◌+◌, ◌-◌, ◌<◌, ◌≤◌}
 use native.Mathlib.Omega.{arith}
 use lib.ListN.{length, set, take, drop}
 use lib.Dec.{ltb}
 use borrow.Author.Tests.{lt-ltb, le-ltb}
-use Rattle.rulebook.specs.Tools.{whenever}
 use Rattle.rule_laws.proofs.ToolLaws.{given_on, given_off}
+use Rattle.script.specs.declared.NoNumber.{NoNumber}
 use Rattle.script.specs.declared.Word.{Word}
-use Rattle.script.specs.Words.{is_space, is_ink, leading, WordIn}
+use Rattle.script.specs.Words.{WordIn}
 use Rattle.script.specs.Digits.{decimal_of}
-use Rattle.script.specs.Numbers.{word_from, word_to, Read, read, onward, numbers_from, numbers_of, NumbersIn}
+use Rattle.script.specs.Numbers.{word_from, word_to, Read, read, stopped, onward, numbers_from, numbers_of, NumbersIn}
 
 -- The next word stands where it is said to.
 pub word_from_lem : (line : List ℕ) (at : ℕ) (w : Word) → WordIn line at w → w.from ≡ word_from line at
@@ -26,21 +25,21 @@ word_to_lem line at w h = rw (← word_from_lem line at w h) h.to.exact
 
 module _ (line : List ℕ) (n at count : ℕ) (out : List ℕ) where
   -- The line is at its end.
-  pub numbers_end : length line ≤ at → numbers_from n line at count out ≡ read true count out
+  pub numbers_end : length line ≤ at → numbers_from n line at count out ≡ read count out
   unfolding numbers_from
   numbers_end h = go n
     where
-      go : (m : ℕ) → numbers_from m line at count out ≡ read true count out
+      go : (m : ℕ) → numbers_from m line at count out ≡ read count out
       go zero = refl
-      go (suc m) = given_off (ltb at (length line)) (read true count out) _ (le-ltb at (length line) h)
+      go (suc m) = given_off (ltb at (length line)) (read count out) _ (le-ltb at (length line) h)
 
   module _ (w : Word) (h : WordIn line at w) (l : at < length line) where
     abbrev stops : Read
-    stops = read true count out
+    stops = read count out
 
     abbrev goes : Read
     goes =
-        onward (decimal_of (take (w.to - w.from) (drop w.from line))) (read false count out) (λ v. numbers_from n line w.to (count + 1) (set out count v))
+        onward (decimal_of (take (w.to - w.from) (drop w.from line))) (stopped count out) (λ v. numbers_from n line w.to (count + 1) (set out count v))
 
     -- Only spaces are left.
     pub numbers_none : w.to ≤ w.from → numbers_from (suc n) line at count out ≡ stops
@@ -57,14 +56,14 @@ module _ (line : List ℕ) (n at count : ℕ) (out : List ℕ) where
         ∙ given_on (ltb (word_from line at) (word_to line at)) stops _ (lt-ltb (word_from line at) (word_to line at) (rw (word_from_lem line at w h, word_to_lem line at w h) at k))
         ∙ (rw (word_from_lem line at w h, word_to_lem line at w h))
 
-    pub numbers_bad : w.from < w.to → None ≡ decimal_of (take (w.to - w.from) (drop w.from line)) → numbers_from (suc n) line at count out ≡ read false count out
+    pub numbers_bad : w.from < w.to → None ≡ decimal_of (take (w.to - w.from) (drop w.from line)) → numbers_from (suc n) line at count out ≡ stopped count out
     unfolding onward
-    numbers_bad k e = numbers_word k ∙ ap (λ (d : Option ℕ). onward d (read false count out) (λ v. numbers_from n line w.to (count + 1) (set out count v))) (sym e)
+    numbers_bad k e = numbers_word k ∙ ap (λ (d : Option ℕ). onward d (stopped count out) (λ v. numbers_from n line w.to (count + 1) (set out count v))) (sym e)
 
     pub numbers_more : (v : ℕ) → w.from < w.to → Some v ≡ decimal_of (take (w.to - w.from) (drop w.from line))
         → numbers_from (suc n) line at count out ≡ numbers_from n line w.to (count + 1) (set out count v)
     unfolding onward
-    numbers_more v k e = numbers_word k ∙ ap (λ (d : Option ℕ). onward d (read false count out) (λ v. numbers_from n line w.to (count + 1) (set out count v))) (sym e)
+    numbers_more v k e = numbers_word k ∙ ap (λ (d : Option ℕ). onward d (stopped count out) (λ v. numbers_from n line w.to (count + 1) (set out count v))) (sym e)
 
 -- ---- the loop: after `count` numbers so many words may follow
 
@@ -78,11 +77,11 @@ module _ (line : List ℕ) (at count : ℕ) (out : List ℕ) (w : Word) (h : Wor
   one_less : length line - count ≡ ahead line (count + 1)
   one_less = omega arith
 
-  pub turn_none : w.to ≤ w.from → numbers_from (ahead line count) line at count out ≡ read true count out
+  pub turn_none : w.to ≤ w.from → numbers_from (ahead line count) line at count out ≡ read count out
   turn_none k = ap (λ (f : ℕ). numbers_from f line at count out) one_more ∙ numbers_none line (length line - count) at count out w h l k
 
   pub turn_bad : w.from < w.to → None ≡ decimal_of (take (w.to - w.from) (drop w.from line))
-      → numbers_from (ahead line count) line at count out ≡ read false count out
+      → numbers_from (ahead line count) line at count out ≡ stopped count out
   turn_bad k e = ap (λ (f : ℕ). numbers_from f line at count out) one_more ∙ numbers_bad line (length line - count) at count out w h l k e
 
   pub turn_more : (v : ℕ) (left : List ℕ) → w.from < w.to → Some v ≡ decimal_of (take (w.to - w.from) (drop w.from line)) → left ≡ set out count v
@@ -94,9 +93,9 @@ module _ (line : List ℕ) (at count : ℕ) (out : List ℕ) (w : Word) (h : Wor
       ∙ ap (λ (x : List ℕ). numbers_from (ahead line (count + 1)) line w.to (count + 1) x) (sym q)
 
 -- What is read, once it is known how the reading ends.
-pub read_in : (line : List ℕ) (at : ℕ) (out : List ℕ) (g : Bool) (n : ℕ) (left : List ℕ) → numbers_of line at out ≡ read g n left → length left ≡ length out
-    → NumbersIn line at out (record { good = g; count = n }) left
-read_in line at out g n left e h = record { answer = ap (λ (r : Read). r.answer) (sym e); buffer = ap (λ (r : Read). r.out) (sym e); long = h }
+pub read_in : (line : List ℕ) (at : ℕ) (out : List ℕ) (a : Result ℕ NoNumber) (left : List ℕ) → numbers_of line at out ≡ record { answer = a; out = left } → length left ≡ length out
+    → NumbersIn line at out a left
+read_in line at out a left e h = record { answer = ap (λ (r : Read). r.answer) (sym e); buffer = ap (λ (r : Read). r.out) (sym e); long = h }
 
 pub read_start : (line : List ℕ) (at : ℕ) (out : List ℕ) → numbers_of line at out ≡ numbers_from (ahead line 0) line at 0 out
 unfolding numbers_of

@@ -1,6 +1,6 @@
 -- Where words stand in a line: stretches of spaces and of anything else.
-use Rattle.std.specs.Prelude.{◌≡◌, Bool, not, List, [], ◌∷◌, ℕ, suc, ◌+◌, ◌≤◌, min, eqb, length, drop}
-use Rattle.rulebook.specs.Tools.{whenever}
+use Rattle.std.specs.Prelude.{◌≡◌, Bool, not, List, ℕ, ◌+◌, ◌≤◌, min, eqb, length, drop}
+use Rattle.std.specs.List.{prefix_len}
 use Rattle.script.specs.declared.Word.{Word}
 
 abbrev pub is_space : ℕ → Bool
@@ -9,14 +9,9 @@ is_space b = eqb b 32
 abbrev pub is_ink : ℕ → Bool
 is_ink b = not (eqb b 32)
 
--- How many bytes at the front pass a test.
-unfoldable pub leading : (ℕ → Bool) → List ℕ → ℕ
-leading p [] = 0
-leading p (b ∷ bs) = whenever (p b) (λ _. leading p bs + 1) 0
-
 -- The place r after the stretch of bytes that pass a test from a place on, and that it lies within the line.
 pub record Spanned (p : ℕ → Bool) (line : List ℕ) (at r : ℕ) : Type 0 where
-  pub exact : r ≡ at + leading p (drop at line)
+  pub exact : r ≡ at + prefix_len p (drop at line)
   pub low : at ≤ r
   pub high : r ≤ length line
 

@@ -1,47 +1,38 @@
--- The loop over digits: what is read so far and the digits ahead make the whole number.
-use Rattle.script.proofs.Digits.{digit_says, fits_says, decimal_none, decimal_start, decimal_end, decimal_other, decimal_large, decimal_more}
-use mathlib.Core.Path.{◌∙◌, sym}
-use Prim.Native.Nat.{◌-◌}
+-- An empty word is no number; else what is read so far and the digits ahead make the whole.
+use mathlib.Core.Path.{sym, ◌∙◌}
 use native.Mathlib.Omega.{arith}
+use borrow.Author.Tests.{eqb-true, eqb-false}
+use Rattle.script.proofs.Digits.{decimal_none, decimal_start, decimal_end, decimal_other, decimal_large, decimal_more}
 use Rattle.script.proofs.read_decimal.Goals as goal
 
-pub returns-then-word-eq0 : goal.returns-then-word-eq0
-returns-then-word-eq0 c = decimal_none _ c.if-word-eq0.true
+pub returns-then-is_empty : goal.returns-then-is_empty
+returns-then-is_empty c = decimal_none _ (eqb-true _ 0 (sym c.is_empty.ensures ∙ c.if-is_empty.true))
 
-pub loop-i-init : goal.loop-i-init
-loop-i-init c = decimal_start _ c.if-word-eq0.false
+pub loop-b-init : goal.loop-b-init
+loop-b-init c = decimal_start _ (eqb-false _ 0 (sym c.is_empty.ensures ∙ c.if-is_empty.false))
 
-pub returns-then-not-is_digit : goal.returns-then-not-is_digit
-returns-then-not-is_digit c =
-    sym (c.loop-i.invariant ∙ decimal_other _ c.loop-i.i c.loop-i.v c.wide-b.result c.wide-b.ensures c.loop-i-test.true (sym c.is_digit.ensures ∙ c.if-not-is_digit.true))
+pub returns-then-not-is_ascii_digit : goal.returns-then-not-is_ascii_digit
+returns-then-not-is_ascii_digit c =
+    sym (c.loop-b.invariant ∙ decimal_other _ _ c.loop-b.v c.loop-b-test.true (sym c.is_ascii_digit.ensures.value ∙ c.if-not-is_ascii_digit.true))
 
-pub overflow_sub-b : goal.overflow_sub-b
-overflow_sub-b c =
-    omega (arith, digit_says c.wide-b.result (sym c.is_digit.ensures ∙ c.if-not-is_digit.false))
+pub returns-in_err-tens : goal.returns-in_err-tens
+returns-in_err-tens c =
+    let f = c.in_err-tens.ensures in
+    c.from_residual.ensures ∙ sym (c.loop-b.invariant ∙ decimal_large _ _ c.loop-b.v c.loop-b-test.true (sym c.is_ascii_digit.ensures.value ∙ c.if-not-is_ascii_digit.false) (λ h. f (omega arith)))
 
-pub holds-requires : goal.holds-requires
-holds-requires c =
-    omega (arith, digit_says c.wide-b.result (sym c.is_digit.ensures ∙ c.if-not-is_digit.false))
+pub returns-in_err-v : goal.returns-in_err-v
+returns-in_err-v c =
+    let m = c.in_ok-tens.ensures in
+    let f = c.in_err-v.ensures in
+    let d = c.from-digit.ensures in
+    c.from_residual-in_err-v.ensures ∙ sym (c.loop-b.invariant ∙ decimal_large _ _ c.loop-b.v c.loop-b-test.true (sym c.is_ascii_digit.ensures.value ∙ c.if-not-is_ascii_digit.false) (λ h. f (omega arith)))
 
-pub returns-then-not-holds : goal.returns-then-not-holds
-returns-then-not-holds c =
-    sym (c.loop-i.invariant ∙ decimal_large _ c.loop-i.i c.loop-i.v c.wide-b.result c.wide-b.ensures c.loop-i-test.true (sym c.is_digit.ensures ∙ c.if-not-is_digit.false) (sym c.holds.ensures ∙ c.if-not-holds.true))
-
-pub overflow_mul-v : goal.overflow_mul-v
-overflow_mul-v c =
-    let h = fits_says _ (sym c.holds.ensures ∙ c.if-not-holds.false) in record { fits = omega arith }
-
-pub overflow_sub-v : goal.overflow_sub-v
-overflow_sub-v c =
-    omega (arith, digit_says c.wide-b.result (sym c.is_digit.ensures ∙ c.if-not-is_digit.false))
-
-pub overflow_add-v : goal.overflow_add-v
-overflow_add-v c =
-    let h = fits_says _ (sym c.holds.ensures ∙ c.if-not-holds.false) in record { fits = omega arith }
-
-pub loop-i-preserved : goal.loop-i-preserved
-loop-i-preserved c =
-    c.loop-i.invariant ∙ decimal_more _ c.loop-i.i c.loop-i.v c.wide-b.result c.wide-b.ensures c.loop-i-test.true (sym c.is_digit.ensures ∙ c.if-not-is_digit.false) (sym c.holds.ensures ∙ c.if-not-holds.false)
+pub loop-b-preserved : goal.loop-b-preserved
+loop-b-preserved c =
+    let m = c.in_ok-tens.ensures in
+    let a = c.in_ok-v.ensures in
+    let d = c.from-digit.ensures in
+    c.loop-b.invariant ∙ decimal_more _ _ c.loop-b.v c.loop-b-test.true _ (sym c.is_ascii_digit.ensures.value ∙ c.if-not-is_ascii_digit.false) (omega arith) (omega arith)
 
 pub returns : goal.returns
-returns c = sym (c.loop-i.invariant ∙ decimal_end _ c.loop-i.i c.loop-i.v c.loop-i-test.false)
+returns c = sym (c.loop-b.invariant ∙ decimal_end _ c.loop-b.b-index c.loop-b.v c.loop-b-test.false)

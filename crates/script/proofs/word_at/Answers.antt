@@ -3,4 +3,4 @@ use Rattle.script.proofs.word_at.Goals as goal
 
 pub returns : goal.returns
 returns c =
-    record { from = rw (← c.least.ensures.value) c.skip_spaces-from.ensures; to = c.word_end-to.ensures }
+    record { from = rw (← c.min.ensures) c.skip_spaces-from.ensures; to = c.word_end-to.ensures }

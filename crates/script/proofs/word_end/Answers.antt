@@ -1,27 +1,26 @@
--- The loop over a word: what is passed and what is still ahead make the whole stretch.
-use Rattle.script.proofs.Stretches.{leading_end, leading_more, leading_stop}
-use Rattle.script.specs.Words.{is_ink, leading}
-use borrow.Author.Tests.{eq-eqb, ne_eqb}
-use mathlib.Core.Bool.{not}
-use mathlib.Core.Path.{refl, ap}
-use Prim.Native.Nat.{◌-◌}
+-- The stretch from the place on, as far as the test passes.
+use mathlib.Core.Path.{◌≡◌, ap, ◌∙◌}
+use Prim.Native.Nat.{ℕ, ◌+◌, ◌-◌}
 use native.Mathlib.Omega.{arith}
+use lib.ListN.{length, drop}
+use lib.Seq.{take_all}
+use borrow.Author.Rules.{rules}
+use Rattle.std.specs.List.{prefix_len}
+use Rattle.std.proofs.lemmas.List.{length-drop}
+use Rattle.std.proofs.lemmas.List.Folds.{length-prefix_len}
+use Rattle.std.proofs.lemmas.List.Sums.{prefix_len-le-length}
+use Rattle.std.proofs.lemmas.Iterator.{YieldsList-from_slice}
+use Rattle.std.proofs.lemmas.Iterator.Consumers.{count_from_yields_List}
+use Rattle.std.proofs.lemmas.Iterator.Search.{YieldsList-from_take_while}
+use Rattle.script.specs.Words.{is_ink}
 use Rattle.script.proofs.word_end.Goals as goal
-
-pub loop-i-init : goal.loop-i-init
-loop-i-init c = (omega arith, omega arith, refl)
-
-pub returns-then-wide-eq32 : goal.returns-then-wide-eq32
-returns-then-wide-eq32 c =
-    let e = leading_stop is_ink c.args.line.now c.loop-i.i c.wide.result c.wide.ensures c.loop-i-test.true (ap not (eq-eqb _ 32 c.if-wide-eq32.true)) in
-    record { exact = omega arith; low = omega arith; high = omega arith }
-
-pub loop-i-preserved : goal.loop-i-preserved
-loop-i-preserved c =
-    let e = leading_more is_ink c.args.line.now c.loop-i.i c.wide.result c.wide.ensures c.loop-i-test.true (ap not (ne_eqb _ 32 c.if-wide-eq32.false)) in
-    (omega arith, omega arith, omega arith)
 
 pub returns : goal.returns
 returns c =
-    let e = leading_end is_ink c.args.line.now c.loop-i.i c.loop-i-test.false in
-    record { exact = omega arith; low = omega arith; high = omega arith }
+    let rest = drop c.args.at c.args.line.now in
+    let l = length-drop c.args.at c.args.line.now in
+    let t = take_all (length c.args.line.now - c.args.at) rest (omega arith) in
+    let e = count_from_yields_List _ _ c.count.ensures.ran (YieldsList-from_take_while _ is_ink (YieldsList-from_slice rest cc) c.take_while.ensures.closure c.take_while.ensures.done (λ x b q k. search rules)) in
+    let f : c.count.result ≡ prefix_len is_ink rest = e ∙ length-prefix_len is_ink rest in
+    let h = prefix_len-le-length is_ink rest in
+    record { exact = ap (λ (k : ℕ). c.args.at + k) f; low = omega arith; high = omega arith }
