@@ -16,20 +16,21 @@ use record::{MOST_CERTIFICATES, count, load_cell};
 use rulebook::{Cell, CertificateKind, Heading, Node, Slot};
 
 // The two masks of a certificate.
-#[derive(Clone, Copy)]
+#[derive(Clone, Copy, Debug, PartialEq, Eq)]
 pub enum Mask {
     A,
     B,
 }
 
 // Whether a node's initial or final vote counts.
+#[tactic(auto, unfolding(rulebook::specs::Writers::in_a))]
 fn in_a(kind: CertificateKind, b: u64, c: Cell) -> bool
     ensures { result ≡ in_a kind b c }
 {
     match kind {
-        CertificateKind::FastFinal => c.notar == b,
-        CertificateKind::Notar => c.notar == b,
-        CertificateKind::NotarFallback => c.notar == b,
+        CertificateKind::FastFinal | CertificateKind::Notar | CertificateKind::NotarFallback => {
+            c.notar == b
+        }
         CertificateKind::Skip => c.skip != 0,
         CertificateKind::Final => c.finalvote != 0,
         CertificateKind::Other => false,
@@ -37,20 +38,22 @@ fn in_a(kind: CertificateKind, b: u64, c: Cell) -> bool
 }
 
 // Whether a node counts by a fallback alone.
+#[tactic(auto, unfolding(rulebook::specs::Writers::in_b))]
 fn in_b(kind: CertificateKind, b: u64, c: Cell) -> bool
     ensures { result ≡ in_b kind b c }
 {
     match kind {
         CertificateKind::NotarFallback => has_fallback(b, c) & (c.notar != b),
         CertificateKind::Skip => (c.skipfallback != 0) & (c.skip == 0),
-        CertificateKind::FastFinal => false,
-        CertificateKind::Notar => false,
-        CertificateKind::Final => false,
-        CertificateKind::Other => false,
+        CertificateKind::FastFinal
+        | CertificateKind::Notar
+        | CertificateKind::Final
+        | CertificateKind::Other => false,
     }
 }
 
 // Whether a mask names a node, by what is kept of it.
+#[tactic(auto, unfolding(crate::specs::Masks::in_mask))]
 fn in_mask(which: Mask, kind: CertificateKind, b: u64, c: Cell) -> bool
     ensures { result ≡ in_mask which kind b c }
 {
@@ -64,13 +67,7 @@ fn in_mask(which: Mask, kind: CertificateKind, b: u64, c: Cell) -> bool
 fn nodes_from(nodes: usize, from: Node) -> usize
     ensures { result ≡ min 64 (nodes - from.0) }
 {
-    if nodes <= from.0 {
-        return 0;
-    }
-    if 64 <= nodes - from.0 {
-        return 64;
-    }
-    nodes - from.0
+    nodes.saturating_sub(from.0).min(64)
 }
 
 // A word of a mask: the signers stored in a slot, from a node on, node by node.
@@ -91,7 +88,7 @@ fn signers_from(
     for j in 0..upto {
         let c = load_cell(rec, s, Node(from.0 + j));
         if in_mask(which, kind, b, c) {
-            word = word | (1 << j);
+            word |= 1 << j;
         }
     }
     word
@@ -110,9 +107,8 @@ fn signers_in(
     requires { (Signing rec.now nodes s.0) × Wide nodes mask.old }
     ensures { joined mask.new ≡ mask_of (λ n. in_mask which kind b (cell_at (ledger_of rec.now) s.0 n)) nodes }
 {
-    for i in 0..mask.len() {
-        let from = 64 * i;
-        mask[i] = signers_from(rec, nodes, Node(from), which, kind, s, b);
+    for (i, word) in mask.iter_mut().enumerate() {
+        *word = signers_from(rec, nodes, Node(64 * i), which, kind, s, b);
     }
 }
 

@@ -1,6 +1,5 @@
 -- Each word names its own nodes.
 use mathlib.Core.Path.{refl}
-use Prim.Native.Nat.{◌-◌}
 use native.Mathlib.Omega.{arith}
 use lib.ListN.{length}
 use Rattle.rulebook.specs.Ledger.{cell_at}
@@ -14,8 +13,8 @@ loop-i-init c =
     let a = c.args in
     (refl, c.requires.1, filled_none (λ n. in_mask a.which a.kind a.b (cell_at (ledger_of a.rec.now) a.s.0 n)) a.nodes a.mask.now)
 
-pub overflow_mul-from : goal.overflow_mul-from
-overflow_mul-from c = omega (arith, c.requires.1.few)
+pub overflow_mul-i : goal.overflow_mul-i
+overflow_mul-i c = omega (arith, c.requires.1.few)
 
 pub signers_from-requires : goal.signers_from-requires
 signers_from-requires c = c.requires.0
