@@ -20,27 +20,29 @@ use rulebook::{CertificateKind, Heading, Refusal, Slot};
 use signers::{certificate_for, kept_place};
 use soundness::sound;
 
-// The bytes that a certificate is asked to have room for, by the table's size, and those for a proof.
+// The bytes that a certificate is asked to have room for, by the table's size, and those for a proof: two certificates.
+#[tactic(auto, unfolding(rulebook::specs::Writers::certificate_room, rulebook::specs::Weights::is_large, rulebook::specs::Tools::choose))]
 fn certificate_room(count: usize) -> usize
     ensures { result ≡ certificate_room count }
 {
-    if 64 < count {
-        return 768;
-    }
-    32
+    if 64 < count { 768 } else { 32 }
 }
 
+#[tactic(auto, unfolding(rulebook::specs::Writers::certificate_room, rulebook::specs::Writers::proof_room, rulebook::specs::Weights::is_large, rulebook::specs::Tools::choose))]
 fn proof_room(count: usize) -> usize
     ensures { result ≡ proof_room count }
 {
-    if 64 < count {
-        return 1536;
-    }
-    64
+    2 * certificate_room(count)
 }
 
 // 9, 4, 3, 5, 18, in this order, for a certificate.
-fn judge_certificate(rec: &[u64], room: usize, kind: CertificateKind, s: Slot, b: u64) -> Result<(), Refusal>
+fn judge_certificate(
+    rec: &[u64],
+    room: usize,
+    kind: CertificateKind,
+    s: Slot,
+    b: u64,
+) -> Result<(), Refusal>
     requires { sound_words rec.now ≡ true }
     ensures { result ≡ certificate_verdict (ledger_of rec.now) room kind s.0 b }
 {
@@ -172,13 +174,8 @@ pub fn write_certificate(
         return Err(Refusal::BadRecord);
     }
     let asked = kind_in(count(rec), kind);
-    let v = judge_certificate(rec, buffer.len(), asked, slot, block);
-    match v {
-        Err(r) => Err(r),
-        Ok(()) => {
-            Ok(lay_certificate(rec, buffer, 0, asked, slot, block))
-        }
-    }
+    judge_certificate(rec, buffer.len(), asked, slot, block)?;
+    Ok(lay_certificate(rec, buffer, 0, asked, slot, block))
 }
 
 // Writes the finality proof of a block in a slot, where it is held.
@@ -188,9 +185,6 @@ pub fn write_proof(rec: &[u64], buffer: &mut [u8], slot: Slot, block: u64) -> Re
     if !sound(rec) {
         return Err(Refusal::BadRecord);
     }
-    let v = judge_proof(rec, buffer.len(), slot, block);
-    match v {
-        Err(r) => Err(r),
-        Ok(()) => Ok(lay_proof(rec, buffer, slot, block)),
-    }
+    judge_proof(rec, buffer.len(), slot, block)?;
+    Ok(lay_proof(rec, buffer, slot, block))
 }

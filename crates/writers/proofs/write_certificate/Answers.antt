@@ -1,5 +1,5 @@
 -- 17, the refusals of the written rules, or the certificate's bytes.
-use Rattle.std.specs.Prelude.{Ok}
+use Rattle.std.specs.Prelude.{◌≡◌, Ok, Err}
 use mathlib.Core.Path.{sym, ◌∙◌}
 use lib.ListN.{length}
 use borrow.Author.Rules.{rules}
@@ -19,13 +19,13 @@ returns-then-not-sound c =
 pub count-requires : goal.count-requires
 count-requires c = sound_long _ (sym c.sound.ensures ∙ c.if-not-sound.false)
 
-pub judge_certificate-v-requires : goal.judge_certificate-v-requires
-judge_certificate-v-requires c = sym c.sound.ensures ∙ c.if-not-sound.false
+pub judge_certificate-requires : goal.judge_certificate-requires
+judge_certificate-requires c = sym c.sound.ensures ∙ c.if-not-sound.false
 
 pub lay_certificate-requires : goal.lay_certificate-requires
 lay_certificate-requires c =
     let s = c.args in
-    let f = certificate_fine (ledger_of s.rec.now) (length s.buffer.now) _ s.slot.0 s.block (sym c.judge_certificate-v.ensures ∙ c.in-Ok.is) in (
+    let f = certificate_fine (ledger_of s.rec.now) (length s.buffer.now) _ s.slot.0 s.block (sym c.judge_certificate.ensures ∙ c.in_ok-judge_certificate.was) in (
       record {
         sound = sym c.sound.ensures ∙ c.if-not-sound.false;
         kind = f.kind;
@@ -35,17 +35,19 @@ lay_certificate-requires c =
       f.there,
     )
 
-pub returns-in-Err : goal.returns-in-Err
-returns-in-Err c =
+pub returns-in_err-judge_certificate : goal.returns-in_err-judge_certificate
+returns-in_err-judge_certificate c =
     let s = c.args in
-    writes_refused _ _ s.buffer.now _
+    let e : c.from_residual.result ≡ Err c.in_err-judge_certificate.field-0.0 = search rules in
+    rw e
+    (writes_refused _ _ s.buffer.now _
     (certificate_judged s.rec.now (length s.buffer.now) s.kind s.slot.0 s.block _ (kind_asked s.rec.now s.kind c.kind_in-asked.ensures c.count.ensures) _ (sym c.sound.ensures ∙ c.if-not-sound.false)
-    (sym c.in-Err.is ∙ c.judge_certificate-v.ensures))
+    (sym c.in_err-judge_certificate.was ∙ c.judge_certificate.ensures)))
 
-pub returns-in-Ok : goal.returns-in-Ok
-returns-in-Ok c =
+pub returns : goal.returns
+returns c =
     let s = c.args in
     writes_laid _ _
     (certificate_judged s.rec.now (length s.buffer.now) s.kind s.slot.0 s.block _ (kind_asked s.rec.now s.kind c.kind_in-asked.ensures c.count.ensures) (Ok tt) (sym c.sound.ensures ∙ c.if-not-sound.false)
-    (sym c.in-Ok.is ∙ c.judge_certificate-v.ensures))
+    (sym c.in_ok-judge_certificate.was ∙ c.judge_certificate.ensures))
     c.lay_certificate.ensures
