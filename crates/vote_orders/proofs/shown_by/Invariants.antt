@@ -1,9 +1,8 @@
 -- The places passed are in order, and no block leads by what they have.
 use mathlib.Core.List.{List}
-use Prim.Native.Nat.{ℕ, ◌-◌, ◌≤◌, ◌<◌, ◌^◌}
+use Prim.Native.Nat.{ℕ}
 use lib.ListN.{get_or}
 use lib.Bits.{bit_and}
-use Rattle.rulebook.specs.declared.Who.TheVariants as who
 use Rattle.record.specs.Layout.{ledger_of}
 use Rattle.vote_orders.proofs.Listed.{Listed}
 use Rattle.vote_orders.proofs.shown_by.Given as goal
@@ -12,10 +11,5 @@ use Rattle.vote_orders.proofs.shown_by.Given as goal
 abbrev pub node : List ℕ → ℕ → ℕ
 node list j = bit_and (get_or list j 0) 2047
 
-abbrev pub invariant-loop-i : goal.invariant-loop-i
-invariant-loop-i l =
-    (l.i ≤ l.i-end) × (l.i-end < 2 ^ 64) × Listed (ledger_of l.rec) l.s.0 l.b l.v.0 l.initial.rest.0 (node l.list) l.i l.block l.from l.run.0 l.rest.0
-
-abbrev pub decreases-loop-i : goal.decreases-loop-i
-decreases-loop-i l =
-    l.i-end - l.i
+abbrev pub invariant-loop-word : goal.invariant-loop-word
+invariant-loop-word l = Listed (ledger_of l.rec) l.s.0 l.b l.v.0 l.initial.rest.0 (node l.list) l.word-index l.block l.from l.run.0 l.rest.0
