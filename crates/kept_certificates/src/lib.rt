@@ -1,12 +1,12 @@
 // Certificates from other firms as a record keeps them, by slot and place: the block, and the masks as words.
 #![tactic(auto)]
 
-ghost use Rattle.std.specs.Prelude.{◌≡◌, not, set};
+ghost use Rattle.std.specs.Prelude.{◌≡◌, ◌+◌, ◌≤◌, not, length, set, take, drop};
 ghost use Rattle.std.proofs.lemmas.List.Edits.{sets};
 ghost use Rattle.rulebook.specs.Packets.{joined};
-ghost use Rattle.rulebook.specs.Ledger.{none, is_kept, certificates_at, put_certificates};
+ghost use Rattle.rulebook.specs.Ledger.{none, places, is_kept, certificates_at, put_certificates};
 ghost use Rattle.rulebook.specs.WellFormed.{each_kept, kept_blank};
-ghost use Rattle.record.specs.Layout.{InSlot, InKept, ledger_of};
+ghost use Rattle.record.specs.Layout.{mask_words, InSlot, InKept, ledger_of};
 ghost use Rattle.kept_certificates.specs.Kept.{place_at, all_none, Lent, Within, Storing};
 
 use record::{MOST_CERTIFICATES, kept_start, mask_words, places_in};
@@ -24,14 +24,21 @@ pub fn block_at(rec: &[u64], s: Slot, n: usize) -> u64
     rec[i]
 }
 
+// The words of a mask, from its first on.
+fn mask_from(rec: &[u64], from: usize) -> &[u64]
+    requires { from + mask_words (places (ledger_of rec.now)) ≤ length rec.now }
+    ensures { result.now ≡ take (mask_words (places (ledger_of rec.now))) (drop from rec.now) }
+{
+    let end = from + mask_words(places_in(rec));
+    &rec[from..end]
+}
+
 // Mask A of the certificate in one of a slot's places, lent from the record.
 pub fn mask_a(rec: &[u64], s: Slot, n: usize) -> &[u64]
     requires { InKept rec.now s.0 n }
     ensures { Lent (ledger_of rec.now) (place_at (ledger_of rec.now) s.0 n).maska result.now }
 {
-    let from = kept_start(rec, s, n) + 1;
-    let end = from + mask_words(places_in(rec));
-    &rec[from..end]
+    mask_from(rec, kept_start(rec, s, n) + 1)
 }
 
 // Mask B, which stands behind it.
@@ -39,21 +46,14 @@ pub fn mask_b(rec: &[u64], s: Slot, n: usize) -> &[u64]
     requires { InKept rec.now s.0 n }
     ensures { Lent (ledger_of rec.now) (place_at (ledger_of rec.now) s.0 n).maskb result.now }
 {
-    let w = mask_words(places_in(rec));
-    let from = kept_start(rec, s, n) + 1 + w;
-    let end = from + w;
-    &rec[from..end]
+    mask_from(rec, kept_start(rec, s, n) + 1 + mask_words(places_in(rec)))
 }
 
 // Whether all words are 0: they are or-ed together, with no test between them.
 fn all_none(words: &[u64]) -> bool
     ensures { result ≡ all_none words.now }
 {
-    let mut all: u64 = 0;
-    for i in 0..words.len() {
-        all = all | words[i];
-    }
-    all == 0
+    words.iter().fold(0, |all, w| all | *w) == 0
 }
 
 // Whether a mask names a signer.
@@ -95,9 +95,7 @@ fn put_words(rec: &mut [u64], at: usize, words: &[u64])
     requires { Within rec.old at words.now }
     ensures { rec.new ≡ sets rec.old at words.now }
 {
-    for i in 0..words.len() {
-        rec[at + i] = words[i];
-    }
+    rec[at..at + words.len()].copy_from_slice(words);
 }
 
 // Puts a certificate's block and masks into one of a slot's places.

@@ -1,37 +1,18 @@
--- As many words are stored as the loop has passed.
-use mathlib.Core.Path.{refl, ap, ◌∙◌}
-use mathlib.Core.List.{List}
+-- The part of the record is the words, and the rest stays.
+use mathlib.Core.Path.{◌≡◌, ◌∙◌, ap, sym}
+use mathlib.Core.List.{List, ◌++◌, append_assoc}
 use Prim.Native.Nat.{ℕ, ◌+◌, ◌-◌}
 use native.Mathlib.Omega.{arith}
-use lib.ListN.{length, get_or, set, take}
-use lib.Seq.{sets, length-sets}
-use Rattle.kept_certificates.proofs.Laws.{sets_more, sets_all}
+use lib.ListN.{length, take, drop}
+use lib.Seq.{drop-drop}
+use Rattle.std.proofs.lemmas.List.Edits.{sets-eq}
 use Rattle.kept_certificates.proofs.put_words.Goals as goal
-
-pub loop-i-init : goal.loop-i-init
-loop-i-init c = (omega arith, refl, refl)
-
-pub overflow_add-rec : goal.overflow_add-rec
-overflow_add-rec c = omega (arith, c.requires.inside)
-
-pub offset_bounds-rec-at : goal.offset_bounds-rec-at
-offset_bounds-rec-at c = omega (arith, c.requires.inside)
-
-pub bounds-rec-at : goal.bounds-rec-at
-bounds-rec-at c =
-    let l = c.loop-i in
-    omega (arith, c.requires.inside, ap length l.invariant.2, length-sets c.args.rec.now c.args.at (take l.i c.args.words.now))
-
-pub loop-i-preserved : goal.loop-i-preserved
-loop-i-preserved c =
-    let a = c.args in
-    let l = c.loop-i in (
-      omega arith,
-      refl,
-      ap (λ (xs : List ℕ). set xs (a.at + l.i) (get_or a.words.now l.i 0)) l.invariant.2 ∙ sets_more a.words.now a.rec.now a.at l.i (omega arith),
-    )
 
 pub returns : goal.returns
 returns c =
     let a = c.args in
-    c.loop-i.invariant.2 ∙ sets_all a.words.now a.rec.now a.at c.loop-i.i (omega arith)
+    let e : a.at + length a.words.now - a.at ≡ length a.words.now = omega arith in
+    (λ i. take a.at a.rec.now ++ (c.copy_from_slice.ensures.after i ++ drop (e i) (drop a.at a.rec.now)))
+    ∙ ap (λ (xs : List ℕ). take a.at a.rec.now ++ (a.words.now ++ xs)) (drop-drop (length a.words.now) a.at a.rec.now)
+    ∙ sym (append_assoc (take a.at a.rec.now) a.words.now (drop (a.at + length a.words.now) a.rec.now))
+    ∙ sym (sets-eq a.words.now a.rec.now a.at c.requires.inside)
