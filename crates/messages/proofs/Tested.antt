@@ -1,5 +1,5 @@
 -- What a vote that passes the tests 4, 3, 2, 5 has, and how many bytes it takes. Assumes nothing.
-use Rattle.std.specs.Prelude.{⊤, Result, Ok}
+use Rattle.std.specs.Prelude.{⊤, Result, Ok, Err}
 use mathlib.Core.Path.{◌≡◌, refl}
 use mathlib.Core.Bool.{Bool, true, false, not}
 use Prim.Native.Nat.{ℕ, zero, suc, ◌+◌, ◌*◌, ◌/◌, ◌^◌, ◌<◌, ◌≤◌}
@@ -16,7 +16,7 @@ use Rattle.rulebook.specs.Weights.{most_nodes, last_slot, slot_ok, count_fits}
 use Rattle.rulebook.specs.PaperNumbers.{vote_number}
 use Rattle.rulebook.specs.Inputs.{refuse_if, is_other, not_in_table, misfits}
 use Rattle.rulebook.specs.Packets.{groups_of, number_bytes}
-use Rattle.rulebook.specs.Messages.{vote_tests, message_bytes, message_verdict}
+use Rattle.rulebook.specs.Messages.{vote_tests, read_on, read_to, message_bytes, message_verdict}
 use Rattle.rule_laws.proofs.ToolLaws.{and_both}
 use Rattle.rule_laws.proofs.RuleLaws.{refuse_fine}
 use Rattle.rule_laws.proofs.NumberLaws.{groups_last, groups_more, number_few}
@@ -48,6 +48,43 @@ tests_fine count v later e =
 pub fine_tests : (count : ℕ) (v : Vote) (later : Result ⊤ Refusal) → Tested count v later → vote_tests count v later ≡ Ok tt
 unfolding vote_tests refuse_if
 fine_tests count v later t = rw (t.kind, t.slot, lt-leb count v.node.0 t.node, t.fits) t.rest
+
+-- The tests alone decide, or else what is found later.
+tests_then : (count : ℕ) (v : Vote) (later : Result ⊤ Refusal) → vote_tests count v (Ok tt) ≡ Ok tt → vote_tests count v later ≡ later
+unfolding vote_tests refuse_if
+tests_then count v later e = go (is_other v.kind) (not (slot_ok v.slot.0)) (not_in_table count v.node.0) (misfits v.kind v.block) e
+  where
+    go : (a b c d : Bool)
+        → refuse_if a refusal.BadKind (refuse_if b refusal.BadSlot (refuse_if c refusal.BadNode (refuse_if d refusal.BadBlock (Ok tt)))) ≡ Ok tt
+        → refuse_if a refusal.BadKind (refuse_if b refusal.BadSlot (refuse_if c refusal.BadNode (refuse_if d refusal.BadBlock later))) ≡ later
+    go true b c d e = cc
+    go false true c d e = cc
+    go false false true d e = cc
+    go false false false true e = cc
+    go false false false false e = refl
+
+tests_refused : (count : ℕ) (v : Vote) (r : Refusal) (later : Result ⊤ Refusal) → vote_tests count v (Ok tt) ≡ Err r → vote_tests count v later ≡ Err r
+unfolding vote_tests refuse_if
+tests_refused count v r later e = go (is_other v.kind) (not (slot_ok v.slot.0)) (not_in_table count v.node.0) (misfits v.kind v.block) e
+  where
+    go : (a b c d : Bool)
+        → refuse_if a refusal.BadKind (refuse_if b refusal.BadSlot (refuse_if c refusal.BadNode (refuse_if d refusal.BadBlock (Ok tt)))) ≡ Err r
+        → refuse_if a refusal.BadKind (refuse_if b refusal.BadSlot (refuse_if c refusal.BadNode (refuse_if d refusal.BadBlock later))) ≡ Err r
+    go true b c d e = e
+    go false true c d e = e
+    go false false true d e = e
+    go false false false true e = e
+    go false false false false e = cc
+
+-- What is read of a vote, by its tests: their refusal, or what the leftovers leave.
+pub read_refused : (count : ℕ) (v : Vote) (next end : ℕ) (r : Refusal) → vote_tests count v (Ok tt) ≡ Err r → read_to count v next end ≡ Err r
+unfolding read_to read_on
+read_refused count v next end r e = rw (tests_refused count v r (refuse_if (ltb next end) refusal.BadLength (Ok tt)) e)
+
+pub read_tested : (count : ℕ) (v : Vote) (next end : ℕ) → vote_tests count v (Ok tt) ≡ Ok tt
+    → read_to count v next end ≡ read_on (refuse_if (ltb next end) refusal.BadLength (Ok tt)) v
+unfolding read_to
+read_tested count v next end e = rw (tests_then count v (refuse_if (ltb next end) refusal.BadLength (Ok tt)) e)
 
 -- What the writer asked before it wrote.
 pub message_fine : (count room : ℕ) (v : Vote) → message_verdict count room v ≡ Ok tt → (count_fits count ≡ true) × (16 ≤ room) × Tested count v (Ok tt)

@@ -1,3 +1,2 @@
--- What the contracts of vote messages cite beside the rule book, and what is promised of messages.
-pub mod Faults
+-- What is promised of vote messages.
 pub mod Promises
