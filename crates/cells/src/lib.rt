@@ -9,6 +9,7 @@ ghost use Rattle.rulebook.specs.Votes.{place_if, place_of, fill_fallback, with_v
 use rulebook::{Cell, Place, VoteKind};
 
 // Whether the cell keeps a notar-fallback for b.
+#[tactic(auto, unfolding(rulebook::specs::Pool::has_fallback))]
 pub fn has_fallback(b: u64, c: Cell) -> bool
     ensures { result ≡ has_fallback b c }
 {
@@ -16,6 +17,7 @@ pub fn has_fallback(b: u64, c: Cell) -> bool
 }
 
 // The very vote is there, else the place is free, else another stands in it.
+#[tactic(auto, unfolding(rulebook::specs::Votes::place_if))]
 fn place_if(same: bool, free: bool) -> Place
     ensures { result ≡ place_if same free }
 {
@@ -29,6 +31,7 @@ fn place_if(same: bool, free: bool) -> Place
 }
 
 // What a vote finds at its place in a cell.
+#[tactic(auto, unfolding(rulebook::specs::Votes::place_of))]
 pub fn place_of(c: Cell, k: VoteKind, b: u64) -> Place
     ensures { result ≡ place_of c k b }
 {
@@ -43,48 +46,35 @@ pub fn place_of(c: Cell, k: VoteKind, b: u64) -> Place
 }
 
 // The cell with a notar-fallback block in the first free of its three places.
+#[tactic(auto, unfolding(rulebook::specs::Votes::fill_fallback))]
 fn fill_fallback(c: Cell, b: u64) -> Cell
     ensures { result ≡ fill_fallback (none c.fallback1) (none c.fallback2) (none c.fallback3) c b }
 {
-    let mut d = c;
     if c.fallback1 == 0 {
-        d.fallback1 = b;
-        return d;
+        Cell { fallback1: b, ..c }
+    } else if c.fallback2 == 0 {
+        Cell { fallback2: b, ..c }
+    } else if c.fallback3 == 0 {
+        Cell { fallback3: b, ..c }
+    } else {
+        c
     }
-    if c.fallback2 == 0 {
-        d.fallback2 = b;
-        return d;
-    }
-    if c.fallback3 == 0 {
-        d.fallback3 = b;
-        return d;
-    }
-    d
 }
 
 // The cell with the vote kept in it.
+#[tactic(auto, unfolding(rulebook::specs::Votes::with_vote))]
 pub fn with_vote(c: Cell, k: VoteKind, b: u64) -> Cell
     ensures { result ≡ with_vote c k b }
 {
-    let mut d = c;
     match k {
-        VoteKind::Notar => {
-            d.notar = b;
-            d
-        }
+        VoteKind::Notar => Cell { notar: b, ..c },
         VoteKind::NotarFallback => fill_fallback(c, b),
-        VoteKind::Skip => {
-            d.skip = 1;
-            d
-        }
-        VoteKind::SkipFallback => {
-            d.skipfallback = 1;
-            d
-        }
-        VoteKind::Final => {
-            d.finalvote = 1;
-            d
-        }
-        VoteKind::Other => d,
+        VoteKind::Skip => Cell { skip: 1, ..c },
+        VoteKind::SkipFallback => Cell {
+            skipfallback: 1,
+            ..c
+        },
+        VoteKind::Final => Cell { finalvote: 1, ..c },
+        VoteKind::Other => c,
     }
 }
