@@ -1,7 +1,6 @@
 -- What a word says as a packet: hex digits in either case.
-use Rattle.std.specs.Prelude.{◌≡◌, Bool, true, false, ◌&&◌, List, ℕ, zero, suc, ◌+◌, ◌-◌, ◌*◌, ◌/◌, ◌%◌, ◌≤◌, eqb, leb, ltb, length, get_or, set}
+use Rattle.std.specs.Prelude.{◌≡◌, Bool, true, ◌&&◌, List, ℕ, zero, suc, ◌+◌, ◌-◌, ◌*◌, ◌/◌, ◌%◌, ◌≤◌, eqb, leb, ltb, length, get_or, set, Option, Some, None, IfSome}
 use Rattle.rulebook.specs.Tools.{choose, all_to}
-use Rattle.hex_bytes.specs.declared.Hex.{Hex}
 use Rattle.script.specs.Digits.{is_digit}
 
 -- The value of a hex digit in either case, 16 for any other byte.
@@ -16,6 +15,10 @@ hex_pair w i =
     let h = hex_digit (get_or w (2 * i) 0) in
     let l = hex_digit (get_or w (2 * i + 1) 0) in
     choose (ltb h 16 && ltb l 16) (16 * h + l) 256
+
+-- A number below a bound: 16 is no digit, and 256 no byte.
+unfoldable pub below : ℕ → ℕ → Option ℕ
+below n v = choose (ltb v n) (Some v) None
 
 -- "`-` the empty packet".
 unfoldable pub is_dash : List ℕ → Bool
@@ -40,18 +43,15 @@ pub record Pairs (w : List ℕ) (n : ℕ) (out : List ℕ) : Type 0 where
   pub room : n ≤ length out
   pub good : pairs_good w n ≡ true
 
-abbrev pub hex : Bool → ℕ → Hex
-hex g n = record { good = g; size = n }
-
--- What a word says as a packet, and the buffer that its bytes are put into: a word that is not good leaves it as it was.
-unfoldable pub hex_of : List ℕ → ℕ → Hex
-hex_of w room = choose (is_dash w) (hex true 0) (choose (spells_bytes w room) (hex true (length w / 2)) (hex false 0))
+-- What a word says as a packet, and the buffer that its bytes are put into: a word that says none leaves it as it was.
+unfoldable pub hex_of : List ℕ → ℕ → Option ℕ
+hex_of w room = choose (is_dash w) (Some 0) (choose (spells_bytes w room) (Some (length w / 2)) None)
 
 unfoldable pub hex_into : List ℕ → List ℕ → List ℕ
 hex_into w out = choose (is_dash w) out (choose (spells_bytes w (length out)) (put_pairs w (length w / 2) out) out)
 
 -- The answer, the buffer afterwards, and that the bytes lie within it.
-pub record HexIn (w out : List ℕ) (r : Hex) (left : List ℕ) : Type 0 where
+pub record HexIn (w out : List ℕ) (r : Option ℕ) (left : List ℕ) : Type 0 where
   pub answer : r ≡ hex_of w (length out)
   pub bytes : left ≡ hex_into w out
-  pub within : r.size ≤ length left
+  pub within : IfSome r (λ n. n ≤ length left)

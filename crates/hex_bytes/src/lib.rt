@@ -1,64 +1,44 @@
 // A word of hex digits as the bytes of a packet.
 #![tactic(auto)]
 
-ghost use Rattle.std.specs.Prelude.{◌≡◌, ◌+◌, ◌*◌, ◌≤◌, ◌<◌, length};
-ghost use Rattle.hex_bytes.specs.Bytes.{hex_digit, hex_pair, is_dash, pairs_good, spells_bytes, Pairs, put_pairs, HexIn};
+ghost use Rattle.std.specs.Prelude.{◌≡◌, ◌/◌, length};
+ghost use Rattle.hex_bytes.specs.Bytes.{hex_digit, hex_pair, below, is_dash, pairs_good, spells_bytes, Pairs, put_pairs, HexIn};
 
-use script::{is_digit, wide};
-
-// What a word says as hex digits: how many bytes it spells, and whether it is well formed (0 bytes where not).
-#[derive(Clone, Copy)]
-pub struct Hex {
-    pub good: bool,
-    pub size: usize,
-}
-
-// The value of a hex digit in either case, 16 for any other byte.
-fn hex_digit(b: u64) -> u64
-    ensures { result ≡ hex_digit b }
+// The value of a hex digit in either case.
+fn hex_digit(b: u8) -> Option<u8>
+    ensures { result ≡ below 16 (hex_digit b) }
 {
-    if is_digit(b) {
-        b - 48
-    } else if (65 <= b) & (b <= 70) {
-        b - 55
-    } else if (97 <= b) & (b <= 102) {
-        b - 87
-    } else {
-        16
+    match b {
+        b'0'..=b'9' => Some(b - b'0'),
+        b'A'..=b'F' => Some(b - b'A' + 10),
+        b'a'..=b'f' => Some(b - b'a' + 10),
+        _ => None,
     }
 }
 
-// The byte that the pair of digits number i of a word spells, 256 or more where they are none.
-fn hex_pair(word: &[u8], i: usize) -> u64
-    requires { 2 * i + 1 < length word.now }
-    ensures { result ≡ hex_pair word.now i }
+// The byte that a pair of digits spells.
+fn hex_pair(pair: &[u8; 2]) -> Option<u8>
+    ensures { result ≡ below 256 (hex_pair pair.now 0) }
 {
-    let high = hex_digit(wide(word[2 * i]));
-    let low = hex_digit(wide(word[2 * i + 1]));
-    if (high < 16) & (low < 16) {
-        16 * high + low
-    } else {
-        256
-    }
+    let high = hex_digit(pair[0])?;
+    let low = hex_digit(pair[1])?;
+    Some(16 * high + low)
 }
 
 // Whether a word is the dash, which stands for the empty packet.
 fn is_dash(word: &[u8]) -> bool
     ensures { result ≡ is_dash word.now }
 {
-    if word.len() != 1 {
-        return false;
-    }
-    wide(word[0]) == 45
+    matches!(word, b"-")
 }
 
-// Whether the first n pairs of a word are hex digits.
-fn all_pairs(word: &[u8], n: usize) -> bool
-    requires { 2 * n ≤ length word.now }
-    ensures { result ≡ pairs_good word.now n }
+// Whether the pairs of a word are hex digits.
+fn all_pairs(word: &[u8]) -> bool
+    ensures { result ≡ pairs_good word.now (length word.now / 2) }
 {
-    for i in 0..n {
-        if hex_pair(word, i) > 255 {
+    let (pairs, _) = word.as_chunks::<2>();
+    for pair in pairs {
+        if hex_pair(pair).is_none() {
             return false;
         }
     }
@@ -69,47 +49,36 @@ fn all_pairs(word: &[u8], n: usize) -> bool
 fn spells_bytes(word: &[u8], room: usize) -> bool
     ensures { result ≡ spells_bytes word.now room }
 {
-    let n = word.len() / 2;
     if word.len() % 2 != 0 {
         return false;
     }
-    if room < n {
-        return false;
-    }
-    all_pairs(word, n)
+    word.len() / 2 <= room && all_pairs(word)
 }
 
-// Puts the bytes that the first n pairs of a word spell to the front of out.
-fn put_pairs(word: &[u8], n: usize, out: &mut [u8])
-    requires { Pairs word.now n out.old }
-    ensures { out.new ≡ put_pairs word.now n out.old }
+// Puts the bytes that the pairs of a word spell to the front of out.
+fn put_pairs(word: &[u8], out: &mut [u8])
+    requires { Pairs word.now (length word.now / 2) out.old }
+    ensures { out.new ≡ put_pairs word.now (length word.now / 2) out.old }
 {
-    for i in 0..n {
-        out[i] = hex_pair(word, i) as u8;
+    let (pairs, _) = word.as_chunks::<2>();
+    for (i, pair) in pairs.iter().enumerate() {
+        if let Some(b) = hex_pair(pair) {
+            out[i] = b;
+        }
     }
 }
 
-// Puts the bytes that a word spells in pairs of hex digits to the front of out; a dash spells none. An odd number of digits, a
-// byte that is no digit, and more bytes than out has are not good, and leave out as it was.
-pub fn read_hex(word: &[u8], out: &mut [u8]) -> Hex
+// Puts the bytes that a word spells in pairs of hex digits to the front of out, and answers how many they are; a dash spells none.
+// An odd number of digits, a byte that is no digit, and more bytes than out has are no packet, and leave out as it was.
+pub fn read_hex(word: &[u8], out: &mut [u8]) -> Option<usize>
     ensures { HexIn word.now out.old result out.new }
 {
     if is_dash(word) {
-        return Hex {
-            good: true,
-            size: 0,
-        };
+        return Some(0);
     }
     if !spells_bytes(word, out.len()) {
-        return Hex {
-            good: false,
-            size: 0,
-        };
+        return None;
     }
-    let n = word.len() / 2;
-    put_pairs(word, n, out);
-    Hex {
-        good: true,
-        size: n,
-    }
+    put_pairs(word, out);
+    Some(word.len() / 2)
 }

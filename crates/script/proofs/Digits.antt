@@ -1,30 +1,17 @@
--- One turn of the loop over decimal digits, and the tests of bytes as facts. Assumes nothing.
+-- One turn of the loop over decimal digits. Assumes nothing.
 use Rattle.std.specs.Prelude.{Some, None}
 use mathlib.Core.Path.{◌≡◌, refl, sym, ap, ◌∙◌}
 use mathlib.Core.List.{List, [], ◌∷◌}
-use mathlib.Core.Bool.{true, false, ◌&&◌}
+use mathlib.Core.Bool.{true, false}
 use Prim.Native.Nat.{ℕ, ◌+◌, ◌-◌, ◌*◌, ◌<◌, ◌≤◌}
 use native.Mathlib.Numerals.{add-one}
 use native.Mathlib.Omega.{arith}
 use lib.ListN.{length, drop, get_or, drop_of_length-le}
 use lib.Seq.{drop-cons}
-use lib.Dec.{leb, ltb}
-use borrow.Author.Tests.{ltb-true, leb-true, le-leb, lt-leb}
-use Rattle.rule_laws.proofs.ToolLaws.{given_on, given_off, and_both}
+use borrow.Author.Tests.{le-leb, lt-leb}
+use Rattle.rule_laws.proofs.ToolLaws.{given_on, given_off}
 use Rattle.std.specs.Char.{is_ascii_digit}
 use Rattle.script.specs.Digits.{is_digit, fits64, decimal_from, decimal_of}
-
--- A byte between two bytes.
-pub between : (a b x : ℕ) → (leb a x && leb x b) ≡ true → (a ≤ x) × (x ≤ b)
-between a b x e = let h = and_both (leb a x) (leb x b) e in (leb-true a x h.0, leb-true x b h.1)
-
--- Two digits, each below 16.
-pub both_small : (h l : ℕ) → (ltb h 16 && ltb l 16) ≡ true → (h < 16) × (l < 16)
-both_small h l e = let b = and_both (ltb h 16) (ltb l 16) e in (ltb-true h 16 b.0, ltb-true l 16 b.1)
-
-pub digit_says : (b : ℕ) → is_digit b ≡ true → (48 ≤ b) × (b ≤ 57)
-unfolding is_digit
-digit_says b e = between 48 57 b e
 
 -- An empty word is no number; any other is read from its front.
 pub decimal_none : (s : List ℕ) → length s ≡ 0 → None ≡ decimal_of s

@@ -1,35 +1,25 @@
 -- The three ranges of digits, first to last.
-use Rattle.rule_laws.proofs.ToolLaws.{choose_on, choose_off}
-use Rattle.script.proofs.Digits.{digit_says, between}
-use Rattle.hex_bytes.specs.Bytes.{hex_digit}
-use mathlib.Core.Path.{◌∙◌, sym}
 use native.Mathlib.Omega.{arith}
+use Rattle.hex_bytes.proofs.Pairs.{low_digit, upper_digit, lower_digit, no_digit}
 use Rattle.hex_bytes.proofs.hex_digit.Goals as goal
 
-pub overflow_sub-result : goal.overflow_sub-result
-overflow_sub-result c = omega (arith, digit_says c.args.b (sym c.is_digit.ensures ∙ c.if-is_digit.true))
+pub returns-in-48-to-57 : goal.returns-in-48-to-57
+returns-in-48-to-57 c = low_digit c.args.b (omega arith) (omega arith)
 
-pub overflow_sub-result-then-b : goal.overflow_sub-result-then-b
-overflow_sub-result-then-b c = omega (arith, between 65 70 c.args.b c.if-b.true)
+pub returns-in-65-to-70 : goal.returns-in-65-to-70
+returns-in-65-to-70 c = upper_digit c.args.b (omega arith) (omega arith)
 
-pub overflow_sub-result-then-b-2 : goal.overflow_sub-result-then-b-2
-overflow_sub-result-then-b-2 c = omega (arith, between 97 102 c.args.b c.if-b-2.true)
+pub returns-in-97-to-102 : goal.returns-in-97-to-102
+returns-in-97-to-102 c = lower_digit c.args.b (omega arith) (omega arith)
 
-pub returns-then-is_digit : goal.returns-then-is_digit
-unfolding hex_digit
-returns-then-is_digit c = sym (choose_on _ _ _ (sym c.is_digit.ensures ∙ c.if-is_digit.true))
+pub returns-in_default : goal.returns-in_default
+returns-in_default c = no_digit c.args.b (λ h. omega arith) (λ h. omega arith) (λ h. omega arith)
 
-pub returns-then-b : goal.returns-then-b
-unfolding hex_digit
-returns-then-b c =
-    sym (choose_off _ _ _ (sym c.is_digit.ensures ∙ c.if-is_digit.false) ∙ choose_on _ _ _ c.if-b.true)
+pub returns-in_default-2 : goal.returns-in_default-2
+returns-in_default-2 c = no_digit c.args.b (λ h. omega arith) (λ h. omega arith) (λ h. omega arith)
 
-pub returns-then-b-2 : goal.returns-then-b-2
-unfolding hex_digit
-returns-then-b-2 c =
-    sym (choose_off _ _ _ (sym c.is_digit.ensures ∙ c.if-is_digit.false) ∙ (choose_off _ _ _ c.if-b.false ∙ choose_on _ _ _ c.if-b-2.true))
+pub returns-in_default-3 : goal.returns-in_default-3
+returns-in_default-3 c = no_digit c.args.b (λ h. omega arith) (λ h. omega arith) (λ h. omega arith)
 
-pub returns-else-b-2 : goal.returns-else-b-2
-unfolding hex_digit
-returns-else-b-2 c =
-    sym (choose_off _ _ _ (sym c.is_digit.ensures ∙ c.if-is_digit.false) ∙ (choose_off _ _ _ c.if-b.false ∙ choose_off _ _ _ c.if-b-2.false))
+pub returns-in_default-4 : goal.returns-in_default-4
+returns-in_default-4 c = no_digit c.args.b (λ h. omega arith) (λ h. omega arith) (λ h. omega arith)

@@ -1,9 +1,16 @@
 -- One byte, and that a dash.
-use Rattle.hex_bytes.proofs.Pairs.{dash_other, dash_says}
+use native.Mathlib.Omega.{arith}
+use Rattle.hex_bytes.proofs.Pairs.{dash_is, dash_other}
 use Rattle.hex_bytes.proofs.is_dash.Goals as goal
 
-pub returns-then-word-ne1 : goal.returns-then-word-ne1
-returns-then-word-ne1 c = dash_other _ c.if-word-ne1.true
+pub returns-in-45 : goal.returns-in-45
+returns-in-45 c = dash_is _ (omega arith) (omega arith)
 
-pub returns : goal.returns
-returns c = dash_says _ _ c.if-word-ne1.false c.wide.ensures
+pub returns-in_default : goal.returns-in_default
+returns-in_default c = dash_other _ (λ h e. omega arith)
+
+pub returns-in_default-2 : goal.returns-in_default-2
+returns-in_default-2 c = dash_other _ (λ h e. omega arith)
+
+pub returns-in_default-3 : goal.returns-in_default-3
+returns-in_default-3 c = dash_other _ (λ h e. omega arith)
