@@ -17,7 +17,7 @@ use Rattle.rulebook.specs.declared.Refusal.{Refusal}
 use Rattle.rulebook.specs.declared.Refusal.TheVariants as refusal
 use Rattle.rulebook.specs.declared.Weight.{Weight}
 use Rattle.rulebook.specs.Weights.{slot_ok, total_to, reaches, missing}
-use Rattle.rulebook.specs.PaperNumbers.{kind_in}
+use Rattle.rulebook.specs.PaperNumbers.{kind_in, refusal_of}
 use Rattle.rulebook.specs.Pool.{fifths_of}
 use Rattle.rulebook.specs.Inputs.{refuse_if}
 use Rattle.rulebook.specs.Ledger.{none}
@@ -31,8 +31,7 @@ use Rattle.certificate_numbers.specs.Told.{Masks, found_as}
 use Rattle.stakes.specs.declared.LentTable.{LentTable}
 use Rattle.stakes.specs.declared.Weighed.{Weighed}
 use Rattle.stakes.specs.Table.{Fit, weighed}
-use Rattle.certificates.specs.Told.{Wide, told, told_of, fault_of, unless, weighed_in}
-use Rattle.rulebook.specs.declared.Accepted.{Accepted}
+use Rattle.certificates.specs.Told.{Wide, told, told_of, weighed_in}
 use Rattle.rulebook.specs.declared.Unread.{Unread}
 use Rattle.rulebook.specs.declared.Unread.TheVariants.{Early, Malformed}
 
@@ -105,47 +104,37 @@ weighed_told ws k c e w q next r =
 pub kind_heard : (ws : List ℕ) (t : LentTable) → Fit ws t → (k : CertificateKind) (n : ℕ) → k ≡ kind_in t.count n → k ≡ kind_in (length ws) n
 kind_heard ws t f k n e = e ∙ ap (λ (x : ℕ). kind_in x n) f.count
 
--- A kind that is none of the table's five.
-pub other_kind : (ws : List ℕ) (k : CertificateKind) (c : Certificate) (next : ℕ) → k ≡ kind_in (length ws) c.kind → is_other_kind k ≡ true
-    → Err refusal.BadKind ≡ told_of ws c next
-unfolding told_of judge judge_kind refuse_if judged told
-other_kind ws k c next e o = rw (ap is_other_kind (sym e) ∙ o)
+module _ (ws : List ℕ) (k : CertificateKind) (c : Certificate) (next : ℕ) (e : k ≡ kind_in (length ws) c.kind) where
+  -- 4: a kind that is none of the table's five.
+  pub other_kind : is_other_kind k ≡ true → Err refusal.BadKind ≡ told_of ws c next
+  unfolding told_of judge judge_kind refuse_if judged told
+  other_kind o = rw (← e, o)
 
--- The later tests, and the weighing last.
-fault_then : (ws : List ℕ) (c : Certificate) (next : ℕ) (b d f : Bool) (last : Result ⊤ Refusal)
-    → told ws (judged (refuse_if b refusal.BadSlot (refuse_if d refusal.BadBlock (refuse_if f refusal.BadSigners last))) c next)
-    ≡ unless (fault_of b d f) (told ws (judged last c next))
-unfolding fault_of unless refuse_if judged told
-fault_then ws c next true d f last = refl
-fault_then ws c next false true f last = refl
-fault_then ws c next false false true last = refl
-fault_then ws c next false false false last = refl
+  module _ (known : is_other_kind k ≡ false) where
+    -- 3.
+    pub odd_slot : slot_ok c.slot ≡ false → Err refusal.BadSlot ≡ told_of ws c next
+    unfolding told_of judge judge_kind refuse_if judged told
+    odd_slot s = rw (← e, known, s)
 
-pub unless_fine : (v : Result ⊤ Refusal) (x : Result (Accepted × ℕ) Refusal) → v ≡ Ok tt → unless v x ≡ x
-unfolding unless
-unless_fine v x e = rw e
+    module _ (slot : slot_ok c.slot ≡ true) where
+      -- 5.
+      pub odd_block : block_misfits k c.block ≡ true → Err refusal.BadBlock ≡ told_of ws c next
+      unfolding told_of judge judge_kind refuse_if judged told
+      odd_block b = rw (← e, known, slot, b)
 
-pub unless_refused : (v : Result ⊤ Refusal) (x : Result (Accepted × ℕ) Refusal) (r : Refusal) → v ≡ Err r → unless v x ≡ Err r
-unfolding unless
-unless_refused v x r e = rw e
+      module _ (block : block_misfits k c.block ≡ false) (count : ℕ) (n : count ≡ length ws) where
+        masks_as : (b : Bool) → bad_signers count k c ≡ b → bad_signers (length ws) k c ≡ b
+        masks_as b m = ap (λ (i : ℕ). bad_signers i k c) (sym n) ∙ m
 
-pub fault_same : (b d f y z w : Bool) → b ≡ y → d ≡ z → f ≡ w → (v : Result ⊤ Refusal) → v ≡ fault_of (not b) d f → v ≡ fault_of (not y) z w
-fault_same b d f y z w q r s v e = e ∙ rw (q, r, s)
+        -- 14.
+        pub odd_masks : bad_signers count k c ≡ true → Err refusal.BadSigners ≡ told_of ws c next
+        unfolding told_of judge judge_kind refuse_if judged told
+        odd_masks m = rw (← e, known, slot, block, masks_as true m)
 
-pub judge_is : (ws : List ℕ) (t : LentTable) → Fit ws t → (k : CertificateKind) (c : Certificate) (next : ℕ) → k ≡ kind_in (length ws) c.kind → is_other_kind k ≡ false
-    → (v : Result ⊤ Refusal) → v ≡ fault_of (not (slot_ok c.slot)) (block_misfits k c.block) (bad_signers t.count k c)
-    → told_of ws c next ≡ unless v (weighed_in ws k c next)
-unfolding told_of judge judge_kind refuse_if weighed_in
-judge_is ws t f k c next e o v h =
-    let last = judge_weight ws k c in
-    ap (λ (x : CertificateKind). told ws (judged (judge_kind ws x c) c next)) (sym e)
-    ∙ ap (λ (x : Bool). told ws (judged (refuse_if x refusal.BadKind (later_tests last)) c next)) o
-    ∙ fault_then ws c next (not (slot_ok c.slot)) (block_misfits k c.block) (bad_signers (length ws) k c) last
-    ∙ ap (λ (x : Result ⊤ Refusal). unless x (told ws (judged last c next)))
-    (ap (λ (n : ℕ). fault_of (not (slot_ok c.slot)) (block_misfits k c.block) (bad_signers n k c)) (sym f.count) ∙ sym h)
-  where
-    later_tests : Result ⊤ Refusal → Result ⊤ Refusal
-    later_tests last = refuse_if (not (slot_ok c.slot)) refusal.BadSlot (refuse_if (block_misfits k c.block) refusal.BadBlock (refuse_if (bad_signers (length ws) k c) refusal.BadSigners last))
+        -- Then the weight decides.
+        pub weight_left : bad_signers count k c ≡ false → weighed_in ws k c next ≡ told_of ws c next
+        unfolding told_of judge judge_kind refuse_if judged weighed_in
+        weight_left m = rw (← e, known, slot, block, masks_as false m)
 
 -- ---- a certificate that a record keeps
 
@@ -198,18 +187,14 @@ some_named_lem (suc m) = le-leb 1 (suc m) (omega arith) ∙ sym (ap not (ne_eqb 
 
 -- ---- what was found
 
-module _ (ws x y : List ℕ) (f : Result (Heading × ℕ) Unread) (c : found.Found) (e : found_as f x y ≡ c) where
-  pub found_early : f ≡ Err Early → Err refusal.BadLength ≡ told ws (one_of ws c)
-  unfolding found_as one_of told
-  found_early q = ap (λ (z : Result (Heading × ℕ) Unread). told ws (one_of ws (found_as z x y))) (sym q) ∙ ap (λ (z : found.Found). told ws (one_of ws z)) e
+module _ (ws x y : List ℕ) (c : found.Found) where
+  pub found_unread : (u : Unread) → found_as (Err u) x y ≡ c → Err (refusal_of u) ≡ told ws (one_of ws c)
+  unfolding found_as one_of told refusal_of
+  found_unread Early e = ap (λ (z : found.Found). told ws (one_of ws z)) e
+  found_unread Malformed e = ap (λ (z : found.Found). told ws (one_of ws z)) e
 
-  pub found_malformed : f ≡ Err Malformed → Err refusal.BadNumber ≡ told ws (one_of ws c)
-  unfolding found_as one_of told
-  found_malformed q = ap (λ (z : Result (Heading × ℕ) Unread). told ws (one_of ws (found_as z x y))) (sym q) ∙ ap (λ (z : found.Found). told ws (one_of ws z)) e
-
-  pub found_whole : (h : Heading) (next w : ℕ) → f ≡ Ok (h, next) → w ≡ words_in h.kind
+  pub found_whole : (h : Heading) (next w : ℕ) → found_as (Ok (h, next)) x y ≡ c → w ≡ words_in h.kind
       → told_of ws (certificate_of h (take w x) (take w y)) next ≡ told ws (one_of ws c)
   unfolding found_as one_of told_of
-  found_whole h next w q ew =
-      ap (λ (n : ℕ). told_of ws (certificate_of h (take n x) (take n y)) next) ew
-      ∙ ap (λ (z : Result (Heading × ℕ) Unread). told ws (one_of ws (found_as z x y))) (sym q) ∙ ap (λ (z : found.Found). told ws (one_of ws z)) e
+  found_whole h next w e ew =
+      ap (λ (n : ℕ). told_of ws (certificate_of h (take n x) (take n y)) next) ew ∙ ap (λ (z : found.Found). told ws (one_of ws z)) e

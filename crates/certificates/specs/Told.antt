@@ -1,12 +1,10 @@
 -- What is told of one certificate on lent stakes.
-use Rattle.std.specs.Prelude.{◌≡◌, Bool, true, List, ℕ, ◌*◌, ◌≤◌, length, ⊤, Result, Ok, Err}
+use Rattle.std.specs.Prelude.{◌≡◌, true, List, ℕ, ◌*◌, ◌≤◌, length, Result, Ok, Err}
 use Rattle.rulebook.specs.declared.Heading.{Heading}
 use Rattle.rulebook.specs.Certificates.{Certificate}
 use Rattle.rulebook.specs.declared.CertificateKind.{CertificateKind}
-use Rattle.rulebook.specs.declared.Refusal.TheVariants as refusal
 use Rattle.rulebook.specs.Weights.{slot_ok}
 use Rattle.rulebook.specs.PaperNumbers.{kind_in}
-use Rattle.rulebook.specs.Inputs.{refuse_if}
 use Rattle.rulebook.specs.Checker.{One, good, bad, judge_weight, judge, accepted_of, judged}
 use Rattle.stakes.specs.declared.LentTable.{LentTable}
 use Rattle.stakes.specs.Table.{Fit}
@@ -45,16 +43,6 @@ told stakes (bad r) = Err r
 
 unfoldable pub told_of : List ℕ → Certificate → ℕ → Result (Accepted × ℕ) Refusal
 told_of stakes c next = told stakes (judged (judge stakes c) c next)
-
--- The first of 3, 5, 14 that stands.
-unfoldable pub fault_of : Bool → Bool → Bool → Result ⊤ Refusal
-fault_of badSlot badBlock badMasks =
-    refuse_if badSlot refusal.BadSlot (refuse_if badBlock refusal.BadBlock (refuse_if badMasks refusal.BadSigners (Ok tt)))
-
--- A fault decides; else what is found later.
-unfoldable pub unless : Result ⊤ Refusal → Result (Accepted × ℕ) Refusal → Result (Accepted × ℕ) Refusal
-unless (Ok tt) x = x
-unless (Err r) x = Err r
 
 -- 15, the last test of a certificate.
 unfoldable pub weighed_in : List ℕ → CertificateKind → Certificate → ℕ → Result (Accepted × ℕ) Refusal

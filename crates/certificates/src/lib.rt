@@ -8,25 +8,19 @@ ghost use Rattle.rulebook.specs.Checker.{without_b, bad_signers, judge_weight, j
 ghost use Rattle.rulebook.specs.WellFormed.{is_fine};
 ghost use Rattle.stakes.specs.Table.{Fit};
 ghost use Rattle.certificate_numbers.specs.Told.{Masks};
-ghost use Rattle.certificates.specs.Told.{Wide, Heard, Weighty, Keepable, headed, told, told_of, weighed_in, fault_of};
+ghost use Rattle.certificates.specs.Told.{Wide, Heard, Weighty, Keepable, headed, told, told_of, weighed_in};
 
 use certificate_numbers::{MOST_WORDS, read_certificate, words_in};
 use kinds::{block_misfits, is_other, kind_in, slot_ok, threshold_of};
-use rulebook::{Unread, Accepted, CertificateKind, Heading, Refusal, Slot};
+use rulebook::{Accepted, CertificateKind, Heading, Refusal, Slot};
 use stakes::LentTable;
 
 // Mask B must be 0.
+#[tactic(auto, unfolding(rulebook::specs::Checker::without_b))]
 fn without_b(k: CertificateKind) -> bool
     ensures { result ≡ without_b k }
 {
-    match k {
-        CertificateKind::FastFinal => true,
-        CertificateKind::Notar => true,
-        CertificateKind::NotarFallback => false,
-        CertificateKind::Skip => false,
-        CertificateKind::Final => true,
-        CertificateKind::Other => true,
-    }
+    !matches!(k, CertificateKind::NotarFallback | CertificateKind::Skip)
 }
 
 // 14: a signer beyond the table, in both masks, or mask B used where 0 is due.
@@ -53,45 +47,33 @@ fn weigh_in(
     requires { Heard stakes.now t k c a.now b.now }
     ensures { result ≡ weighed_in stakes.now k (certificate_of c a.now b.now) next }
 {
-    let total = t.total;
-    let w = stakes::weigh_of(stakes, total, a, b);
-    let weight = w.weight;
+    let w = stakes::weigh_of(stakes, t.total, a, b);
     let needed = threshold_of(k);
-    let missing = needed.missing(weight, total);
+    let missing = needed.missing(w.weight, t.total);
     if missing.0 != 0 {
         return Err(Refusal::TooLight(missing));
     }
-    let slot = c.slot;
     Ok((
         Accepted {
             kind: k,
-            slot,
+            slot: c.slot,
             block: c.block,
             signers: w.signers,
-            weight,
+            weight: w.weight,
         },
         next,
     ))
 }
 
-// The first of 3, 5, 14 that stands, where it is found wrong in slot, block or masks.
-fn first_fault(slot: bool, block: bool, masks: bool) -> Result<(), Refusal>
-    ensures { result ≡ fault_of slot block masks }
-{
-    if slot {
-        return Err(Refusal::BadSlot);
-    }
-    if block {
-        return Err(Refusal::BadBlock);
-    }
-    if masks {
-        return Err(Refusal::BadSigners);
-    }
-    Ok(())
-}
-
 // 4, 3, 5, 14, 15, in this order, once the numbers are read; past 4 the masks have words for every node of the table.
-fn judge(stakes: &[u64], t: LentTable, c: Heading, a: &[u64], b: &[u64], next: usize) -> Result<(Accepted, usize), Refusal>
+fn judge(
+    stakes: &[u64],
+    t: LentTable,
+    c: Heading,
+    a: &[u64],
+    b: &[u64],
+    next: usize,
+) -> Result<(Accepted, usize), Refusal>
     requires { (Fit stakes.now t) × Masks c a.now b.now }
     ensures { result ≡ told_of stakes.now (certificate_of c a.now b.now) next }
 {
@@ -99,32 +81,33 @@ fn judge(stakes: &[u64], t: LentTable, c: Heading, a: &[u64], b: &[u64], next: u
     if is_other(k) {
         return Err(Refusal::BadKind);
     }
-    let slot = !slot_ok(c.slot);
-    let block = block_misfits(k, c.block);
-    let masks = bad_signers(t.count, k, a, b);
-    let fault = first_fault(slot, block, masks);
-    match fault {
-        Err(r) => Err(r),
-        Ok(()) => weigh_in(stakes, t, k, c, a, b, next),
+    if !slot_ok(c.slot) {
+        return Err(Refusal::BadSlot);
     }
+    if block_misfits(k, c.block) {
+        return Err(Refusal::BadBlock);
+    }
+    if bad_signers(t.count, k, a, b) {
+        return Err(Refusal::BadSigners);
+    }
+    weigh_in(stakes, t, k, c, a, b, next)
 }
 
 // The certificate at a place of the packet, read and judged; its masks stand in words of which as many are lent on as its kind says.
-pub fn one_at(stakes: &[u64], t: LentTable, packet: &[u8], at: usize) -> Result<(Accepted, usize), Refusal>
+pub fn one_at(
+    stakes: &[u64],
+    t: LentTable,
+    packet: &[u8],
+    at: usize,
+) -> Result<(Accepted, usize), Refusal>
     requires { Fit stakes.now t }
     ensures { result ≡ told stakes.now (one_at stakes.now packet.now at) }
 {
     let mut a = [0u64; MOST_WORDS];
     let mut b = [0u64; MOST_WORDS];
-    let found = read_certificate(packet, at, &mut a, &mut b);
-    match found {
-        Err(Unread::Early) => Err(Refusal::BadLength),
-        Err(Unread::Malformed) => Err(Refusal::BadNumber),
-        Ok((c, next)) => {
-            let words = words_in(c.kind);
-            judge(stakes, t, c, &a[..words], &b[..words], next)
-        }
-    }
+    let (c, next) = read_certificate(packet, at, &mut a, &mut b)?;
+    let words = words_in(c.kind);
+    judge(stakes, t, c, &a[..words], &b[..words], next)
 }
 
 // Whether the signers of two masks reach the threshold of a kind.
@@ -132,10 +115,9 @@ fn weighs_enough(stakes: &[u64], t: LentTable, k: CertificateKind, a: &[u64], b:
     requires { Weighty stakes.now t a.now b.now }
     ensures { (c : Heading) → result ≡ is_fine (judge_weight stakes.now k (certificate_of c a.now b.now)) }
 {
-    let total = t.total;
-    let signed = stakes::weigh_of(stakes, total, a, b);
+    let signed = stakes::weigh_of(stakes, t.total, a, b);
     let due = threshold_of(k);
-    let lacking = due.missing(signed.weight, total);
+    let lacking = due.missing(signed.weight, t.total);
     lacking.0 == 0
 }
 
