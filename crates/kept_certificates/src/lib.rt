@@ -5,15 +5,30 @@ ghost use Rattle.std.specs.Prelude.{◌≡◌, ◌+◌, ◌≤◌, not, length, 
 ghost use Rattle.std.proofs.lemmas.List.Edits.{sets};
 ghost use Rattle.rulebook.specs.Packets.{joined};
 ghost use Rattle.rulebook.specs.Ledger.{none, places, is_kept, certificates_at, put_certificates};
+ghost use Rattle.rulebook.specs.Pool.{place_kind};
 ghost use Rattle.rulebook.specs.WellFormed.{each_kept, kept_blank};
 ghost use Rattle.record.specs.Layout.{mask_words, InSlot, InKept, ledger_of};
 ghost use Rattle.kept_certificates.specs.Kept.{place_at, all_none, Lent, Within, Storing};
 
 use record::{MOST_CERTIFICATES, kept_start, mask_words, places_in};
-use rulebook::Slot;
+use rulebook::{CertificateKind, Slot};
 
 // The words of a slot's places where masks have one word.
 const FEW_WORDS: usize = MOST_CERTIFICATES * 3;
+
+// The kind of one of a slot's places: 1, 2, 4, 5, then 3.
+#[tactic(auto, unfolding(rulebook::specs::Pool::place_kind))]
+pub fn place_kind(n: usize) -> CertificateKind
+    ensures { result ≡ place_kind n }
+{
+    match n {
+        0 => CertificateKind::FastFinal,
+        1 => CertificateKind::Notar,
+        2 => CertificateKind::Skip,
+        3 => CertificateKind::Final,
+        _ => CertificateKind::NotarFallback,
+    }
+}
 
 // The block of the certificate in one of a slot's places; 0 where none is kept, and for kinds that have none.
 pub fn block_at(rec: &[u64], s: Slot, n: usize) -> u64

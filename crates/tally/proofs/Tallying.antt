@@ -1,37 +1,13 @@
--- A card with what a vote adds, by which of the two claims leads; what a vote adds is light. Assumes nothing.
+-- What a vote adds is light, and hangs on its block's weight for a notar vote alone. Assumes nothing.
 use mathlib.Core.Path.{◌≡◌, refl}
-use mathlib.Core.Bool.{true, false}
-use Prim.Native.Nat.{ℕ, ◌+◌, ◌≤◌, ◌^◌}
+use Prim.Native.Nat.{ℕ, ◌≤◌, ◌^◌}
 use native.Mathlib.Omega.{arith}
 use Rattle.rulebook.specs.declared.Cell.{Cell}
-use Rattle.rulebook.specs.declared.Tally.{Tally}
 use Rattle.rulebook.specs.declared.VoteKind.{VoteKind}
 use Rattle.rulebook.specs.declared.VoteKind.TheVariants as vote
 use Rattle.rulebook.specs.Ledger.{none}
-use Rattle.rulebook.specs.Cards.{leads, tallied, Light, adds}
-use Rattle.rule_laws.proofs.ToolLaws.{choose_on, choose_off, part_le}
-
--- The three sums, and a leader with its weight.
-abbrev pub added : Tally → Tally → ℕ → ℕ → Tally
-added t d b w =
-    record {
-      skip = record { 0 = t.skip.0 + d.skip.0 };
-      finals = record { 0 = t.finals.0 + d.finals.0 };
-      skipcert = record { 0 = t.skipcert.0 + d.skipcert.0 };
-      leader = b;
-      weight = record { 0 = w };
-    }
-
-module _ (t d : Tally) (b w : ℕ) where
-  pub new_leads : leads d.leader d.weight.0 t.leader t.weight.0 ≡ true → b ≡ d.leader → w ≡ d.weight.0
-      → added t d b w ≡ tallied t d
-  unfolding tallied
-  new_leads e p q = rw (choose_on _ d.leader t.leader e, choose_on _ d.weight.0 t.weight.0 e, p, q)
-
-  pub old_leads : leads d.leader d.weight.0 t.leader t.weight.0 ≡ false → b ≡ t.leader → w ≡ t.weight.0
-      → added t d b w ≡ tallied t d
-  unfolding tallied
-  old_leads e p q = rw (choose_off _ d.leader t.leader e, choose_off _ d.weight.0 t.weight.0 e, p, q)
+use Rattle.rulebook.specs.Cards.{Light, adds}
+use Rattle.rule_laws.proofs.ToolLaws.{part_le}
 
 -- What a vote adds is light where the stake is.
 pub adds_light : (c : Cell) (k : VoteKind) (b w v : ℕ) → w ≤ 2 ^ 48 → Light (adds c k b w v)
