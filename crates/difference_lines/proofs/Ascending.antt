@@ -1,13 +1,13 @@
 -- The numbers of a list above another, ascending: which they are. Assumes nothing.
-use mathlib.Core.Path.{◌≡◌, refl, sym, ap, ◌∙◌}
+use mathlib.Core.Path.{◌≡◌, refl, ap, ◌∙◌}
 use mathlib.Core.Bool.{Bool, true, false, not, ◌&&◌, ◌||◌}
 use mathlib.Core.List.{List, [], ◌∷◌}
 use Prim.Native.Nat.{ℕ, zero, suc, ◌+◌, ◌≤◌, ◌<◌}
 use native.Mathlib.Omega.{arith}
 use lib.ListN.{length}
 use lib.Dec.{eqb, ltb}
-use borrow.Author.Tests.{eq-eqb, ne_eqb, eqb-true, eqb-false, ltb-true, ltb-false, lt-ltb, le-ltb, not-true, not-false}
-use Rattle.rulebook.specs.Tools.{whenever, part, any_of, lower, lowest}
+use borrow.Author.Tests.{eqb-true, eqb-false, ltb-true, lt-ltb, le-ltb}
+use Rattle.rulebook.specs.Tools.{part, any_of, lower, lowest}
 use Rattle.rulebook.specs.Ledger.{none}
 use Rattle.rule_laws.proofs.ToolLaws.{given_on, given_off, by_test, and_both, both_and, or_cases, or_left, or_right, true_not_false, same_test, part_on, part_off, part_mono}
 use Rattle.rule_laws.proofs.LowestLaws.{lower_cases, lower_off, low_find}

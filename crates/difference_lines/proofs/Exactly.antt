@@ -2,7 +2,7 @@
 use mathlib.Core.Path.{◌≡◌, refl, sym, ap, ap₂, ◌∙◌}
 use mathlib.Core.Bool.{Bool, true, false, not, ◌&&◌, ◌||◌}
 use mathlib.Core.List.{List, [], ◌∷◌, ◌++◌}
-use Prim.Native.Nat.{ℕ, zero, suc, ◌+◌, ◌≤◌, ◌<◌}
+use Prim.Native.Nat.{ℕ, zero, suc, ◌≤◌}
 use native.Mathlib.Omega.{arith}
 use lib.Dec.{eqb, leb, ltb}
 use lib.ListN.{length}
@@ -11,14 +11,14 @@ use Rattle.rulebook.specs.declared.Cell.{Cell}
 use Rattle.rulebook.specs.declared.Vote.{Vote}
 use Rattle.rulebook.specs.declared.VoteKind.{VoteKind}
 use Rattle.rulebook.specs.declared.VoteKind.TheVariants as vote
-use Rattle.rulebook.specs.Tools.{whenever, any_of, some_to}
+use Rattle.rulebook.specs.Tools.{any_of, some_to}
 use Rattle.rulebook.specs.Weights.{last_slot, slot_ok}
 use Rattle.rulebook.specs.PaperNumbers.{vote_number}
 use Rattle.rulebook.specs.Ledger.{Ledger, none, no_initial, cell_at}
 use Rattle.rulebook.specs.Pool.{has_fallback}
 use Rattle.rulebook.specs.Votes.{place_if, place_of}
 use Rattle.rulebook.specs.Inputs.{misfits}
-use Rattle.rule_laws.proofs.ToolLaws.{given_on, by_test, and_both, both_and, or_cases, or_left, or_right, true_not_false, same_test, some_at, some_find}
+use Rattle.rule_laws.proofs.ToolLaws.{given_on, and_both, both_and, or_cases, or_left, or_right, true_not_false, same_test, some_at, some_find}
 use Rattle.difference_lines.specs.declared.Side.{Side}
 use Rattle.difference_lines.specs.declared.Side.TheVariants as side
 use Rattle.difference_lines.specs.Lines.{Line, side_number, is_same, keeps, stores, vote_at, line_of, vote_line, blocks_of, most_named, ascending, lines_over, block_lines, cell_lines, lines_to, node_lines, slot_lines, vote_lines, same_tables, tables_line, differences}

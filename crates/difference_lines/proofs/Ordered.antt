@@ -2,7 +2,7 @@
 use mathlib.Core.Path.{◌≡◌, refl, sym, ap, ◌∙◌}
 use mathlib.Core.Bool.{Bool, true, false, not, ◌&&◌, ◌||◌}
 use mathlib.Core.List.{List, [], ◌∷◌, ◌++◌}
-use Prim.Native.Nat.{ℕ, zero, suc, ◌+◌, ◌≤◌, ◌<◌}
+use Prim.Native.Nat.{ℕ, zero, suc, ◌≤◌, ◌<◌}
 use native.Mathlib.Omega.{arith}
 use lib.Dec.{eqb, ltb}
 use borrow.Author.Tests.{eq-eqb, lt-ltb, ltb-true, eqb-false}
@@ -10,11 +10,11 @@ use Rattle.rulebook.specs.declared.Cell.{Cell}
 use Rattle.rulebook.specs.declared.Vote.{Vote}
 use Rattle.rulebook.specs.declared.VoteKind.{VoteKind}
 use Rattle.rulebook.specs.declared.VoteKind.TheVariants as vote
-use Rattle.rulebook.specs.Tools.{whenever, lowest}
+use Rattle.rulebook.specs.Tools.{lowest}
 use Rattle.rulebook.specs.Weights.{last_slot}
 use Rattle.rulebook.specs.PaperNumbers.{vote_number}
 use Rattle.rulebook.specs.Ledger.{Ledger, none, cell_at}
-use Rattle.rule_laws.proofs.ToolLaws.{given_on, given_off, given_keeps, by_test, both_and, and_both, or_left, or_right}
+use Rattle.rule_laws.proofs.ToolLaws.{given_keeps, both_and, and_both, or_left, or_right}
 use Rattle.rule_laws.proofs.LowestLaws.{low_find}
 use Rattle.difference_lines.specs.Lines.{Line, vote_at, keeps, line_of, vote_line, blocks_of, most_named, ascending, lines_over, block_lines, cell_lines, lines_to, node_lines, slot_lines, vote_lines, same_tables, tables_line, differences}
 use Rattle.difference_lines.specs.Promises.{comes_before, before_all, ascends, InOrder}

@@ -9,7 +9,7 @@ use Rattle.rulebook.specs.Rules.{is_final}
 use Rattle.rulebook.specs.Inputs.{start_verdict}
 use Rattle.rulebook.specs.Scripts.{vote, block, timeout, look}
 use Rattle.rulebook.specs.Taking.{Arrival}
-use Rattle.safety.specs.Slot.{notar, final}
+use Rattle.safety.specs.Slot.{notar}
 use Rattle.safety.specs.Ballots.{has}
 use Rattle.safety.specs.Ring.{cast_by, FewOthers, Ring}
 use Rattle.safety.specs.Examples.{inputs}

@@ -15,9 +15,9 @@ use Rattle.rulebook.specs.Ledger.{Ledger, no_kept, cell_at, own_cell, certificat
 use Rattle.rulebook.specs.Pool.{place_kind}
 use Rattle.rulebook.specs.Packets.{certificate_at, bit}
 use Rattle.rulebook.specs.Checker.{without_b}
-use Rattle.rulebook.specs.WellFormed.{kept_in, each_kept}
+use Rattle.rulebook.specs.WellFormed.{kept_in}
 use Rattle.rule_laws.proofs.KeptPlaceLaws.{each_index}
-use Rattle.safety.specs.Slot.{Ballot, notar, notar_fallback, skip, skip_fallback, final}
+use Rattle.safety.specs.Slot.{notar, notar_fallback, skip, skip_fallback, final}
 use Rattle.safety.specs.Ballots.{has}
 use Rattle.safety.specs.Ring.{ballot_a, ballot_b}
 use Rattle.inquest.specs.declared.Line.{Line}

@@ -26,9 +26,9 @@ use Rattle.recounting.proofs.Leading.{Lead, lead_one, lead_recount, lead_same, b
 -- A free place: not the very vote, and room.
 pub place_free : (same room : Bool) → place_if same room ≡ Free → (same ≡ false) × (room ≡ true)
 unfolding place_if
-place_free true room e = let z : ◌≡◌ {A = ℕ} 0 1 = cc in absurd (omega arith)
+place_free true room e = absurd cc
 place_free false true e = (refl, refl)
-place_free false false e = let z : ◌≡◌ {A = ℕ} 0 1 = cc in absurd (omega arith)
+place_free false false e = absurd cc
 
 -- l' is l with node n's vote stored in slot s, in a free place. Only the slot's cells, the count and the stakes matter, so this
 -- says nothing of how a ledger is built: whatever else a row keeps, a card too, may have changed.
@@ -213,7 +213,7 @@ module _ (l l' : Ledger) (s n b : ℕ) where
 
   store_other : Stored l l' s n vote.Other b → recount l' s ≡ tallied (recount l s) (change_of l s n vote.Other b)
   unfolding place_of
-  store_other h = let e = h.free in let z : ◌≡◌ {A = ℕ} 0 1 = cc in absurd (omega arith)
+  store_other h = let e = h.free in absurd cc
 
 -- "At every moment it equals what a recount of the stored votes gives": the step, for every kind.
 pub recount_stored : (l l' : Ledger) (s n : ℕ) (k : VoteKind) (b : ℕ) → Stored l l' s n k b → recount l' s ≡ tallied (recount l s) (change_of l s n k b)

@@ -62,7 +62,7 @@ serves_cases j k e same two three third =
 -- A place of which the test holds, where it holds of some.
 pub some_place : (p : ℕ → Kept → Bool) (i : ℕ) (qs : List Kept) → some_kept p i qs ≡ true → (n : ℕ) × (is_kept (get_or qs n no_kept) ≡ true) × (p (i + n) (get_or qs n no_kept) ≡ true)
 unfolding some_kept
-some_place p i [] e = let z : ◌≡◌ {A = ℕ} 0 1 = cc in absurd (omega arith)
+some_place p i [] e = absurd cc
 some_place p i (q ∷ qs) e =
     or_cases (whenever (is_kept q) (λ _. p i q) false) (some_kept p (suc i) qs) e
     (λ t. let a = given_both (is_kept q) (λ _. p i q) t in (0, a.0, subst (λ (j : ℕ). p j q ≡ true) (omega arith) a.1))
@@ -70,7 +70,7 @@ some_place p i (q ∷ qs) e =
 
 pub place_some : (p : ℕ → Kept → Bool) (i : ℕ) (qs : List Kept) (n : ℕ) → is_kept (get_or qs n no_kept) ≡ true → p (i + n) (get_or qs n no_kept) ≡ true → some_kept p i qs ≡ true
 unfolding some_kept
-place_some p i [] n k e = let z : ◌≡◌ {A = ℕ} 0 1 = cc in absurd (omega arith)
+place_some p i [] n k e = absurd cc
 place_some p i (q ∷ qs) zero k e =
     or_left (whenever (is_kept q) (λ _. p i q) false) (some_kept p (suc i) qs)
     (given_on (is_kept q) false (λ _. p i q) k ∙ subst (λ (j : ℕ). p j q ≡ true) (omega arith) e)
@@ -89,7 +89,7 @@ each_at p i (q ∷ qs) (suc n) h e =
 
 -- Past the places nothing is kept.
 pub kept_within : (qs : List Kept) (n : ℕ) → is_kept (get_or qs n no_kept) ≡ true → n < length qs
-kept_within [] n e = let z : ◌≡◌ {A = ℕ} 0 1 = cc in absurd (omega arith)
+kept_within [] n e = absurd cc
 kept_within (q ∷ qs) zero e = omega arith
 kept_within (q ∷ qs) (suc n) e = omega (arith, kept_within qs n e)
 
@@ -108,7 +108,7 @@ no_room k i (q ∷ qs) (suc n) h e s =
 pub apart_at_lem : (i : ℕ) (qs : List Kept) (m n : ℕ) → m < n → certificates_apart i qs ≡ true → is_kept (get_or qs n no_kept) ≡ true
     → same_kind (place_kind (i + m)) (place_kind (i + n)) ≡ true → in_turn (get_or qs m no_kept) (get_or qs n no_kept) ≡ true
 unfolding certificates_apart
-apart_at_lem i [] m n h e k s = let z : ◌≡◌ {A = ℕ} 0 1 = cc in absurd (omega arith)
+apart_at_lem i [] m n h e k s = absurd cc
 apart_at_lem i (q ∷ qs) m zero h e k s = absurd (omega arith)
 apart_at_lem i (q ∷ qs) zero (suc n) h e k s =
     let test : ℕ → Kept → Bool = λ j r. whenever (is_kept r && same_kind (place_kind i) (place_kind j)) (λ _. in_turn q r) true in
@@ -255,7 +255,7 @@ fill_kept_apart k i p (q ∷ qs) d e =
 pub find_place : (j : CertificateKind) (b i : ℕ) (qs : List Kept) → is_kept (find_kept j b i qs) ≡ true
     → (n : ℕ) × (get_or qs n no_kept ≡ find_kept j b i qs) × (place_kind (i + n) ≡ j) × ((find_kept j b i qs).block ≡ b)
 unfolding find_kept choose
-find_place j b i [] e = let z : ◌≡◌ {A = ℕ} 0 1 = cc in absurd (omega arith)
+find_place j b i [] e = absurd cc
 find_place j b i (q ∷ qs) e = go (is_kept q && (same_kind (place_kind i) j && eqb q.block b)) refl (find_place j b (suc i) qs) e
   where
     go : (z : Bool) → (is_kept q && (same_kind (place_kind i) j && eqb q.block b)) ≡ z
@@ -273,7 +273,7 @@ find_place j b i (q ∷ qs) e = go (is_kept q && (same_kind (place_kind i) j && 
 pub find_some : (j : CertificateKind) (b i : ℕ) (qs : List Kept) (n : ℕ) → is_kept (get_or qs n no_kept) ≡ true → place_kind (i + n) ≡ j → (get_or qs n no_kept).block ≡ b
     → is_kept (find_kept j b i qs) ≡ true
 unfolding find_kept choose
-find_some j b i [] n k p e = let z : ◌≡◌ {A = ℕ} 0 1 = cc in absurd (omega arith)
+find_some j b i [] n k p e = absurd cc
 find_some j b i (q ∷ qs) n k p e = go (is_kept q && (same_kind (place_kind i) j && eqb q.block b)) refl (find_some j b (suc i) qs) n k p e
   where
     go : (z : Bool) → (is_kept q && (same_kind (place_kind i) j && eqb q.block b)) ≡ z

@@ -9,13 +9,13 @@ use lib.Dec.{eqb}
 use borrow.Author.Tests.{not-true}
 use Rattle.rulebook.specs.declared.CertificateKind.{CertificateKind}
 use Rattle.rulebook.specs.Certificates.{Kept}
-use Rattle.rulebook.specs.Tools.{choose, whenever, all_to, some_to}
+use Rattle.rulebook.specs.Tools.{whenever, all_to, some_to}
 use Rattle.rulebook.specs.Ledger.{no_kept, is_kept}
 use Rattle.rulebook.specs.Pool.{place_kind, same_kind, some_kept, named, kept_names}
 use Rattle.rulebook.specs.Taking.{is_room, has_room, fill_kept}
 use Rattle.rulebook.specs.Writers.{find_kept}
 use Rattle.rulebook.specs.WellFormed.{each_kept, in_turn, certificates_apart}
-use Rattle.rule_laws.proofs.ToolLaws.{choose_on, choose_off, given_on, given_off, and_both, both_and, or_left, or_right, or_cases, by_test, true_not_false, same_test, all_at, all_each, some_at, some_find}
+use Rattle.rule_laws.proofs.ToolLaws.{choose_on, choose_off, given_on, given_off, and_both, both_and, or_cases, by_test, true_not_false, same_test, all_at, all_each, some_at, some_find}
 use Rattle.rule_laws.proofs.CertificateLaws.{some_place, place_some, each_at, kept_within, no_room, apart_at_lem}
 
 -- Counted from place 0.
@@ -56,7 +56,7 @@ each_index p qs =
 
 room_place : (k : CertificateKind) (i : ℕ) (qs : List Kept) → has_room k i qs ≡ true → (n : ℕ) × (n < length qs) × (is_room k (i + n) (get_or qs n no_kept) ≡ true)
 unfolding has_room
-room_place k i [] e = let z : ◌≡◌ {A = ℕ} 0 1 = cc in absurd (omega arith)
+room_place k i [] e = absurd cc
 room_place k i (q ∷ qs) e =
     or_cases (is_room k i q) (has_room k (suc i) qs) e
     (λ t. (0, omega arith, subst (λ (j : ℕ). is_room k j q ≡ true) (omega arith) t))

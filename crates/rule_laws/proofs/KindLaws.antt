@@ -1,10 +1,10 @@
 -- The numbers of kinds in a table: each number stands for its kind, its masks have words for every node, its packets fit the rooms asked for.
-use mathlib.Core.Path.{◌≡◌, refl, sym, ap, ◌∙◌, subst}
+use mathlib.Core.Path.{◌≡◌, refl, sym, ◌∙◌, subst}
 use mathlib.Core.Bool.{Bool, true, false, ◌&&◌}
 use Prim.Native.Nat.{ℕ, ◌+◌, ◌-◌, ◌*◌, ◌≤◌}
 use native.Mathlib.Omega.{arith}
 use lib.Dec.{eqb, leb, ltb}
-use borrow.Author.Tests.{ltb-true, ltb-false, eqb-true}
+use borrow.Author.Tests.{ltb-false, eqb-true}
 use Rattle.rulebook.specs.declared.CertificateKind.{CertificateKind}
 use Rattle.rulebook.specs.declared.CertificateKind.TheVariants as certificate
 use Rattle.rulebook.specs.Tools.{choose, part}
@@ -32,7 +32,7 @@ kind_back count k =
     let e : (certificate_number k + family count) - family count ≡ certificate_number k = omega arith in rw e (old_back k)
 
 no_other : {X : Type 0} → true ≡ false → X
-no_other e = let z : ◌≡◌ {A = ℕ} 0 1 = cc in absurd (omega arith)
+no_other e = absurd cc
 
 -- One of the numbers 1 to 5, or none of them.
 old_pick : (n j : ℕ) (k rest : CertificateKind) → certificate_number k ≡ j → (is_other_kind rest ≡ false → certificate_number rest ≡ n)
@@ -60,7 +60,7 @@ old_some certificate.Notar o = omega arith
 old_some certificate.NotarFallback o = omega arith
 old_some certificate.Skip o = omega arith
 old_some certificate.Final o = omega arith
-old_some certificate.Other o = let z : ◌≡◌ {A = ℕ} 0 1 = cc in absurd (omega arith)
+old_some certificate.Other o = absurd cc
 
 -- Where 4 is not answered, a number is that of the kind it stands for.
 pub number_back : (count n : ℕ) → is_other_kind (kind_in count n) ≡ false → number_in count (kind_in count n) ≡ n
@@ -115,13 +115,13 @@ kind_words count k o h = go (ltb 64 count) refl k o
     go true e certificate.NotarFallback o = omega arith
     go true e certificate.Skip o = omega arith
     go true e certificate.Final o = omega arith
-    go true e certificate.Other o = let z : ◌≡◌ {A = ℕ} 0 1 = cc in absurd (omega arith)
+    go true e certificate.Other o = absurd cc
     go false e certificate.FastFinal o = omega (arith, ltb-false 64 count e)
     go false e certificate.Notar o = omega (arith, ltb-false 64 count e)
     go false e certificate.NotarFallback o = omega (arith, ltb-false 64 count e)
     go false e certificate.Skip o = omega (arith, ltb-false 64 count e)
     go false e certificate.Final o = omega (arith, ltb-false 64 count e)
-    go false e certificate.Other o = let z : ◌≡◌ {A = ℕ} 0 1 = cc in absurd (omega arith)
+    go false e certificate.Other o = absurd cc
 
 pub table_words : (count kind : ℕ) → is_other_kind (kind_in count kind) ≡ false → count ≤ most_nodes → count ≤ 64 * words_in kind
 table_words count kind o h =

@@ -352,16 +352,16 @@ seven_of_kind_three stakes genesis honest fed ring s cs all apart =
 -- 8 says that the certificate is no repeat, and that no place is free for it.
 eight_says : (a b : Bool) → refuse_if a refusal.AlreadyKept (refuse_if (not b) refusal.OtherStands (Ok tt)) ≡ Err refusal.OtherStands → (a ≡ false) × (b ≡ false)
 unfolding refuse_if
-eight_says true b e = let z : ◌≡◌ {A = ℕ} 0 1 = cc in absurd (omega arith)
-eight_says false true e = let z : ◌≡◌ {A = ℕ} 0 1 = cc in absurd (omega arith)
+eight_says true b e = absurd cc
+eight_says false true e = absurd cc
 eight_says false false e = (refl, refl)
 
 -- 17 and 9 are not 8.
 past_both : (a b : Bool) (l : Ledger) (packet : List ℕ) → (whenever a (λ _. whenever b (λ _. take_packet l packet) (refused_with l refusal.NoRoom)) (refused_with l refusal.BadRecord)).answer ≡ Err refusal.OtherStands
     → (a ≡ true) × ((take_packet l packet).answer ≡ Err refusal.OtherStands)
 unfolding whenever refused_with
-past_both false b l packet e = let z : ◌≡◌ {A = ℕ} 0 1 = cc in absurd (omega arith)
-past_both true false l packet e = let z : ◌≡◌ {A = ℕ} 0 1 = cc in absurd (omega arith)
+past_both false b l packet e = absurd cc
+past_both true false l packet e = absurd cc
 past_both true true l packet e = (refl, e)
 
 -- A node or a watcher that holds what is genuine answers 8 to no genuine certificate.

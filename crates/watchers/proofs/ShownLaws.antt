@@ -3,7 +3,6 @@ use mathlib.Core.Path.{◌≡◌, refl, sym, ap, ◌∙◌}
 use mathlib.Core.Bool.{true, false}
 use mathlib.Core.List.{List, [], ◌∷◌, ◌++◌, reverse, reverse-cons, append_assoc, append-nil}
 use Prim.Native.Nat.{ℕ}
-use native.Mathlib.Omega.{arith}
 use Rattle.rulebook.specs.declared.Cell.{Cell}
 use Rattle.rulebook.specs.declared.Input.TheVariants as input
 use Rattle.rulebook.specs.declared.Place.TheVariants.{Free}
@@ -86,7 +85,7 @@ free_kind c vote.NotarFallback b e = refl
 free_kind c vote.Skip b e = refl
 free_kind c vote.SkipFallback b e = refl
 free_kind c vote.Final b e = refl
-free_kind c vote.Other b e = let z : ◌≡◌ {A = ℕ} 0 1 = cc in absurd (omega arith)
+free_kind c vote.Other b e = absurd cc
 
 pub kind_told : (k : VoteKind) (s b : ℕ) → is_other k ≡ false → tells_vote (record_of (vote_number k) s b) ≡ true
 unfolding is_other vote_number tells_vote
@@ -95,7 +94,7 @@ kind_told vote.NotarFallback s b e = refl
 kind_told vote.Skip s b e = refl
 kind_told vote.SkipFallback s b e = refl
 kind_told vote.Final s b e = refl
-kind_told vote.Other s b e = let z : ◌≡◌ {A = ℕ} 0 1 = cc in absurd (omega arith)
+kind_told vote.Other s b e = absurd cc
 
 abbrev pub vote_of : VoteKind → ℕ → ℕ → ℕ → Vote
 vote_of k n s b = record { kind = k; node = record { 0 = n }; slot = record { 0 = s }; block = b }
@@ -107,7 +106,7 @@ kind_back vote.NotarFallback e = refl
 kind_back vote.Skip e = refl
 kind_back vote.SkipFallback e = refl
 kind_back vote.Final e = refl
-kind_back vote.Other e = let z : ◌≡◌ {A = ℕ} 0 1 = cc in absurd (omega arith)
+kind_back vote.Other e = absurd cc
 
 pub vote_told : (k : VoteKind) (n s b : ℕ) → is_other k ≡ false → vote_in n (record_of (vote_number k) s b) ≡ vote_of k n s b
 vote_told k n s b e = ap (λ (x : VoteKind). vote_of x n s b) (kind_back k e)
