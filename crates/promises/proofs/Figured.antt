@@ -133,7 +133,7 @@ weight_light : (stakes : List ℕ) (k : CertificateKind) (c : Certificate) (t : 
     → refuse_if (not t) (refusal.TooLight (record { 0 = lacking stakes k c })) (Ok tt) ≡ Err q
     → (1 ≤ refusal_missing q) × Least (fifths_of k) (total_to stakes (length stakes)) (signed_weight stakes c) (refusal_missing q)
 unfolding refuse_if refusal_missing lacking
-weight_light stakes k c true q r e = let z : ◌≡◌ {A = ℕ} 0 1 = cc in absurd (omega arith)
+weight_light stakes k c true q r e = absurd cc
 weight_light stakes k c false q r e =
     let f = fifths_of k in
     let t = total_to stakes (length stakes) in
@@ -163,7 +163,7 @@ unfolding one_of Other judged
 light_read stakes (found.Whole c n) q e f = (c, n, refl, judge_light stakes c q (go (judge stakes c) e) f)
   where
     go : (v : Result ⊤ Refusal) → judged v c n ≡ bad q → v ≡ Err q
-    go (Ok tt) d = let z : ◌≡◌ {A = ℕ} 0 1 = cc in absurd (omega arith)
+    go (Ok tt) d = absurd cc
     go (Err r) d = let g : r ≡ q = cc in ap Err g
 light_read stakes found.Early q e f = let g : refusal.BadLength ≡ q = cc in absurd (length_other (ap refusal_number g ∙ f))
 light_read stakes found.Malformed q e f = let g : refusal.BadNumber ≡ q = cc in absurd (number_other (ap refusal_number g ∙ f))
@@ -255,9 +255,9 @@ good_read stakes (found.Whole d m) c n e = go (judge stakes d) refl e
   where
     go : (v : Result ⊤ Refusal) → judge stakes d ≡ v → judged v d m ≡ good c n → (found.Whole d m ≡ found.Whole c n) × (judge stakes c ≡ Ok tt)
     go (Ok tt) j q = let p : d ≡ c = cc in let r : m ≡ n = cc in ((λ i. found.Whole (p i) (r i)), subst (λ (x : Certificate). judge stakes x ≡ Ok tt) p j)
-    go (Err r) j q = let z : ◌≡◌ {A = ℕ} 0 1 = cc in absurd (omega arith)
-good_read stakes found.Early c n e = let z : ◌≡◌ {A = ℕ} 0 1 = cc in absurd (omega arith)
-good_read stakes found.Malformed c n e = let z : ◌≡◌ {A = ℕ} 0 1 = cc in absurd (omega arith)
+    go (Err r) j q = absurd cc
+good_read stakes found.Early c n e = absurd cc
+good_read stakes found.Malformed c n e = absurd cc
 
 refused_number : (q : Refusal) → check_number (Err q) ≡ 15 → refusal_number q ≡ 15
 unfolding check_number

@@ -37,21 +37,21 @@ held_not v bytes e = rw (← e)
 written_fine : (v : Result ⊤ Refusal) (bytes : List ℕ) (n : ℕ) → (wrote_on v bytes).answer ≡ Ok n → v ≡ Ok tt
 unfolding wrote_on
 written_fine (Ok tt) bytes n e = refl
-written_fine (Err r) bytes n e = let z : ◌≡◌ {A = ℕ} 0 1 = cc in absurd (omega arith)
+written_fine (Err r) bytes n e = absurd cc
 
 not_held : (v : Result ⊤ Refusal) (bytes : List ℕ) → (wrote_on v bytes).answer ≡ Err refusal.NotHeld → v ≡ Err refusal.NotHeld
 unfolding wrote_on
-not_held (Ok tt) bytes e = let z : ◌≡◌ {A = ℕ} 0 1 = cc in absurd (omega arith)
+not_held (Ok tt) bytes e = absurd cc
 not_held (Err r) bytes e = cc
 
 -- 17 is neither.
 unsound_written : {X : Type 0} (n : ℕ) → unsound.answer ≡ Ok n → X
 unfolding unsound
-unsound_written n e = let z : ◌≡◌ {A = ℕ} 0 1 = cc in absurd (omega arith)
+unsound_written n e = absurd cc
 
 unsound_held : {X : Type 0} → unsound.answer ≡ Err refusal.NotHeld → X
 unfolding unsound
-unsound_held e = let z : ◌≡◌ {A = ℕ} 0 1 = cc in absurd (omega arith)
+unsound_held e = absurd cc
 
 -- 18 was given by the last test, so the others passed.
 later : (t : Bool) (r : Refusal) (v : Result ⊤ Refusal) → ¬ (r ≡ refusal.NotHeld) → refuse_if t r v ≡ Err refusal.NotHeld → (t ≡ false) × (v ≡ Err refusal.NotHeld)
@@ -62,19 +62,19 @@ later false r v ne e = (refl, e)
 last : (t : Bool) → refuse_if t refusal.NotHeld (Ok tt) ≡ Err refusal.NotHeld → t ≡ true
 unfolding refuse_if
 last true e = refl
-last false e = let z : ◌≡◌ {A = ℕ} 0 1 = cc in absurd (omega arith)
+last false e = absurd cc
 
 other_room : ¬ (refusal.NoRoom ≡ refusal.NotHeld)
-other_room e = let z : ◌≡◌ {A = ℕ} 0 1 = cc in absurd (omega arith)
+other_room e = absurd cc
 
 other_kind : ¬ (refusal.BadKind ≡ refusal.NotHeld)
-other_kind e = let z : ◌≡◌ {A = ℕ} 0 1 = cc in absurd (omega arith)
+other_kind e = absurd cc
 
 other_slot : ¬ (refusal.BadSlot ≡ refusal.NotHeld)
-other_slot e = let z : ◌≡◌ {A = ℕ} 0 1 = cc in absurd (omega arith)
+other_slot e = absurd cc
 
 other_block : ¬ (refusal.BadBlock ≡ refusal.NotHeld)
-other_block e = let z : ◌≡◌ {A = ℕ} 0 1 = cc in absurd (omega arith)
+other_block e = absurd cc
 
 -- ---- either writer: 17, then a verdict that is fine exactly when the question fits and what is asked for is there, and 18 exactly when
 -- the question fits and it is not

@@ -39,7 +39,7 @@ use Rattle.promises.proofs.Numbered.{start_refusal, step_refusal, write_refusal,
 
 left_found : (v : Result ⊤ Refusal) (ws stakes : List ℕ) (own genesis : ℕ) (r : Refusal) → start_answer v ≡ Err r → start_left v ws stakes own genesis ≡ ws
 unfolding start_answer start_left
-left_found (Ok tt) ws stakes own genesis r e = let z : ◌≡◌ {A = ℕ} 0 1 = cc in absurd (omega arith)
+left_found (Ok tt) ws stakes own genesis r e = absurd cc
 left_found (Err x) ws stakes own genesis r e = refl
 
 pub start_refused : StartRefused
@@ -62,7 +62,7 @@ refused_kept l x r e = (refl, refl)
 
 pub fed_kept : (l : Ledger) (i : Input) (v : Result ⊤ Refusal) → Kept l (fed_on v l i)
 unfolding fed_on fed_with
-fed_kept l i (Ok tt) r e = let z : ◌≡◌ {A = ℕ} 0 1 = cc in absurd (omega arith)
+fed_kept l i (Ok tt) r e = absurd cc
 fed_kept l i (Err x) r e = refused_kept l x r e
 
 step_kept : (l : Ledger) (room : ℕ) (i : Input) → Kept l (step l room i)
@@ -117,7 +117,7 @@ tray_refusal l x r e = let q : x ≡ r = cc in ap (tray_refused l) q
 
 tray_served_lem : (l : Ledger) (s : Served) → TrayKept l (tray_served s)
 unfolding tray_served
-tray_served_lem l s r e = let z : ◌≡◌ {A = ℕ} 0 1 = cc in absurd (omega arith)
+tray_served_lem l s r e = absurd cc
 
 tray_kept : (l : Ledger) (room places : ℕ) (votes : List ℕ) → TrayKept l (tray l room places votes)
 unfolding tray
@@ -153,7 +153,7 @@ Unwritten w = (r : Refusal) → w.answer ≡ Err r → w.bytes ≡ []
 
 wrote_unwritten : (v : Result ⊤ Refusal) (bytes : List ℕ) → Unwritten (wrote_on v bytes)
 unfolding wrote_on
-wrote_unwritten (Ok tt) bytes r e = let z : ◌≡◌ {A = ℕ} 0 1 = cc in absurd (omega arith)
+wrote_unwritten (Ok tt) bytes r e = absurd cc
 wrote_unwritten (Err x) bytes r e = refl
 
 unsound_unwritten : Unwritten unsound

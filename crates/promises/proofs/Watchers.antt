@@ -63,7 +63,7 @@ left_watches : (v : Result ⊤ Refusal) (ws stakes : List ℕ) (genesis : ℕ) (
 unfolding start_answer start_left
 left_watches (Ok tt) ws stakes genesis left e w h =
     ap (λ (x : List ℕ). is_watcher (ledger_of x)) w ∙ ap is_watcher (spelled_back (fresh stakes (length stakes) genesis) (h refl)) ∙ watches_fresh stakes genesis
-left_watches (Err r) ws stakes genesis left e w h = let z : ◌≡◌ {A = ℕ} 0 1 = cc in absurd (omega arith)
+left_watches (Err r) ws stakes genesis left e w h = absurd cc
 
 pub face_watches : FaceWatches
 unfolding watch_judged

@@ -30,13 +30,13 @@ use Rattle.readback.specs.ReadBack.{read_as, ReadsBack}
 -- Words that are not sound are not written of.
 not_unsound : {X : Type 0} (wrote : Wrote) (n : ℕ) → wrote ≡ unsound → wrote.answer ≡ Ok n → X
 unfolding unsound
-not_unsound wrote n e f = let z : ◌≡◌ {A = ℕ} 0 1 = cc in absurd (omega arith)
+not_unsound wrote n e f = absurd cc
 
 -- As many bytes were written as are answered.
 wrote_length : (v : Result ⊤ Refusal) (bytes : List ℕ) (n : ℕ) → (wrote_on v bytes).answer ≡ Ok n → n ≡ length (wrote_on v bytes).bytes
 unfolding wrote_on
 wrote_length (Ok tt) bytes n e = cc
-wrote_length (Err r) bytes n e = let z : ◌≡◌ {A = ℕ} 0 1 = cc in absurd (omega arith)
+wrote_length (Err r) bytes n e = absurd cc
 
 -- The bytes that a writer laid are a packet of their own.
 pub packet_is : (bytes buffer after : List ℕ) (n : ℕ) → after ≡ over bytes buffer → n ≡ length bytes → take (n - 0) after ≡ bytes

@@ -43,13 +43,10 @@ silent_among n [] e r t = absurd t
 silent_among n (x ∷ rs) e r t =
     by_test (tells_vote x)
     (λ y. let z : of_input (input.Vote (vote_in n x)) ∷ as_votes n rs ≡ [] = ap (λ (q : List Arrival). q ++ as_votes n rs) (sym (given_on (tells_vote x) [] (λ _. of_input (input.Vote (vote_in n x)) ∷ []) y)) ∙ e in
-    absurd (full z))
+    absurd cc)
     (λ y. or_t (same_record x r) (among rs r) t
     (λ u. let k = eqb→eq x.kind r.kind (and_t (eqb x.kind r.kind) _ u).0 in rw (← k) y)
     (silent_among n rs (ap (λ (q : List Arrival). q ++ as_votes n rs) (sym (given_off (tells_vote x) [] (λ _. of_input (input.Vote (vote_in n x)) ∷ []) y)) ∙ e) r))
-  where
-    full : {q : Arrival} {qs : List Arrival} → ¬ (q ∷ qs ≡ [])
-    full z = let p : ◌≡◌ {A = ℕ} 0 1 = cc in omega arith
 
 pub watcher_never_votes : WatcherNeverVotes
 watcher_never_votes stakes genesis v h r t =

@@ -63,7 +63,7 @@ pub record Says (ws : List ℕ) (s : ℕ) (k : Block) : Type 0 where
   pub due : T (may_announce (ledger_of ws) s k.number)
 
 zero_one : {X : Type 0} {may : ℕ} → may ≡ 1 → may ∷ [] ≡ 0 ∷ [] → X
-zero_one e f = let z : ◌≡◌ {A = ℕ} 0 1 = cc in absurd (omega (arith, z))
+zero_one e f = absurd cc
 
 is_due : (a : Bool) {may : ℕ} → may ≡ 1 → may ∷ [] ≡ part a 1 ∷ [] → T a
 unfolding part
@@ -87,7 +87,7 @@ asked_is_allowed v s b p x number may h e = (one_says v.words s (block_of b p x)
 fed_zero_lem : (v : Result ⊤ Refusal) (l : Ledger) (i : Input) → v ≡ Ok tt → (step_panel (fed_on v l i).answer).number ≡ 0
 unfolding fed_on fed_with step_panel
 fed_zero_lem (Ok tt) l i e = refl
-fed_zero_lem (Err r) l i e = let z : ◌≡◌ {A = ℕ} 0 1 = cc in absurd (omega arith)
+fed_zero_lem (Err r) l i e = absurd cc
 
 pub asked_is_taken : AskedIsTaken
 unfolding step_leaves node.step feed verdict

@@ -61,13 +61,13 @@ peel false r v n e = (refl, e)
 past_both : (a b : Bool) (l : Ledger) (i : Input) → (whenever a (λ _. whenever b (λ _. feed l i) (refused_with l refusal.NoRoom)) (refused_with l refusal.BadRecord)).answer ≡ Err refusal.OtherStands
     → (feed l i).answer ≡ Err refusal.OtherStands
 unfolding whenever refused_with
-past_both false b l i e = let z : ◌≡◌ {A = ℕ} 0 1 = cc in absurd (omega arith)
-past_both true false l i e = let z : ◌≡◌ {A = ℕ} 0 1 = cc in absurd (omega arith)
+past_both false b l i e = absurd cc
+past_both true false l i e = absurd cc
 past_both true true l i e = e
 
 fed_eight : (v : Result ⊤ Refusal) (l : Ledger) (i : Input) → (fed_on v l i).answer ≡ Err refusal.OtherStands → v ≡ Err refusal.OtherStands
 unfolding fed_on fed_with refused_with
-fed_eight (Ok tt) l i e = let z : ◌≡◌ {A = ℕ} 0 1 = cc in absurd (omega arith)
+fed_eight (Ok tt) l i e = absurd cc
 fed_eight (Err r) l i e = let p : r ≡ refusal.OtherStands = cc in ap Err p
 
 -- 8 at the face is the rule book's verdict on the ledger that the words mean.
@@ -83,11 +83,11 @@ eight_says v sound i lent number made words left t x =
 
 same : (a b : Bool) → T a → ¬ (place_verdict (place_if a b) ≡ Err refusal.OtherStands)
 unfolding place_if place_verdict
-same true b t e = let z : ◌≡◌ {A = ℕ} 0 1 = cc in omega arith
+same true b t e = cc
 same false b t e = t
 
 fine_not_eight : (v : Result ⊤ Refusal) → v ≡ Ok tt → ¬ (v ≡ Err refusal.OtherStands)
-fine_not_eight v p e = let q : Ok tt ≡ Err refusal.OtherStands = sym p ∙ e in let z : ◌≡◌ {A = ℕ} 0 1 = cc in omega arith
+fine_not_eight v p e = let q : Ok tt ≡ Err refusal.OtherStands = sym p ∙ e in cc
 
 -- A vote that stands in its place is answered 7 there.
 stands_seven : (c : Cell) (v : Ballot) → T (has c v) → ¬ (place_verdict (place_of c (kind_of v) (block_of v)) ≡ Err refusal.OtherStands)
@@ -188,7 +188,7 @@ repeated l s b t =
 last : (b : Bool) → refuse_if b refusal.OtherStands (Ok tt) ≡ Err refusal.OtherStands → T b
 unfolding refuse_if
 last true e = tt
-last false e = let z : ◌≡◌ {A = ℕ} 0 1 = cc in absurd (omega arith)
+last false e = absurd cc
 
 -- Where all blocks came by the policy, one that it lets be announced, and whose number is not kept with another parent, is not refused with 8.
 pub block_not_eight : (stakes : List ℕ) (own genesis : ℕ) (v : Seen) → NodeSeen stakes own genesis v → T (by_policy (fresh stakes own genesis) v.came)

@@ -279,7 +279,7 @@ abbrev is_initial : VoteKind → ℕ → Bool
 is_initial k b = eqb (vote_number k) 1 || eqb (vote_number k) 3
 
 no_place : {X : Type 0} → Taken ≡ Free → X
-no_place e = let z : ◌≡◌ {A = ℕ} 0 1 = cc in absurd (omega arith)
+no_place e = absurd cc
 
 initial_more : (c : Cell) (k : VoteKind) (b : ℕ) → place_of c k b ≡ Free → misfits k b ≡ false → open_in (with_vote c k b) ≡ part (is_initial k b) 1 + open_in c
 unfolding place_of with_vote misfits vote_number

@@ -128,7 +128,7 @@ unfolding check_proof
 table_fits stakes packet a e =
     by_test (stakes_fit stakes (length stakes)) (λ t. t)
     (λ t. let q : Err refusal.BadSizes ≡ Ok a = sym (given_off (stakes_fit stakes (length stakes)) (Err refusal.BadSizes) _ t) ∙ e in
-    let z : ◌≡◌ {A = ℕ} 0 1 = cc in absurd (omega arith))
+    absurd cc)
 
 -- ---- the promises
 
