@@ -36,6 +36,17 @@ counting_less {ns = ns} g more d h c =
     }
 
 module _ {k : ℕ} {f : ℕ → ℕ} {all : ℕ} {ns ws : ℕ → ℕ} (c : Counting k f all ns ws) where
+  -- the same names
+  pub counting_names : (ms : ℕ → ℕ) → ((i : ℕ) → i < k → ms i ≡ ns i) → Counting k f all ms ws
+  counting_names ms d =
+      record {
+        off = c.off;
+        apart = λ i j a b s q. c.apart i j a b (omega (arith, d i a)) (sym (d i a) ∙ q ∙ d j b);
+        own = λ i h s. omega (arith, c.own i h (omega (arith, d i h)), ap f (d i h));
+        other = λ m s q. c.other m s (λ i h e. q i h (d i h ∙ e));
+        within = c.within;
+      }
+
   -- w more for the name of the counter p
   pub counting_own : (x w : ℕ) (vs : ℕ → ℕ) (p : ℕ) → p < k → ns p ≡ x → vs p ≡ ws p + w → ((i : ℕ) → i < k → (i ≡ p → ⊥) → vs i ≡ ws i)
       → Counting k (plus f x w) (all + w) ns vs

@@ -1,124 +1,86 @@
--- The code's steps on six counters in two lists. Assumes nothing.
-use mathlib.Core.Path.{◌≡◌, refl, ap, ◌∙◌}
+-- The code's steps on six counters. Assumes nothing.
+use mathlib.Core.Path.{◌≡◌, refl, sym, ap, ◌∙◌}
 use mathlib.Core.Bool.{Bool, true, false}
 use mathlib.Core.List.{List}
 use Prim.Native.Nat.{ℕ, ◌+◌, ◌-◌, ◌≤◌, ◌<◌, ◌^◌}
 use native.Mathlib.Omega.{arith}
-use lib.ListN.{length, set, length-set}
+use lib.ListN.{length, set}
 use lib.Seq.{get_or-set_same, get_or-set_other}
 use lib.Dec.{eqb}
-use borrow.Author.Count.{below_more}
 use borrow.Author.Tests.{ne_eqb, eqb-true, eqb-false}
 use Rattle.rulebook.specs.Tools.{part, sum_to}
 use Rattle.rule_laws.proofs.ToolLaws.{by_test, part_on, part_off, sum_le, sum_term, sum_change}
-use Rattle.counters.specs.Counting.{counters, word, plus, Unnamed, Place, Lowered, Added}
-use Rattle.counters.proofs.Laws.{counting_less, counting_own, counting_off, counting_put}
+use Rattle.counters.specs.declared.Counter.{Counter}
+use Rattle.counters.specs.Counting.{counters, empty, name_at, weight_at, plus, Unnamed, Lowered, Added}
+use Rattle.counters.proofs.Laws.{counting_less, counting_names, counting_own, counting_off, counting_put}
 
--- ---- e off every counter
+-- ---- a counter is written
 
--- The first i counters are lowered.
-pub record Lowering (ws vs : List ℕ) (e i : ℕ) : Type 0 where
-  pub few : i ≤ counters
-  pub long : length vs ≡ counters
-  pub done : (j : ℕ) → j < i → word vs j + e ≡ word ws j
-  pub left : (j : ℕ) → i ≤ j → word vs j ≡ word ws j
+module _ (cs : List Counter) (p : ℕ) (d : Counter) where
+  name_there : (i : ℕ) → (i ≡ p → ⊥) → name_at (set cs p d) i ≡ name_at cs i
+  name_there i h = ap (λ (c : Counter). c.name) (get_or-set_other cs p i d empty h)
 
-pub lowering_none : (ws : List ℕ) (e : ℕ) → length ws ≡ counters → Lowering ws ws e 0
-lowering_none ws e h = record { few = omega arith; long = h; done = λ j i. absurd (omega arith); left = λ j i. refl }
+  weight_there : (i : ℕ) → (i ≡ p → ⊥) → weight_at (set cs p d) i ≡ weight_at cs i
+  weight_there i h = ap (λ (c : Counter). c.weight) (get_or-set_other cs p i d empty h)
 
-pub lowering_more : {ws vs : List ℕ} {e i : ℕ} (x : ℕ) → i < counters → e ≤ word ws i → x ≡ word vs i - e → Lowering ws vs e i → Lowering ws (set vs i x) e (i + 1)
-lowering_more {ws} {vs} {e} {i} x h g q k =
-    record {
-      few = omega arith;
-      long = length-set vs i x ∙ k.long;
-      done = λ j d. by_test (eqb j i)
-          (λ t. let z = eqb-true j i t in omega (arith, ap (word (set vs i x)) z, ap (word ws) z, get_or-set_same vs i x 0 (omega (arith, k.long)), k.left i (omega arith)))
-          (λ t. let z = eqb-false j i t in omega (arith, get_or-set_other vs i j x 0 z, k.done j (omega arith)));
-      left = λ j d. get_or-set_other vs i j x 0 (λ z. omega arith) ∙ k.left j (omega arith);
-    }
+  module _ (h : p < length cs) where
+    name_here : name_at (set cs p d) p ≡ d.name
+    name_here = ap (λ (c : Counter). c.name) (get_or-set_same cs p d empty h)
 
-pub lowering_done : {ws vs : List ℕ} {e i : ℕ} → counters ≤ i → Lowering ws vs e i → Lowered ws vs e
-lowering_done h k = record { long = k.long; each = λ j d. k.done j (omega arith) }
+    weight_here : weight_at (set cs p d) p ≡ d.weight
+    weight_here = ap (λ (c : Counter). c.weight) (get_or-set_same cs p d empty h)
 
 -- ---- w more for x
 
 -- no counter has more than all
-pub word_room : (ws : List ℕ) (w i : ℕ) → i < counters → sum_to counters (word ws) + w < 2 ^ 64 → word ws i + w < 2 ^ 64
-word_room ws w i h d = omega (arith, sum_term counters i (word ws) h)
+pub weight_room : (cs : List Counter) (w i : ℕ) → i < counters → sum_to counters (weight_at cs) + w < 2 ^ 64 → weight_at cs i + w < 2 ^ 64
+weight_room cs w i h d = omega (arith, sum_term counters i (weight_at cs) h)
 
-module _ (x w : ℕ) (ns ws : List ℕ) (many : length ns ≡ counters) (long : length ws ≡ counters) where
-  pub add_none : x ≡ 0 → Added x w ns ws ns ws
+module _ (x w : ℕ) (cs : List Counter) where
+  pub add_none : x ≡ 0 → Added x w cs cs
   add_none e =
       record {
-        names = many;
-        weights = long;
         sum = omega arith;
         adding = λ f all c.
             counting_less (plus f x w) (all + w) (λ m s. omega (arith, part_off (eqb x m) w (ne_eqb x m (λ z. omega arith)))) (omega arith) c;
       }
 
-  pub add_own : (p y : ℕ) → p < counters → Place ns x p → y ≡ word ws p + w → Added x w ns ws ns (set ws p y)
-  add_own p y h k e =
+  pub add_own : (p : ℕ) (d : Counter) → p < counters → length cs ≡ counters → name_at cs p ≡ x → d.name ≡ name_at cs p → d.weight ≡ weight_at cs p + w
+      → Added x w cs (set cs p d)
+  add_own p d h long is same more =
+      let here = weight_here cs p d (omega arith) in
       record {
-        names = many;
-        weights = length-set ws p y ∙ long;
-        sum = omega (arith, sum_change counters p (word ws) (word (set ws p y)) h (λ i j d. get_or-set_other ws p i y 0 d), get_or-set_same ws p y 0 (omega arith));
+        sum = omega (arith, sum_change counters p (weight_at cs) (weight_at (set cs p d)) h (λ i j z. weight_there cs p d i z), here);
         adding = λ f all c.
-            counting_own c x w (word (set ws p y)) p h (k.here h) (get_or-set_same ws p y 0 (omega arith) ∙ e) (λ i j d. get_or-set_other ws p i y 0 d);
+            counting_names (counting_own c x w (weight_at (set cs p d)) p h is (here ∙ more) (λ i j z. weight_there cs p d i z)) (name_at (set cs p d))
+            (λ i j. by_test (eqb i p) (λ t. let z = eqb-true i p t in ap (name_at (set cs p d)) z ∙ name_here cs p d (omega arith) ∙ same ∙ ap (name_at cs) (sym z)) (λ t. name_there cs p d i (eqb-false i p t)));
       }
 
-  module _ (u : Unnamed counters (word ns) x) (vs : List ℕ) (e : ℕ) (k : Lowered ws vs e) where
-    sum_lowered : sum_to counters (word vs) ≤ sum_to counters (word ws)
-    sum_lowered = sum_le counters (word vs) (word ws) (λ i h. omega (arith, k.each i h))
+  module _ (u : Unnamed counters (name_at cs) x) (ds : List Counter) (e : ℕ) (k : Lowered cs ds e) where
+    sum_lowered : sum_to counters (weight_at ds) ≤ sum_to counters (weight_at cs)
+    sum_lowered = sum_le counters (weight_at ds) (weight_at cs) (λ i h. omega (arith, k.each i h))
 
-    pub add_off : e ≡ w → Added x w ns ws ns vs
+    pub add_off : e ≡ w → Added x w cs ds
     add_off d =
         record {
-          names = many;
-          weights = k.long;
           sum = omega (arith, sum_lowered);
           adding = λ f all c.
-              counting_less (plus f x w) (all + w) (λ m s. omega (arith, ap (part (eqb x m)) d)) (omega arith) (counting_off c x e (word vs) u k.each);
+              counting_names (counting_less (plus f x w) (all + w) (λ m s. omega (arith, ap (part (eqb x m)) d)) (omega arith) (counting_off c x e (weight_at ds) u k.each))
+              (name_at ds) k.names;
         }
 
     split : (b : Bool) → e ≤ w → part b w ≡ part b e + part b (w - e)
     split true h = omega (arith, part_on true w refl, part_on true e refl, part_on true (w - e) refl)
     split false h = omega (arith, part_off false w refl, part_off false e refl, part_off false (w - e) refl)
 
-    pub add_put : (p y : ℕ) → p < counters → 1 ≤ x → e ≤ w → e ≡ word ws p → y ≡ w - e → Added x w ns ws (set ns p x) (set vs p y)
-    add_put p y h some less d r =
+    pub add_put : (p : ℕ) (d : Counter) → p < counters → length ds ≡ counters → 1 ≤ x → e ≤ w → e ≡ weight_at cs p → d.name ≡ x → d.weight ≡ w - e → Added x w cs (set ds p d)
+    add_put p d h long some less is named left =
+        let here = weight_here ds p d (omega arith) in
         record {
-          names = length-set ns p x ∙ many;
-          weights = length-set vs p y ∙ k.long;
-          sum = omega (arith, sum_lowered, sum_change counters p (word vs) (word (set vs p y)) h (λ i j z. get_or-set_other vs p i y 0 z), get_or-set_same vs p y 0 (omega (arith, k.long)));
+          sum = omega (arith, sum_lowered, sum_change counters p (weight_at ds) (weight_at (set ds p d)) h (λ i j z. weight_there ds p d i z), here);
           adding = λ f all c.
               counting_less (plus f x w) (all + w) (λ m s. omega (arith, split (eqb x m) less)) (omega arith)
-              (counting_put (counting_off c x e (word vs) u k.each) x (w - e) (word (set ns p x)) (word (set vs p y)) p some h (omega (arith, k.each p h)) u
-              (get_or-set_same ns p x 0 (omega arith)) (λ i j z. get_or-set_other ns p i x 0 z)
-              (get_or-set_same vs p y 0 (omega (arith, k.long)) ∙ r) (λ i j z. get_or-set_other vs p i y 0 z));
+              (counting_put (counting_off c x e (weight_at ds) u k.each) x (w - e) (name_at (set ds p d)) (weight_at (set ds p d)) p some h (omega (arith, k.each p h)) u
+              (name_here ds p d (omega arith) ∙ named) (λ i j z. name_there ds p d i z ∙ k.names i j)
+              (here ∙ left) (λ i j z. weight_there ds p d i z));
         }
-
--- ---- the least counter
-
--- The counter p has no more than any of the first i.
-pub record Leasting (ws : List ℕ) (p i : ℕ) : Type 0 where
-  pub few : i ≤ counters
-  pub some : p < counters
-  pub least : (j : ℕ) → j < i → word ws p ≤ word ws j
-
-module _ {ws : List ℕ} {p i : ℕ} (q : ℕ) (h : i < counters) (k : Leasting ws p i) where
-  pub least_less : word ws i < word ws p → q ≡ i → Leasting ws q (i + 1)
-  least_less d e =
-      record {
-        few = omega arith;
-        some = omega (arith, k.some);
-        least = below_more (λ (j : ℕ). word ws q ≤ word ws j) i (λ j g. omega (arith, ap (word ws) e, k.least j g)) (omega (arith, ap (word ws) e));
-      }
-
-  pub least_same : word ws p ≤ word ws i → q ≡ p → Leasting ws q (i + 1)
-  least_same d e =
-      record {
-        few = omega arith;
-        some = omega (arith, k.some);
-        least = below_more (λ (j : ℕ). word ws q ≤ word ws j) i (λ j g. omega (arith, ap (word ws) e, k.least j g)) (omega (arith, ap (word ws) e));
-      }

@@ -1,6 +1,7 @@
 -- Heavy names by few counters (Misra and Gries): of k counters each has a name and a weight; 0 names nothing. What a name weighs so
 -- far is at most its counter and what was taken off every counter, which is at most one part in k + 1 of all.
-use Rattle.std.specs.Prelude.{◌≡◌, Bool, List, ℕ, ◌+◌, ◌*◌, ◌≤◌, ◌<◌, ◌^◌, length, get_or, eqb}
+use Rattle.std.specs.Prelude.{◌≡◌, Bool, List, Option, MatchOption, ℕ, ◌+◌, ◌*◌, ◌≤◌, ◌<◌, ◌^◌, get_or, eqb}
+use Rattle.counters.specs.declared.Counter.{Counter}
 use Rattle.rulebook.specs.Tools.{part, sum_to, some_to}
 
 -- How many counters there are: enough for a fifth of the notar stake, and for three fifths where each node names four blocks.
@@ -10,6 +11,16 @@ counters = 6
 -- The word of a list at a place.
 abbrev pub word : List ℕ → ℕ → ℕ
 word xs i = get_or xs i 0
+
+-- The name and the weight of a counter in a list.
+abbrev pub empty : Counter
+empty = record { name = 0; weight = 0 }
+
+abbrev pub name_at : List Counter → ℕ → ℕ
+name_at cs i = (get_or cs i empty).name
+
+abbrev pub weight_at : List Counter → ℕ → ℕ
+weight_at cs i = (get_or cs i empty).weight
 
 -- The weights f of names, with w more for x.
 abbrev pub plus : (ℕ → ℕ) → ℕ → ℕ → ℕ → ℕ
@@ -39,42 +50,29 @@ Adding k x w ns ws ms vs = (f : ℕ → ℕ) (all : ℕ) → Counting k f all ns
 
 -- ---- the code's counters
 
--- So many counters, whose sum with w more fits a word.
-pub record Room (ns ws : List ℕ) (w : ℕ) : Type 0 where
-  pub names : length ns ≡ counters
-  pub weights : length ws ≡ counters
-  pub room : sum_to counters (word ws) + w < 2 ^ 64
+-- Their sum with w more fits a word.
+abbrev pub Room : List Counter → ℕ → Type 0
+Room cs w = sum_to counters (weight_at cs) + w < 2 ^ 64
 
--- Where the name x stands among the counters, their number where it does not.
-pub record Place (ns : List ℕ) (x r : ℕ) : Type 0 where
-  pub few : r ≤ counters
-  pub here : r < counters → word ns r ≡ x
-  pub nowhere : r ≡ counters → Unnamed counters (word ns) x
+-- Where the name x stands among the counters.
+abbrev pub Place : List Counter → ℕ → Option ℕ → Type 0
+Place cs x r = MatchOption r (Unnamed counters (name_at cs) x) (λ p. (p < counters) × (name_at cs p ≡ x))
 
 -- The counter r is a least one.
-pub record Least (ws : List ℕ) (r : ℕ) : Type 0 where
+pub record Least (cs : List Counter) (r : ℕ) : Type 0 where
   pub few : r < counters
-  pub least : (i : ℕ) → i < counters → word ws r ≤ word ws i
+  pub least : (i : ℕ) → i < counters → weight_at cs r ≤ weight_at cs i
 
--- So many counters, each of which has e.
-pub record Lowerable (ws : List ℕ) (e : ℕ) : Type 0 where
-  pub long : length ws ≡ counters
-  pub each : (i : ℕ) → i < counters → e ≤ word ws i
+-- Each counter has e.
+abbrev pub Lowerable : List Counter → ℕ → Type 0
+Lowerable cs e = (i : ℕ) → i < counters → e ≤ weight_at cs i
 
 -- e was taken off every counter.
-pub record Lowered (ws vs : List ℕ) (e : ℕ) : Type 0 where
-  pub long : length vs ≡ counters
-  pub each : (i : ℕ) → i < counters → word vs i + e ≡ word ws i
-
--- The lower of a and b.
-pub record Lower (a b r : ℕ) : Type 0 where
-  pub first : r ≤ a
-  pub second : r ≤ b
-  pub less : r < a → r ≡ b
+pub record Lowered (cs ds : List Counter) (e : ℕ) : Type 0 where
+  pub names : (i : ℕ) → i < counters → name_at ds i ≡ name_at cs i
+  pub each : (i : ℕ) → i < counters → weight_at ds i + e ≡ weight_at cs i
 
 -- The counters after x weighed w more.
-pub record Added (x w : ℕ) (ns ws ms vs : List ℕ) : Type 0 where
-  pub names : length ms ≡ counters
-  pub weights : length vs ≡ counters
-  pub sum : sum_to counters (word vs) ≤ sum_to counters (word ws) + w
-  pub adding : Adding counters x w (word ns) (word ws) (word ms) (word vs)
+pub record Added (x w : ℕ) (cs ds : List Counter) : Type 0 where
+  pub sum : sum_to counters (weight_at ds) ≤ sum_to counters (weight_at cs) + w
+  pub adding : Adding counters x w (name_at cs) (weight_at cs) (name_at ds) (weight_at ds)

@@ -1,36 +1,35 @@
 // Heavy names by few counters (Misra and Gries): one pass over names with weights leaves every heavy name among the counters' names.
 #![tactic(auto)]
 
-ghost use Rattle.std.specs.Prelude.{◌≡◌, length};
-ghost use Rattle.counters.specs.Counting.{counters, Room, Place, Least, Lowerable, Lowered, Lower, Added};
+ghost use Rattle.counters.specs.Counting.{Room, Place, Least, Lowerable, Lowered, Added};
 
 // How many counters there are.
 pub const COUNTERS: usize = 6;
 
-// Where the name x stands, COUNTERS where it does not.
-fn place_of(names: &[u64], x: u64) -> usize
-    requires { length names.now ≡ counters }
-    ensures { Place names.now x result }
+// A name, 0 where there is none, and what was counted for it and not taken off again.
+#[derive(Clone, Copy)]
+pub struct Counter {
+    pub name: u64,
+    pub weight: u64,
+}
+
+// Where the name x stands.
+fn place_of(counters: &[Counter; COUNTERS], x: u64) -> Option<usize>
+    ensures { Place counters.now x result }
 {
-    for i in 0..COUNTERS {
-        if names[i] == x {
-            return i;
-        }
-    }
-    COUNTERS
+    counters.iter().position(|c| c.name == x)
 }
 
 // A counter that has no more than any other: the first that has nothing, where there is one.
-fn least_of(weights: &[u64]) -> usize
-    requires { length weights.now ≡ counters }
-    ensures { Least weights.now result }
+fn least_of(counters: &[Counter; COUNTERS]) -> usize
+    ensures { Least counters.now result }
 {
     let mut p: usize = 0;
-    for i in 0..COUNTERS {
-        if weights[i] == 0 {
+    for (i, c) in counters.iter().enumerate() {
+        if c.weight == 0 {
             return i;
         }
-        if weights[i] < weights[p] {
+        if c.weight < counters[p].weight {
             p = i;
         }
     }
@@ -38,47 +37,38 @@ fn least_of(weights: &[u64]) -> usize
 }
 
 // Takes e off every counter.
-fn lower_all(weights: &mut [u64], e: u64)
-    requires { Lowerable weights.old e }
-    ensures { Lowered weights.old weights.new e }
+fn lower_all(counters: &mut [Counter; COUNTERS], e: u64)
+    requires { Lowerable counters.old e }
+    ensures { Lowered counters.old counters.new e }
 {
     if e == 0 {
         return;
     }
-    for i in 0..COUNTERS {
-        weights[i] -= e;
+    for c in counters.iter_mut() {
+        c.weight -= e;
     }
-}
-
-// The lower of two numbers.
-fn lower_of(a: u64, b: u64) -> u64
-    ensures { Lower a b result }
-{
-    if a < b {
-        return a;
-    }
-    b
 }
 
 // Counts w more for the name x; 0 is no name. A name that has no counter gets the least one, once that one's weight, or w where it
 // is less, was taken off w and every counter.
-pub fn add(names: &mut [u64], weights: &mut [u64], x: u64, w: u64)
-    requires { Room names.old weights.old w }
-    ensures { Added x w names.old weights.old names.new weights.new }
+pub fn add(counters: &mut [Counter; COUNTERS], x: u64, w: u64)
+    requires { Room counters.old w }
+    ensures { Added x w counters.old counters.new }
 {
     if x == 0 {
         return;
     }
-    let own = place_of(names, x);
-    if own < COUNTERS {
-        weights[own] += w;
+    if let Some(own) = place_of(counters, x) {
+        counters[own].weight += w;
         return;
     }
-    let p = least_of(weights);
-    let e = lower_of(w, weights[p]);
-    lower_all(weights, e);
+    let p = least_of(counters);
+    let e = w.min(counters[p].weight);
+    lower_all(counters, e);
     if e < w {
-        names[p] = x;
-        weights[p] = w - e;
+        counters[p] = Counter {
+            name: x,
+            weight: w - e,
+        };
     }
 }

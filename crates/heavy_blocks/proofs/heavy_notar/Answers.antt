@@ -1,6 +1,5 @@
 -- The counters have the notar votes of the nodes passed.
-use mathlib.Core.Path.{refl, sym}
-use Prim.Native.Nat.{◌-◌}
+use mathlib.Core.Path.{refl}
 use native.Mathlib.Omega.{arith}
 use Rattle.rulebook.specs.declared.Who.TheVariants as who
 use Rattle.rulebook.specs.Ledger.{cell_at}
@@ -8,35 +7,18 @@ use Rattle.record.specs.Layout.{ledger_of}
 use Rattle.heavy_blocks.proofs.Laws.{counted_notar, hitting_none, hitting_more, hitting_room, hitting_end}
 use Rattle.heavy_blocks.proofs.heavy_notar.Goals as goal
 
-pub count-nodes-requires : goal.count-nodes-requires
-count-nodes-requires c = c.requires.long
-
 pub loop-n-init : goal.loop-n-init
-loop-n-init c = (omega arith, hitting_none (ledger_of c.args.rec.now) c.args.s.0 (λ m. who.Notar m) 1)
-
-pub notar_of-m-requires : goal.notar_of-m-requires
-notar_of-m-requires c =
-    record { long = c.requires.long; slot = c.requires.slot; node = omega (arith, c.requires.table.few, c.count-nodes.ensures, c.loop-n-test.true) }
-
-pub stake-w-requires : goal.stake-w-requires
-stake-w-requires c = omega (arith, c.requires.table.few, c.count-nodes.ensures)
-
-pub slice_bounds-add-end : goal.slice_bounds-add-end
-slice_bounds-add-end c = sym c.loop-n.invariant.1.names
-
-pub slice_bounds-add-end-in-loop-n : goal.slice_bounds-add-end-in-loop-n
-slice_bounds-add-end-in-loop-n c = sym c.loop-n.invariant.1.weights
+loop-n-init c = hitting_none (ledger_of c.args.rec.now) c.args.s.0 (λ m. who.Notar m) 1
 
 pub add-requires : goal.add-requires
 add-requires c =
-    let k = c.loop-n.invariant.1 in
-    let r = hitting_room (ledger_of c.args.rec.now) c.args.s.0 (λ m. who.Notar m) 1 k c.stake-w.result.0 c.stake-w.ensures c.requires.table (omega (arith, c.count-nodes.ensures, c.loop-n-test.true)) (omega arith) in
-    record { names = k.names; weights = k.weights; room = omega arith }
+    let r = hitting_room (ledger_of c.args.rec.now) c.args.s.0 (λ m. who.Notar m) 1 c.loop-n.invariant c.stake-w.result.0 c.stake-w.ensures c.requires.table (omega (arith, c.count-nodes.ensures, c.loop-n-test.true)) (omega arith) in
+    omega arith
 
 pub loop-n-preserved : goal.loop-n-preserved
 loop-n-preserved c =
-    (omega arith, hitting_more (ledger_of c.args.rec.now) c.args.s.0 (λ m. who.Notar m) 1 c.loop-n.invariant.1 c.stake-w.result.0 c.stake-w.ensures _ refl (counted_notar (cell_at (ledger_of c.args.rec.now) c.args.s.0 c.loop-n.n) c.notar_of-m.result _ c.notar_of-m.ensures c.add.ensures))
+    hitting_more (ledger_of c.args.rec.now) c.args.s.0 (λ m. who.Notar m) 1 c.loop-n.invariant c.stake-w.result.0 c.stake-w.ensures _ refl (counted_notar (cell_at (ledger_of c.args.rec.now) c.args.s.0 c.loop-n.n) c.notar_of-m.result _ c.notar_of-m.ensures c.add.ensures)
 
 pub returns : goal.returns
 returns c =
-    hitting_end (ledger_of c.args.rec.now) c.args.s.0 (λ m. who.Notar m) 1 1 (λ x y h g. omega arith) c.requires.table (omega (arith, c.count-nodes.ensures)) c.loop-n.invariant.1
+    hitting_end (ledger_of c.args.rec.now) c.args.s.0 (λ m. who.Notar m) 1 1 (λ x y h g. omega arith) c.requires.table (omega (arith, c.count-nodes.ensures)) c.loop-n.invariant c.names_of.ensures
