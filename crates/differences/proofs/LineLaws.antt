@@ -2,88 +2,31 @@
 use mathlib.Core.Path.{◌≡◌, refl, sym, ap, ap₂, ◌∙◌, subst}
 use mathlib.Core.Bool.{Bool, true, false, not, ◌&&◌}
 use mathlib.Core.List.{List, [], ◌∷◌, ◌++◌, append_assoc, append-nil}
-use Prim.Native.Nat.{ℕ, zero, suc, ◌+◌, ◌-◌, ◌*◌, ◌≤◌, ◌<◌}
+use Prim.Native.Nat.{ℕ, zero, suc, ◌+◌, ◌*◌, ◌≤◌}
 use native.Mathlib.Omega.{arith}
 use native.Mathlib.Numerals.{add-one}
-use lib.ListN.{length, set, length-append}
-use lib.Seq.{sets, length-sets}
-use lib.Dec.{eqb, ltb}
-use borrow.Author.Tests.{ne_eqb, eqb-true, not-true}
+use lib.ListN.{length, length-append}
+use lib.Dec.{ltb}
+use borrow.Author.Tests.{ne_eqb, not-true}
 use Rattle.rulebook.specs.declared.Cell.{Cell}
 use Rattle.rulebook.specs.declared.Vote.{Vote}
 use Rattle.rulebook.specs.declared.VoteKind.{VoteKind}
 use Rattle.rulebook.specs.declared.VoteKind.TheVariants as vote
-use Rattle.rulebook.specs.Tools.{whenever, lowest}
+use Rattle.rulebook.specs.Tools.{lowest}
 use Rattle.rulebook.specs.Weights.{most_nodes, last_slot}
-use Rattle.rulebook.specs.PaperNumbers.{vote_number}
 use Rattle.rulebook.specs.Ledger.{Ledger, none, cell_at}
 use Rattle.rule_laws.proofs.ToolLaws.{given_on, given_off, by_test, and_both, true_not_false}
-use Rattle.numbers.proofs.Stores.{stores_append}
-use Rattle.difference_lines.specs.declared.Side.{Side}
 use Rattle.difference_lines.specs.declared.Side.TheVariants as side
-use Rattle.difference_lines.specs.Lines.{Line, line_for, side_number, spell_line, spell_lines, vote_at, keeps, line_of, vote_line, blocks_of, most_named, ascending, lines_over, block_lines, cell_lines, lines_to, node_lines, slot_lines, vote_lines}
-use Rattle.differences.specs.Lent.{Laid, most_lines}
+use Rattle.difference_lines.specs.Lines.{Line, line_for, spell_line, spell_lines, vote_at, keeps, line_of, vote_line, blocks_of, most_named, ascending, lines_over, block_lines, cell_lines, lines_to, node_lines, slot_lines, vote_lines}
+use Rattle.differences.specs.Rows.{most_lines}
+use Rattle.differences.specs.Lent.{Laid}
+use Rattle.differences.proofs.Rows.{Spelled, spelled_by, laid_none, laid_then, laid_as}
 
 -- ---- one run of lines after another
 
-pub spell_append : (xs ys : List Line) → spell_lines (xs ++ ys) ≡ spell_lines xs ++ spell_lines ys
+pub spelled : Spelled spell_lines
 unfolding spell_lines
-spell_append [] ys = refl
-spell_append (x ∷ xs) ys =
-    ap (λ (z : List ℕ). spell_line x ++ z) (spell_append xs ys) ∙ sym (append_assoc (spell_line x) (spell_lines xs) (spell_lines ys))
-
-pub spell_length : (xs : List Line) → length (spell_lines xs) ≡ 5 * length xs
-unfolding spell_lines
-spell_length [] = refl
-spell_length (x ∷ xs) = omega (arith, length-append (spell_line x) (spell_lines xs), spell_length xs)
-
-pub laid_none : (list : List ℕ) (at : ℕ) → Laid list at [] list at
-unfolding spell_lines
-laid_none list at = record { words = refl; many = omega arith }
-
-pub laid_length : {list left : List ℕ} {xs : List Line} {at next : ℕ} → Laid list at xs left next → length left ≡ length list
-laid_length {list} {left} {xs} {at} w = ap length w.words ∙ length-sets list (5 * at) (spell_lines xs)
-
-pub laid_then : {l m r : List ℕ} {xs ys : List Line} {at p q : ℕ} → Laid l at xs m p → Laid m p ys r q → Laid l at (xs ++ ys) r q
-laid_then {l} {m} {r} {xs} {ys} {at} {p} {q} w v =
-    let a = length-append xs ys in
-    let e : 5 * p ≡ 5 * at + length (spell_lines xs) = omega (arith, w.many, spell_length xs) in
-    record {
-      words = v.words ∙ ap (λ (k : List ℕ). sets k (5 * p) (spell_lines ys)) w.words
-          ∙ ap (λ (i : ℕ). sets (sets l (5 * at) (spell_lines xs)) i (spell_lines ys)) e
-          ∙ sym (stores_append l (5 * at) (spell_lines xs) (spell_lines ys)) ∙ ap (sets l (5 * at)) (sym (spell_append xs ys));
-      many = omega (arith, w.many, v.many);
-    }
-
--- The same lines in other words.
-pub laid_as : {l m : List ℕ} {xs ys : List Line} {at p : ℕ} → xs ≡ ys → Laid l at xs m p → Laid l at ys m p
-laid_as {l} {m} {at = at} {p = p} e w = subst (λ (z : List Line). Laid l at z m p) e w
-
--- A line is put word by word.
-pub line_put : (v : Vote) (t : Side) {list a b c d e : List ℕ} {at k m r : ℕ} → a ≡ set list (5 * at) v.slot.0 → b ≡ set a (5 * at + 1) v.node.0
-    → k ≡ vote_number v.kind → c ≡ set b (5 * at + 2) k → d ≡ set c (5 * at + 3) v.block → m ≡ side_number t → e ≡ set d (5 * at + 4) m
-    → r ≡ at + 1 → Laid list at (line_for v t ∷ []) e r
-unfolding spell_lines
-line_put v t {list} {a} {b} {c} {d} {e} {at} {k} {m} {r} f g h i j n o q =
-    record {
-      words = o ∙ ap₂ (λ (x : List ℕ) (y : ℕ). set x (5 * at + 4) y)
-          (j ∙ ap (λ (x : List ℕ). set x (5 * at + 3) v.block)
-          (i ∙ ap₂ (λ (x : List ℕ) (y : ℕ). set x (5 * at + 2) y) (g ∙ ap (λ (x : List ℕ). set x (5 * at + 1) v.node.0) f) h)) n
-          ∙ onward;
-      many = q;
-    }
-  where
-    w : ℕ
-    w = 5 * at
-
-    onward : set (set (set (set (set list w v.slot.0) (w + 1) v.node.0) (w + 2) (vote_number v.kind)) (w + 3) v.block) (w + 4) (side_number t)
-        ≡ sets list w (spell_line (line_for v t))
-    onward =
-        let e1 : w + 1 ≡ suc w = omega arith in
-        let e2 : w + 2 ≡ suc (suc w) = omega arith in
-        let e3 : w + 3 ≡ suc (suc (suc w)) = omega arith in
-        let e4 : w + 4 ≡ suc (suc (suc (suc w))) = omega arith in
-        λ z. set (set (set (set (set list w v.slot.0) (e1 z) v.node.0) (e2 z) (vote_number v.kind)) (e3 z) v.block) (e4 z) (side_number t)
+spelled = spelled_by spell_line (λ x. refl) refl (λ x xs. refl)
 
 -- The three ways to tell a vote of two cells.
 module _ (v : Vote) {list left : List ℕ} {at next : ℕ} (a b x y : Bool) (p : x ≡ a) (q : y ≡ b) where
@@ -110,28 +53,7 @@ no_line v false true e f = true_not_false true refl f
 
 pub told_none : (v : Vote) {list : List ℕ} {at : ℕ} (a b x y : Bool) → x ≡ a → y ≡ b → (x && not y) ≡ false → (y && not x) ≡ false
     → Laid list at (line_of v a b) list at
-told_none v {list} {at} a b x y p q e f = laid_as (sym (ap₂ (line_of v) (sym p) (sym q) ∙ no_line v x y e f)) (laid_none list at)
-
--- Cells with the same seven words are the same.
-pub same_words_lem : (c d : Cell)
-    → ((eqb c.notar d.notar && eqb c.skip d.skip) && (((eqb c.fallback1 d.fallback1 && eqb c.fallback2 d.fallback2) && eqb c.fallback3 d.fallback3) && (eqb c.skipfallback d.skipfallback && eqb c.finalvote d.finalvote))) ≡ true
-    → c ≡ d
-same_words_lem c d e =
-    let f = and_both (eqb c.notar d.notar && eqb c.skip d.skip) _ e in
-    let g = and_both (eqb c.notar d.notar) (eqb c.skip d.skip) f.0 in
-    let h = and_both ((eqb c.fallback1 d.fallback1 && eqb c.fallback2 d.fallback2) && eqb c.fallback3 d.fallback3) _ f.1 in
-    let j = and_both (eqb c.fallback1 d.fallback1 && eqb c.fallback2 d.fallback2) (eqb c.fallback3 d.fallback3) h.0 in
-    let k = and_both (eqb c.fallback1 d.fallback1) (eqb c.fallback2 d.fallback2) j.0 in
-    let m = and_both (eqb c.skipfallback d.skipfallback) (eqb c.finalvote d.finalvote) h.1 in
-    λ i. record {
-      notar = eqb-true c.notar d.notar g.0 i;
-      skip = eqb-true c.skip d.skip g.1 i;
-      fallback1 = eqb-true c.fallback1 d.fallback1 k.0 i;
-      fallback2 = eqb-true c.fallback2 d.fallback2 k.1 i;
-      fallback3 = eqb-true c.fallback3 d.fallback3 j.1 i;
-      skipfallback = eqb-true c.skipfallback d.skipfallback m.0 i;
-      finalvote = eqb-true c.finalvote d.finalvote m.1 i;
-    }
+told_none v {list} {at} a b x y p q e f = laid_as (sym (ap₂ (line_of v) (sym p) (sym q) ∙ no_line v x y e f)) (laid_none spelled list at)
 
 -- ---- the loop over the blocks of a kind
 
@@ -165,7 +87,7 @@ pub record Going (list : List ℕ) (at : ℕ) (all : List Line) (f : ℕ → Lis
 module _ {list : List ℕ} {at : ℕ} (s n : ℕ) (c d : Cell) (k : VoteKind) where
   pub over_start : Going list at (block_lines s n c d k) (λ b. vote_line c d (vote_at s n k b)) (blocks_of k c d) list at 0 most_named
   unfolding block_lines
-  over_start = record { done = []; laid = laid_none list at; whole = refl }
+  over_start = record { done = []; laid = laid_none spelled list at; whole = refl }
 
 module _ {list now : List ℕ} {at next x left : ℕ} {all : List Line} {f : ℕ → List Line} {bs : List ℕ} (g : Going list at all f bs now next x left) where
   pub over_next : {now' : List ℕ} {next' : ℕ} (b k : ℕ) → left ≡ suc k → b ≡ lowest (ltb x) bs → (b ≡ 0 → ⊥) → Laid now next (f b) now' next'
@@ -173,7 +95,7 @@ module _ {list now : List ℕ} {at next x left : ℕ} {all : List Line} {f : ℕ
   over_next b k q e h w =
       record {
         done = g.done ++ f b;
-        laid = laid_then g.laid w;
+        laid = laid_then spelled g.laid w;
         whole = append_assoc g.done (f b) (lines_over f (ascending bs b k))
             ∙ ap (λ (z : List Line). g.done ++ z) (sym (over_more f bs x b k e h))
             ∙ ap (λ (m : ℕ). g.done ++ lines_over f (ascending bs x m)) (sym q) ∙ g.whole;
@@ -288,16 +210,16 @@ same_none s n c d e =
     rw (x, y, same_line (vote_at s n vote.Skip 0) (keeps c vote.Skip 0), same_line (vote_at s n vote.SkipFallback 0) (keeps c vote.SkipFallback 0), same_line (vote_at s n vote.Final 0) (keeps c vote.Final 0)))
 
 pub same_put : (s n : ℕ) (c d : Cell) {list : List ℕ} {at : ℕ} → c ≡ d → Laid list at (cell_lines s n c d) list at
-same_put s n c d {list} {at} e = laid_as (sym (same_none s n c d e)) (laid_none list at)
+same_put s n c d {list} {at} e = laid_as (sym (same_none s n c d e)) (laid_none spelled list at)
 
 -- ---- the loops over nodes and slots
 
 module _ {list now : List ℕ} {at next : ℕ} (f : ℕ → List Line) (n : ℕ) (w : Laid list at (lines_to n f) now next) where
   pub next_put : {now' : List ℕ} {next' : ℕ} → Laid now next (f n) now' next' → Laid list at (lines_to (n + 1) f) now' next'
-  next_put v = laid_as (sym (to_more n f)) (laid_then w v)
+  next_put v = laid_as (sym (to_more n f)) (laid_then spelled w v)
 
   pub next_last : (m : ℕ) → n ≡ m → Laid list at (lines_to m f) now next
   next_last m e = laid_as (ap (λ (k : ℕ). lines_to k f) e) w
 
 pub first_put : (list : List ℕ) (at : ℕ) (f : ℕ → List Line) → Laid list at (lines_to 0 f) list at
-first_put list at f = laid_as (sym (to_none f)) (laid_none list at)
+first_put list at f = laid_as (sym (to_none f)) (laid_none spelled list at)

@@ -1,18 +1,15 @@
 -- The whole list of lines in a lent list, or 9; and each way through the call. Assumes nothing.
-use Rattle.std.specs.Prelude.{Result, Ok, Err}
-use mathlib.Core.Path.{◌≡◌, refl, sym, ap, ◌∙◌}
-use mathlib.Core.Bool.{Bool, true, false}
-use mathlib.Core.List.{List, [], ◌∷◌, ◌++◌}
-use Prim.Native.Nat.{ℕ, ◌+◌, ◌*◌, ◌≤◌, ◌<◌}
+use Rattle.std.specs.Prelude.{⊤, Result, Ok, Err}
+use mathlib.Core.Path.{◌≡◌, refl, sym, ap, ◌∙◌, subst}
+use mathlib.Core.Bool.{true, false}
+use mathlib.Core.List.{List, [], ◌∷◌}
+use Prim.Native.Nat.{ℕ, ◌*◌, ◌≤◌, ◌<◌}
 use native.Mathlib.Omega.{arith}
 use lib.ListN.{length}
-use lib.Seq.{sets}
 use lib.Dec.{leb}
-use borrow.Author.Tests.{le-leb, lt-leb}
-use Rattle.rulebook.specs.Tools.{whenever}
+use borrow.Author.Tests.{le-leb, lt-leb, leb-true, leb-false}
 use Rattle.rulebook.specs.Writers.{over}
-use Rattle.rule_laws.proofs.ToolLaws.{given_on, given_off}
-use Rattle.numbers.proofs.Stores.{stores_lay, laid_front}
+use Rattle.rule_laws.proofs.ToolLaws.{given_on, given_off, by_test}
 use Rattle.record.specs.Layout.{ledger_of}
 use Rattle.soundness.specs.Sound.{sound_words}
 use Rattle.difference_lines.specs.declared.Side.{Side}
@@ -20,8 +17,10 @@ use Rattle.difference_lines.specs.declared.Side.TheVariants as side
 use Rattle.differences.specs.declared.DifferRefusal.{DifferRefusal}
 use Rattle.differences.specs.declared.DifferRefusal.TheVariants as why
 use Rattle.difference_lines.specs.Lines.{Line, spell_lines, tables_line, vote_lines, same_tables, differences}
-use Rattle.differences.specs.Lent.{Differed, refused_by, listed_in, differ, DifferOf, Laid, Sounds, Alike, ListedIn}
-use Rattle.differences.proofs.LineLaws.{spell_length}
+use Rattle.differences.specs.Rows.{Counted}
+use Rattle.differences.specs.Both.{both_sound}
+use Rattle.differences.proofs.Both.{side_unsound}
+use Rattle.differences.specs.Lent.{Differed, refused_by, listed_in, differ, DifferOf, ListedIn}
 
 -- A refusal leaves the list as found.
 pub over_nothing : (list : List ℕ) → over (spell_lines []) list ≡ list
@@ -42,44 +41,30 @@ module _ (list : List ℕ) (xs : List Line) where
   list_cramped n e h =
       let d = cramped (omega arith) in
       record {
-        answered = ap (λ (n : ℕ). Err (why.NoRoom n)) e ∙ sym (ap (λ (x : Differed). x.answer) d);
+        answered = ap (λ (m : ℕ). Err (why.NoRoom m)) e ∙ sym (ap (λ (x : Differed). x.answer) d);
         listed = sym (over_nothing list) ∙ sym (ap (λ (x : Differed). over (spell_lines x.lines) list) d);
       }
 
   -- All lines from the list's front.
-  pub list_whole : {left : List ℕ} {n : ℕ} → 5 * length xs ≤ length list → Laid list 0 xs left n → ListedIn list xs (Ok n) left
-  list_whole {left} {n} h w =
+  pub list_whole : {left : List ℕ} {n : ℕ} → 5 * length xs ≤ length list → n ≡ length xs → left ≡ over (spell_lines xs) list → ListedIn list xs (Ok n) left
+  list_whole h e w =
       let d = roomy h in
-      let e : n ≡ length xs = omega (arith, w.many) in
-      let s = spell_length xs in
       record {
         answered = ap Ok e ∙ sym (ap (λ (x : Differed). x.answer) d);
-        listed = w.words ∙ stores_lay list 0 (spell_lines xs) (omega arith) ∙ laid_front list (spell_lines xs) ∙ sym (ap (λ (x : Differed). over (spell_lines x.lines) list) d);
+        listed = w ∙ sym (ap (λ (x : Differed). over (spell_lines x.lines) list) d);
       }
 
--- No line.
-pub list_nothing : (list : List ℕ) (xs : List Line) → 0 ≡ length xs → ListedIn list xs (Ok 0) list
-list_nothing list [] e =
-    let d = roomy list [] (omega arith) in
-    record {
-      answered = sym (ap (λ (x : Differed). x.answer) d);
-      listed = sym (over_nothing list) ∙ sym (ap (λ (x : Differed). over (spell_lines x.lines) list) d);
-    }
-list_nothing list (x ∷ xs) e = absurd (omega arith)
-
--- The lines were counted with an empty part of the list, which came back as it was.
-module _ (list : List ℕ) (xs : List Line) {part : List ℕ} {n : ℕ} where
-  pub back_cramped : (ys : List ℕ) → length ys ≡ 0 → Laid part 0 xs ys n → length (ys ++ list) < 5 * n → ListedIn list xs (Err (why.NoRoom n)) (ys ++ list)
-  back_cramped [] z w h = list_cramped list xs n (omega (arith, w.many)) h
-  back_cramped (y ∷ ys) z w h = absurd (omega arith)
-
-  pub back_nothing : (ys : List ℕ) → length ys ≡ 0 → Laid part 0 xs ys n → n ≡ 0 → ListedIn list xs (Ok 0) (ys ++ list)
-  back_nothing [] z w e = list_nothing list xs (omega (arith, w.many))
-  back_nothing (y ∷ ys) z w e = absurd (omega arith)
-
-  pub back_whole : (ys : List ℕ) {left : List ℕ} {m : ℕ} → length ys ≡ 0 → Laid part 0 xs ys n → 5 * n ≤ length (ys ++ list) → Laid (ys ++ list) 0 xs left m → ListedIn list xs (Ok m) left
-  back_whole [] z w h v = list_whole list xs (omega (arith, w.many)) v
-  back_whole (y ∷ ys) z w h v = absurd (omega arith)
+  -- Of lines that were counted first.
+  pub list_counted : {left : List ℕ} {r : Result ℕ ℕ} {q : Result ℕ DifferRefusal} → Counted (length xs) (spell_lines xs) list r left
+      → ((m : ℕ) → r ≡ Ok m → q ≡ Ok m) → ((m : ℕ) → r ≡ Err m → q ≡ Err (why.NoRoom m)) → ListedIn list xs q left
+  list_counted {left} {r} {q} c f g =
+      by_test (leb (5 * length xs) (length list))
+      (λ t. let h = leb-true (5 * length xs) (length list) t in
+      let k = c.roomy h in
+      subst (λ (z : Result ℕ DifferRefusal). ListedIn list xs z left) (sym (f (length xs) k.0)) (list_whole h refl k.1))
+      (λ t. let h = leb-false (5 * length xs) (length list) t in
+      let k = c.cramped h in
+      subst (λ (z : Result ℕ DifferRefusal). ListedIn list xs z left) (sym (g (length xs) k.0)) (subst (λ (z : List ℕ). ListedIn list xs (Err (why.NoRoom (length xs))) z) (sym k.1) (list_cramped (length xs) refl h)))
 
 -- ---- each way through the call
 
@@ -104,6 +89,13 @@ module _ (one two list : List ℕ) where
   second_bad d e =
       differ_of (refused_by (Err (why.BadRecord side.Second)))
       (given_on (sound_words one) (refused_by (Err (why.BadRecord side.First))) _ d ∙ given_off (sound_words two) (refused_by (Err (why.BadRecord side.Second))) _ e) refl (sym (over_nothing list))
+
+  -- 17 of the side that the test of both names.
+  pub side_bad : {r : Result ⊤ Side} {q : Result ℕ DifferRefusal} → r ≡ both_sound one two → (r ≡ Ok tt → ⊥) → ((x : Side) → r ≡ Err x → q ≡ Err (why.BadRecord x)) → DifferOf one two list q list
+  side_bad {r = Ok u} {q = q} e n f = absurd (n refl)
+  side_bad {r = Err x} {q = q} e n f =
+      subst (λ (z : Result ℕ DifferRefusal). DifferOf one two list z list) (sym (f x refl))
+      (side_unsound one two (λ s. DifferOf one two list (Err (why.BadRecord s)) list) x (sym e) first_bad second_bad)
 
   module _ (d : sound_words one ≡ true) (e : sound_words two ≡ true) where
     both_good : differ one two (length list) ≡ listed_in (length list) (differences (ledger_of one) (ledger_of two))

@@ -1,7 +1,5 @@
 -- What is answered about two lent records, and the lent list afterwards.
-use Rattle.std.specs.Prelude.{◌≡◌, Bool, true, List, [], ◌∷◌, ℕ, suc, ◌+◌, ◌*◌, ◌≤◌, ◌<◌, length, leb, Result, Ok, Err}
-use Rattle.std.proofs.lemmas.List.Edits.{sets}
-use Rattle.rulebook.specs.declared.Cell.{Cell}
+use Rattle.std.specs.Prelude.{◌≡◌, true, List, [], ◌∷◌, ℕ, suc, ◌+◌, ◌*◌, ◌≤◌, ◌<◌, length, leb, Result, Ok, Err}
 use Rattle.rulebook.specs.Tools.{whenever}
 use Rattle.rulebook.specs.Weights.{last_slot}
 use Rattle.rulebook.specs.declared.Refusal.TheVariants as refusal
@@ -12,6 +10,8 @@ use Rattle.soundness.specs.Sound.{sound_words}
 use Rattle.difference_lines.specs.declared.Side.TheVariants as side
 use Rattle.differences.specs.declared.DifferRefusal.{DifferRefusal}
 use Rattle.differences.specs.declared.DifferRefusal.TheVariants as why
+use Rattle.differences.specs.Rows.{most_lines}
+use Rattle.differences.specs.Rows as rows
 use Rattle.difference_lines.specs.Lines.{Line, side_number, spell_lines, same_tables, differences}
 
 -- The answer, and the lines that stand from the list's front.
@@ -51,17 +51,8 @@ differ_panel (Err (why.NoRoom n)) = record { number = refusal_number refusal.NoR
 -- ---- the parts
 
 -- Lines put into the list behind the first `at`, as far as it reaches, every other word as it was; and how many there are then.
-pub record Laid (list : List ℕ) (at : ℕ) (xs : List Line) (left : List ℕ) (next : ℕ) : Type 0 where
-  pub words : left ≡ sets list (5 * at) (spell_lines xs)
-  pub many : next ≡ at + length xs
-
--- Two ledgers have no more lines than this: 15 for each node in each slot.
-abbrev pub most_lines : ℕ
-most_lines = 491520
-
--- Where two cells are told to be the same, they are; they may be the same votes in another order else.
-abbrev pub SameCell : Cell → Cell → Bool → Type 0
-SameCell c d r = r ≡ true → c ≡ d
+abbrev pub Laid : List ℕ → ℕ → List Line → List ℕ → ℕ → Type 0
+Laid = rows.Laid spell_lines
 
 -- Two sound records.
 pub record Sounds (one two : List ℕ) : Type 0 where

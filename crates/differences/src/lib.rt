@@ -6,11 +6,13 @@ ghost use Rattle.rulebook.specs.Tools.{lower, lowest};
 ghost use Rattle.record.specs.Layout.{ledger_of};
 ghost use Rattle.difference_lines.specs.Lines.{line_for, vote_line, blocks_of, block_lines, cell_lines, slot_lines, vote_lines, tables_line};
 ghost use Rattle.difference_lines.specs.Lines.{side_number as sideNumberOf, keeps as keepsVote, same_tables as sameTablesOf};
-ghost use Rattle.differences.specs.Lent.{Laid, most_lines, SameCell, Sounds, Alike, InRow, ListedIn, DifferOf};
+ghost use Rattle.differences.specs.Rows.{Row, ListsAll, most_lines};
+ghost use Rattle.differences.specs.Both.{both_sound};
+ghost use Rattle.differences.specs.Lent.{Laid, Sounds, Alike, InRow, ListedIn, DifferOf};
 
 use cells::place_of;
 use difference_lines::Side;
-use record::{LAST_SLOT, count, load_cell, stake};
+use record::{LAST_SLOT, count, load_cell, stakes_of};
 use rulebook::{Cell, Node, Place, Slot, Vote, VoteKind};
 use soundness::sound;
 
@@ -28,6 +30,7 @@ pub enum DifferRefusal {
 }
 
 // A side's number beside a vote and beside 17.
+#[tactic(auto, unfolding(difference_lines::specs::Lines::side_number))]
 pub fn side_number(side: Side) -> u64
     ensures { result ≡ sideNumberOf side }
 {
@@ -39,7 +42,7 @@ pub fn side_number(side: Side) -> u64
 }
 
 // Puts a word where the list has a place for it.
-pub fn put_word(list: &mut [u64], i: usize, w: u64)
+fn put_word(list: &mut [u64], i: usize, w: u64)
     ensures { list.new ≡ set list.old i w }
 {
     if i < list.len() {
@@ -47,32 +50,53 @@ pub fn put_word(list: &mut [u64], i: usize, w: u64)
     }
 }
 
+// Puts a line's words behind the first `at` lines, as far as the list reaches, and answers how many lines there are then.
+pub fn put_row(list: &mut [u64], at: usize, row: [u64; LINE_WORDS]) -> usize
+    requires { at + 1 ≤ most_lines }
+    ensures { Row list.old at row list.new result }
+{
+    for (k, w) in row.iter().enumerate() {
+        put_word(list, LINE_WORDS * at + k, *w);
+    }
+    at + 1
+}
+
+// Lists all lines, counted first: where they have no room, nothing is put, and the number of lines needed is answered.
+pub fn list_all<F: Fn(&mut [u64]) -> usize>(list: &mut [u64], put: F) -> Result<usize, usize>
+    requires { F.IsAlwaysCallable put }
+    ensures { ListsAll F.Fn put list.old result list.new }
+{
+    let needed = put(&mut list[0..0]);
+    if list.len() / LINE_WORDS < needed {
+        return Err(needed);
+    }
+    if needed == 0 {
+        return Ok(0);
+    }
+    Ok(put(list))
+}
+
 // Puts a line behind the first `at`, and answers how many there are then.
 fn put_line(list: &mut [u64], at: usize, v: Vote, side: Side) -> usize
     requires { at + 1 ≤ most_lines }
     ensures { Laid list.old at (line_for v side ∷ []) list.new result }
 {
-    let i = LINE_WORDS * at;
-    let slot = v.slot;
-    let node = v.node;
-    let kind = v.kind;
-    put_word(list, i, slot.0 as u64);
-    put_word(list, i + 1, node.0 as u64);
-    put_word(list, i + 2, u64::from(kind));
-    put_word(list, i + 3, v.block);
-    put_word(list, i + 4, side_number(side));
-    at + 1
+    let row = [
+        v.slot.0 as u64,
+        v.node.0 as u64,
+        u64::from(v.kind),
+        v.block,
+        side_number(side),
+    ];
+    put_row(list, at, row)
 }
 
 // Whether a cell keeps that very vote.
+#[tactic(auto, unfolding(difference_lines::specs::Lines::keeps, difference_lines::specs::Lines::is_same))]
 fn keeps(c: Cell, k: VoteKind, b: u64) -> bool
     ensures { result ≡ keepsVote c k b }
 {
-    match place_of(c, k, b) {
-        Place::Same => true,
-        Place::Free => false,
-        Place::Taken => false,
-    }
+    place_of(c, k, b) == Place::Same
 }
 
 // Puts the line for a vote, where one of its node's cells keeps it and the other does not.
@@ -115,6 +139,7 @@ fn fallback_above(after: u64, c: Cell, best: u64) -> u64
 }
 
 // The lowest block above another that two cells name in votes of a kind, 0 where there is none.
+#[tactic(auto, unfolding(rulebook::specs::Tools::lowest, difference_lines::specs::Lines::blocks_of))]
 fn block_above(after: u64, k: VoteKind, c: Cell, d: Cell) -> u64
     ensures { result ≡ lowest (ltb after) (blocks_of k c d) }
 {
@@ -127,10 +152,7 @@ fn block_above(after: u64, k: VoteKind, c: Cell, d: Cell) -> u64
             let there = fallback_above(after, d, 0);
             fallback_above(after, c, there)
         }
-        VoteKind::Skip => 0,
-        VoteKind::SkipFallback => 0,
-        VoteKind::Final => 0,
-        VoteKind::Other => 0,
+        VoteKind::Skip | VoteKind::SkipFallback | VoteKind::Final | VoteKind::Other => 0,
     }
 }
 
@@ -171,39 +193,17 @@ fn put_cell(list: &mut [u64], at: usize, slot: Slot, node: Node, c: Cell, d: Cel
     requires { at + 15 ≤ most_lines }
     ensures { Laid list.old at (cell_lines slot.0 node.0 c d) list.new result }
 {
+    let vote = |kind| Vote {
+        kind,
+        node,
+        slot,
+        block: 0,
+    };
     let a = put_blocks(list, at, slot, node, VoteKind::Notar, c, d);
     let b = put_blocks(list, a, slot, node, VoteKind::NotarFallback, c, d);
-    let skip = Vote {
-        kind: VoteKind::Skip,
-        node,
-        slot,
-        block: 0,
-    };
-    let e = put_vote(list, b, skip, c, d);
-    let fallback = Vote {
-        kind: VoteKind::SkipFallback,
-        node,
-        slot,
-        block: 0,
-    };
-    let f = put_vote(list, e, fallback, c, d);
-    let last = Vote {
-        kind: VoteKind::Final,
-        node,
-        slot,
-        block: 0,
-    };
-    put_vote(list, f, last, c, d)
-}
-
-// Whether two cells keep the same words, and so the same votes.
-fn same_cell(c: Cell, d: Cell) -> bool
-    ensures { SameCell c d result }
-{
-    let initial = (c.notar == d.notar) & (c.skip == d.skip);
-    let front = (c.fallback1 == d.fallback1) & (c.fallback2 == d.fallback2);
-    let fallbacks = front & (c.fallback3 == d.fallback3);
-    initial & (fallbacks & ((c.skipfallback == d.skipfallback) & (c.finalvote == d.finalvote)))
+    let e = put_vote(list, b, vote(VoteKind::Skip), c, d);
+    let f = put_vote(list, e, vote(VoteKind::SkipFallback), c, d);
+    put_vote(list, f, vote(VoteKind::Final), c, d)
 }
 
 // The same, by one look where the cells are equal.
@@ -211,7 +211,7 @@ fn put_node(list: &mut [u64], at: usize, slot: Slot, node: Node, c: Cell, d: Cel
     requires { at + 15 ≤ most_lines }
     ensures { Laid list.old at (cell_lines slot.0 node.0 c d) list.new result }
 {
-    if same_cell(c, d) {
+    if c == d {
         return at;
     }
     put_cell(list, at, slot, node, c, d)
@@ -249,14 +249,7 @@ fn list_votes(list: &mut [u64], one: &[u64], two: &[u64]) -> Result<usize, Diffe
     requires { Alike one.now two.now }
     ensures { ListedIn list.old (vote_lines (ledger_of one.now) (ledger_of two.now)) result list.new }
 {
-    let needed = put_votes(&mut list[0..0], one, two);
-    if list.len() < LINE_WORDS * needed {
-        return Err(DifferRefusal::NoRoom(needed));
-    }
-    if needed == 0 {
-        return Ok(0);
-    }
-    Ok(put_votes(list, one, two))
+    list_all(list, |part| put_votes(part, one, two)).map_err(DifferRefusal::NoRoom)
 }
 
 // Lists the one line that says that the stake tables differ.
@@ -275,22 +268,26 @@ fn list_tables(list: &mut [u64]) -> Result<usize, DifferRefusal>
     Ok(put_line(list, 0, v, Side::Neither))
 }
 
+// The side whose words are no record, the first if both are none.
+#[tactic(auto, unfolding(crate::specs::Both::both_sound, rulebook::specs::Tools::whenever))]
+pub fn both_sound(one: &[u64], two: &[u64]) -> Result<(), Side>
+    ensures { result ≡ both_sound one.now two.now }
+{
+    if !sound(one) {
+        return Err(Side::First);
+    }
+    if !sound(two) {
+        return Err(Side::Second);
+    }
+    Ok(())
+}
+
 // Whether two records have the same stake table, whatever their own numbers.
 pub fn same_tables(one: &[u64], two: &[u64]) -> bool
     requires { Sounds one.now two.now }
     ensures { result ≡ sameTablesOf (ledger_of one.now) (ledger_of two.now) }
 {
-    let nodes = count(one);
-    if nodes != count(two) {
-        return false;
-    }
-    let mut same = true;
-    for n in 0..nodes {
-        let w = stake(one, Node(n));
-        let v = stake(two, Node(n));
-        same = same & (w.0 == v.0);
-    }
-    same
+    stakes_of(one) == stakes_of(two)
 }
 
 // Which stored votes of two records differ, as lines from the list's front: refused with 17 and the side, or with 9 and the number of
@@ -298,12 +295,7 @@ pub fn same_tables(one: &[u64], two: &[u64]) -> bool
 pub fn differ(one: &[u64], two: &[u64], list: &mut [u64]) -> Result<usize, DifferRefusal>
     ensures { DifferOf one.now two.now list.old result list.new }
 {
-    if !sound(one) {
-        return Err(DifferRefusal::BadRecord(Side::First));
-    }
-    if !sound(two) {
-        return Err(DifferRefusal::BadRecord(Side::Second));
-    }
+    both_sound(one, two).map_err(DifferRefusal::BadRecord)?;
     if !same_tables(one, two) {
         return list_tables(list);
     }

@@ -1,32 +1,33 @@
 -- Each way out: 17 of either side, other tables, the votes.
+use Rattle.std.specs.Prelude.{◌≡◌, Ok}
+use Rattle.std.proofs.Common.{rules}
 use mathlib.Core.Path.{◌∙◌, sym}
-use Rattle.differences.proofs.ListLaws.{first_bad, second_bad, tables_differ, votes_differ}
+use Rattle.differences.proofs.Both.{both_sounds}
+use Rattle.differences.proofs.ListLaws.{side_bad, tables_differ, votes_differ}
 use Rattle.differences.proofs.differ.Goals as goal
 
-pub returns-then-not-sound : goal.returns-then-not-sound
-returns-then-not-sound c =
-    let a = c.args in first_bad a.one.now a.two.now a.list.now (sym c.sound.ensures ∙ c.if-not-sound.true)
-
-pub returns-then-not-sound-2 : goal.returns-then-not-sound-2
-returns-then-not-sound-2 c =
-    let a = c.args in second_bad a.one.now a.two.now a.list.now (sym c.sound.ensures ∙ c.if-not-sound.false) (sym c.sound-2.ensures ∙ c.if-not-sound-2.true)
+pub returns-in_err-map_err : goal.returns-in_err-map_err
+returns-in_err-map_err c =
+    let a = c.args in side_bad a.one.now a.two.now a.list.now c.both_sound.ensures (search rules) (λ x e. search rules)
 
 pub same_tables-requires : goal.same_tables-requires
-same_tables-requires c =
-    record { first = sym c.sound.ensures ∙ c.if-not-sound.false; second = sym c.sound-2.ensures ∙ c.if-not-sound-2.false }
+same_tables-requires c = let e : c.both_sound.result ≡ Ok tt = search rules in both_sounds _ _ (sym c.both_sound.ensures ∙ e)
 
 pub returns-then-not-same_tables : goal.returns-then-not-same_tables
 returns-then-not-same_tables c =
     let a = c.args in
-    tables_differ a.one.now a.two.now a.list.now (sym c.sound.ensures ∙ c.if-not-sound.false) (sym c.sound-2.ensures ∙ c.if-not-sound-2.false)
-    (sym c.same_tables.ensures ∙ c.if-not-same_tables.true) c.list_tables.ensures
+    let e : c.both_sound.result ≡ Ok tt = search rules in
+    let k = both_sounds _ _ (sym c.both_sound.ensures ∙ e) in
+    tables_differ a.one.now a.two.now a.list.now k.first k.second (sym c.same_tables.ensures ∙ c.if-not-same_tables.true) c.list_tables.ensures
 
 pub list_votes-requires : goal.list_votes-requires
 list_votes-requires c =
-    record { sounds = record { first = sym c.sound.ensures ∙ c.if-not-sound.false; second = sym c.sound-2.ensures ∙ c.if-not-sound-2.false }; same = sym c.same_tables.ensures ∙ c.if-not-same_tables.false }
+    let e : c.both_sound.result ≡ Ok tt = search rules in
+    record { sounds = both_sounds _ _ (sym c.both_sound.ensures ∙ e); same = sym c.same_tables.ensures ∙ c.if-not-same_tables.false }
 
 pub returns : goal.returns
 returns c =
     let a = c.args in
-    votes_differ a.one.now a.two.now a.list.now (sym c.sound.ensures ∙ c.if-not-sound.false) (sym c.sound-2.ensures ∙ c.if-not-sound-2.false)
-    (sym c.same_tables.ensures ∙ c.if-not-same_tables.false) c.list_votes.ensures
+    let e : c.both_sound.result ≡ Ok tt = search rules in
+    let k = both_sounds _ _ (sym c.both_sound.ensures ∙ e) in
+    votes_differ a.one.now a.two.now a.list.now k.first k.second (sym c.same_tables.ensures ∙ c.if-not-same_tables.false) c.list_votes.ensures

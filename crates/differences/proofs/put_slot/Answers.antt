@@ -1,10 +1,10 @@
 -- The loop over the nodes: the lines of those behind it are put.
-use Prim.Native.Nat.{◌-◌}
 use native.Mathlib.Omega.{arith}
 use Rattle.record.specs.Layout.{ledger_of}
 use Rattle.soundness.proofs.Laws.{sound_long}
 use Rattle.difference_lines.specs.Lines.{cell_lines, slot_lines}
-use Rattle.differences.proofs.LineLaws.{laid_as, first_put, next_put, next_last, row_most}
+use Rattle.differences.proofs.Rows.{laid_as}
+use Rattle.differences.proofs.LineLaws.{first_put, next_put, next_last, row_most}
 use Rattle.differences.proofs.TableLaws.{alike_few, alike_here, alike_there}
 use Rattle.differences.proofs.put_slot.Goals as goal
 

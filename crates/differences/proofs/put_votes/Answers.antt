@@ -1,11 +1,12 @@
 -- The loop over the slots: the lines of those behind it are put.
 use mathlib.Core.Path.{◌≡◌, ap}
-use Prim.Native.Nat.{◌+◌, ◌-◌}
+use Prim.Native.Nat.{◌+◌}
 use native.Mathlib.Omega.{arith}
 use Prim.Native.Nat.{suc}
 use Rattle.record.specs.Layout.{ledger_of}
 use Rattle.difference_lines.specs.Lines.{slot_lines, vote_lines}
-use Rattle.differences.proofs.LineLaws.{laid_as, first_put, next_put, next_last, slots_most}
+use Rattle.differences.proofs.Rows.{laid_as}
+use Rattle.differences.proofs.LineLaws.{first_put, next_put, next_last, slots_most}
 use Rattle.differences.proofs.TableLaws.{alike_few}
 use Rattle.differences.proofs.put_votes.Goals as goal
 

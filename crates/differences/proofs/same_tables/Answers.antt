@@ -1,37 +1,17 @@
--- The loop has joined the tests of the stakes behind it.
-use mathlib.Core.Path.{sym}
-use Prim.Native.Nat.{◌-◌}
-use native.Mathlib.Omega.{arith}
-use lib.Dec.{eqb}
-use Rattle.rule_laws.proofs.ToolLaws.{all_none}
-use Rattle.soundness.proofs.Laws.{sound_long, sound_placed, all_step}
-use Rattle.differences.proofs.TableLaws.{other_count, same_count}
+-- The stakes of the nodes, compared as lists.
+use Rattle.std.proofs.Common.{rules}
+use Rattle.record.specs.Layout.{ledger_of}
+use Rattle.soundness.proofs.Laws.{sound_counted, sound_placed}
+use Rattle.differences.proofs.TableLaws.{tables_told}
 use Rattle.differences.proofs.same_tables.Goals as goal
 
-pub count-nodes-requires : goal.count-nodes-requires
-count-nodes-requires c = sound_long _ c.requires.first
+pub stakes_of-requires : goal.stakes_of-requires
+stakes_of-requires c = sound_counted _ c.requires.first
 
-pub count-requires : goal.count-requires
-count-requires c = sound_long _ c.requires.second
-
-pub returns-then-nodes-count : goal.returns-then-nodes-count
-returns-then-nodes-count c = other_count _ _ c.count-nodes.ensures c.count.ensures c.if-nodes-count.true
-
-pub loop-n-init : goal.loop-n-init
-loop-n-init c = (omega arith, sym (all_none _))
-
-pub stake-w-requires : goal.stake-w-requires
-stake-w-requires c =
-    record { long = sound_long _ c.requires.first; node = omega (arith, c.loop-n-test.true, c.count-nodes.ensures, sound_placed _ c.requires.first) }
-
-pub stake-v-requires : goal.stake-v-requires
-stake-v-requires c =
-    record { long = sound_long _ c.requires.second; node = omega (arith, c.loop-n-test.true, c.if-nodes-count.false, c.count.ensures, sound_placed _ c.requires.second) }
-
-pub loop-n-preserved : goal.loop-n-preserved
-loop-n-preserved c =
-    (omega (arith, c.loop-n-test.true), all_step c.loop-n.n _ _ _ c.loop-n.invariant.1 (λ i. eqb (c.stake-w.ensures i) (c.stake-v.ensures i)))
+pub stakes_of-requires-2 : goal.stakes_of-requires-2
+stakes_of-requires-2 c = sound_counted _ c.requires.second
 
 pub returns : goal.returns
 returns c =
-    same_count _ _ c.count-nodes.ensures c.count.ensures c.if-nodes-count.false (omega (arith, c.loop-n-test.false, c.loop-n.invariant.0)) c.loop-n.invariant.1
+    let a = c.args in
+    tables_told (ledger_of a.one.now) (ledger_of a.two.now) (sound_placed _ c.requires.first) (sound_placed _ c.requires.second) _ (search rules) (search rules)
