@@ -21,6 +21,7 @@ use Rattle.rulebook.specs.Messages.{read_vote, write_vote}
 use Rattle.rulebook.specs.Writers as written
 use Rattle.rulebook.specs.Writers.{Writes, write_certificate, write_proof}
 use Rattle.rule_laws.proofs.ToolLaws.{given_on}
+use Rattle.rule_laws.proofs.PanelLaws.{refusal_numbered, done_told}
 use Rattle.packets.specs.Promises.{parts, accepted_for, proof_kind}
 use Rattle.packets.proofs.Back as back
 use Rattle.packets.proofs.Table.{table_of_record}
@@ -32,7 +33,6 @@ use Rattle.readback.proofs.Words.{packet_is, certificate_sound, certificate_leng
 use Rattle.answers.specs.Face.{Wrote, Checked, MessageRead, accepted_values, vote_values}
 use Rattle.promises.specs.Exactly.{WrittenExactly}
 use Rattle.promises.proofs.Held.{certificate_exactly, proof_exactly}
-use Rattle.promises.proofs.Numbered.{refusal_numbered, write_done}
 use Rattle.exactly.specs.Written.{NumberedExactly, FaceCertificateExactly, FaceProofExactly, FaceBack, FaceCertificateBack, FaceProofBack, FaceVoteBack, FaceOneSpelling}
 
 -- ---- numbers
@@ -75,10 +75,11 @@ number_missing (Err r) e = ap Err (eighteen r e)
 -- ---- exactly
 
 numbered : {fits : Type 0} {there : Bool} (a : Result ℕ Refusal) (number : ℕ) → number ≡ (write_panel a).number → WrittenExactly fits there a → NumberedExactly fits there number
+unfolding write_panel
 numbered a number e w =
     record {
       written = λ f t. let x = w.written f t in e ∙ written_number a x.0 x.1;
-      only_then = λ z. let x = write_done a (sym e ∙ z) in w.only_then x.0 x.1;
+      only_then = λ z. let x = done_told a (sym e ∙ z) in w.only_then x.0 x.1;
       missing = λ f t. e ∙ missing_number a (w.missing f t);
       only_missing = λ z. w.only_missing (number_missing a (sym e ∙ z));
     }
@@ -112,13 +113,13 @@ accepted_told {n} answer told e number values missing h =
     (h.numbered ∙ ap check_number e, h.valued ∙ ap (check_values n) e, h.lacked ∙ ap check_missing e)
 
 pub face_certificate_back : FaceCertificateBack
-unfolding certificate_on
+unfolding certificate_on write_panel
 face_certificate_back ws buffer kind s b count after small h =
     let l : Ledger = ledger_of ws in
     let k = kind_on ws kind in
     let room : ℕ = length buffer in
     let w : written.Wrote = certificate_on ws room kind s b in
-    let x = write_done w.answer (sym h.numbered) in
+    let x = done_told w.answer (sym h.numbered) in
     let so = certificate_sound ws room kind s b x.0 x.1 in
     let on : w ≡ write_certificate l room k s b = given_on _ unsound (λ _. write_certificate l room k s b) so in
     let n : count ≡ length w.bytes = sym (counted w.answer x.0 count x.1 h.counted) ∙ certificate_length ws room kind s b x.0 x.1 in
@@ -131,12 +132,12 @@ face_certificate_back ws buffer kind s b count after small h =
     }
 
 pub face_proof_back : FaceProofBack
-unfolding proof_on
+unfolding proof_on write_panel
 face_proof_back ws buffer s b count after small h =
     let l : Ledger = ledger_of ws in
     let room : ℕ = length buffer in
     let w : written.Wrote = proof_on ws room s b in
-    let x = write_done w.answer (sym h.numbered) in
+    let x = done_told w.answer (sym h.numbered) in
     let so = proof_sound ws room s b x.0 x.1 in
     let on : w ≡ write_proof l room s b = given_on _ unsound (λ _. write_proof l room s b) so in
     let n : count ≡ length w.bytes = sym (counted w.answer x.0 count x.1 h.counted) ∙ proof_length ws room s b x.0 x.1 in
@@ -151,10 +152,10 @@ face_proof_back ws buffer s b count after small h =
 -- ---- vote messages
 
 pub face_vote_back : FaceVoteBack
-unfolding read_panel
+unfolding read_panel write_panel
 face_vote_back nodes v buffer count after number values small h r =
     let w : written.Wrote = write_vote nodes (length buffer) v in
-    let x = write_done w.answer (sym h.numbered) in
+    let x = done_told w.answer (sym h.numbered) in
     let n = counted w.answer x.0 count x.1 h.counted in
     let e : read_vote nodes (take count after) ≡ Ok v =
     ap (λ (m : ℕ). read_vote nodes (take m after)) (sym n) ∙ written_back nodes x.0 v buffer after small (record { answered = sym x.1; bytes = h.bytes }) in

@@ -9,12 +9,13 @@ use lib.Dec.{eqb}
 use Rattle.rulebook.specs.declared.Refusal.{Refusal}
 use Rattle.rulebook.specs.declared.Cell.{Cell}
 use Rattle.rulebook.specs.declared.Tally.{Tally}
-use Rattle.rulebook.specs.PaperNumbers.{Panel, refusal_number, verdict_number}
+use Rattle.rulebook.specs.PaperNumbers.{Panel, refusal_number, verdict_number, step_panel}
 use Rattle.rulebook.specs.Tools.{choose}
 use Rattle.rulebook.specs.Weights.{slot_ok}
 use Rattle.rulebook.specs.Ledger.{Ledger, row_at}
 use Rattle.rulebook.specs.Inputs.{refuse_if, verdict, feed}
 use Rattle.rule_laws.proofs.ToolLaws.{by_test}
+use Rattle.rule_laws.proofs.PanelLaws.{refused_told, zeros_told}
 use Rattle.record.specs.Layout.{ledger_of}
 use Rattle.soundness.specs.Sound.{sound_words}
 use Rattle.soundness.proofs.Laws.{disagreeing_unsound}
@@ -35,7 +36,6 @@ use Rattle.readers.proofs.Ways.{head_unsound}
 use Rattle.promises.specs.Panels.{shown, beside_it, sound_first, step_judged, take_judged, tray_judged}
 use Rattle.promises.specs.Differs.{shown_as}
 use Rattle.promises.specs.Cards.{CardShown, FaceCardRefused, card_line, CardPrinted, RefusedEverywhere, DisagreeingRefused, RefusedCards, FaceRefusedCards}
-use Rattle.promises.proofs.Numbered.{step_refusal}
 use Rattle.promises.proofs.Shown.{step_shown, take_shown, tray_shown, certificate_shown, proof_shown}
 use Rattle.promises.proofs.Refused.{fed_kept, face_step_refused, face_take_refused, face_tray_refused}
 use Rattle.promises.proofs.Differs.{face_differ}
@@ -64,15 +64,9 @@ card_shown ws s a e =
     (λ u. rw (e ∙ slotless_card ws s t u, t, u)))
     (λ t. rw (e ∙ unsound_card ws s t, t))
 
-card_refusal : (a : Result Tally Refusal) → ¬ ((card_panel a).number ≡ 0) → (r : Refusal) × (a ≡ Err r)
-unfolding card_panel
-card_refusal (Ok t) h = absurd (h refl)
-card_refusal (Err r) h = (r, refl)
-
 pub face_card_refused : FaceCardRefused
 unfolding card_panel
-face_card_refused answer number values h ne =
-    let x = card_refusal answer (λ e. ne (h.numbered ∙ e)) in h.valued ∙ ap (λ (a : Result Tally Refusal). (card_panel a).values) x.1
+face_card_refused answer number values h ne = h.valued ∙ zeros_told _ _ answer (λ e. ne (h.numbered ∙ e))
 
 -- The number of the question for a card is never 15.
 never_light : (ws : List ℕ) (s : ℕ) → eqb (card_panel (card_on ws s)).number 15 ≡ false
@@ -148,9 +142,9 @@ disagreeing_refused ws d = unsound_refused ws (disagreeing_unsound ws d.slot d.l
 -- ---- refusals
 
 pub refused_cards : RefusedCards
-unfolding feed
+unfolding feed step_panel
 refused_cards l i ne s =
-    let x = step_refusal (feed l i).answer ne in
+    let x = refused_told (feed l i).answer ne in
     ap (λ (m : Ledger). (row_at m s).card) (fed_kept l i (verdict l i) x.0 x.1).0
 
 pub face_refused_cards : FaceRefusedCards

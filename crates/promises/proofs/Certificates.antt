@@ -26,6 +26,7 @@ use Rattle.rulebook.specs.WellFormed.{kept_in, each_kept, certificate_fits, in_t
 use Rattle.rule_laws.proofs.ToolLaws.{and_both, by_test, true_not_false}
 use Rattle.rule_laws.proofs.KindLaws.{kind_back}
 use Rattle.rule_laws.proofs.CertificateLaws.{kind_same, apart_at_lem, record_certificates}
+use Rattle.rule_laws.proofs.PanelLaws.{refusal_numbered}
 use Rattle.packets.proofs.Table.{table_of_record}
 use Rattle.record.specs.Layout.{ledger_of}
 use Rattle.soundness.specs.Sound.{sound_words}
@@ -33,7 +34,6 @@ use Rattle.soundness.proofs.Laws.{sound_formed}
 use Rattle.taking.specs.Taking.{take_leaves}
 use Rattle.promises.specs.Panels.{shown, sound_first, else_then, certificate_checked, kept_judged, take_judged}
 use Rattle.promises.specs.Certificates.{AsChecked, FaceTakeChecked, certificate_in, BadlyKept, refused_one, repeated, BadlyKeptRefused}
-use Rattle.promises.proofs.Numbered.{refusal_numbered}
 use Rattle.promises.proofs.Shown.{take_shown}
 use Rattle.promises.proofs.ShownChecks.{certificate_check_shown}
 use Rattle.promises.proofs.Cards.{unsound_refused}

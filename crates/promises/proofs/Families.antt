@@ -23,12 +23,12 @@ use Rattle.rule_laws.proofs.ToolLaws.{given_on}
 use Rattle.rule_laws.proofs.RuleLaws.{refuse_fine}
 use Rattle.rule_laws.proofs.KindLaws.{kind_range, number_back}
 use Rattle.rule_laws.proofs.AcceptedLaws.{accepted_single, accepted_proof, Proven, one, two}
+use Rattle.rule_laws.proofs.PanelLaws.{done_told}
 use Rattle.record.specs.Layout.{ledger_of}
 use Rattle.soundness.specs.Sound.{sound_words}
 use Rattle.writers.specs.Writing.{kind_on, certificate_on}
 use Rattle.answers.specs.Face.{Wrote, Checked}
 use Rattle.promises.specs.Families.{OfTable, ReadOwn, ReadsOwn, RefusesOther, WritesOwn, AsksOther, AsEver, OldKindsStay}
-use Rattle.promises.proofs.Numbered.{check_accepted, write_done}
 use Rattle.promises.proofs.Held.{certificate_exactly}
 
 -- ---- families
@@ -87,14 +87,16 @@ read_own stakes packet values a c n v r j e =
     }
 
 pub face_certificate_own : ReadsOwn check_certificate
+unfolding check_number
 face_certificate_own stakes packet values missing h =
-    let x = check_accepted (check_certificate stakes packet) (sym h.numbered) in
+    let x = done_told (check_certificate stakes packet) (sym h.numbered) in
     let s = accepted_single stakes packet x.0 x.1 in
     read_own stakes packet values x.0 s.first (length packet) (h.valued ∙ ap (check_values (length stakes)) x.1) s.read s.fine s.answer
 
 pub face_proof_own : ReadsOwn check_proof
+unfolding check_number
 face_proof_own stakes packet values missing h =
-    let x = check_accepted (check_proof stakes packet) (sym h.numbered) in
+    let x = done_told (check_proof stakes packet) (sym h.numbered) in
     go x.0 (h.valued ∙ ap (check_values (length stakes)) x.1) (accepted_proof stakes packet x.0 x.1)
   where
     go : (a : Accepted) → values ≡ check_values (length stakes) (Ok a) → Proven stakes packet a → ReadOwn stakes packet values
@@ -128,8 +130,9 @@ face_proof_other stakes packet c next number values missing fit r other h = h.nu
 -- ---- the writer
 
 pub face_writes_own : WritesOwn
+unfolding write_panel
 face_writes_own ws buffer kind s b count after h =
-    let w = write_done (certificate_on ws (length buffer) kind s b).answer (sym h.numbered) in
+    let w = done_told (certificate_on ws (length buffer) kind s b).answer (sym h.numbered) in
     let x = certificate_exactly ws buffer kind s b _ after (record { answered = refl; bytes = h.bytes }) in
     of_table (ledger_of ws).count kind (x.only_then w.0 w.1).0.kind
 

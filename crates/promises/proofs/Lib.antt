@@ -1,5 +1,4 @@
 -- The customer's sentences, proved.
-pub mod Numbered
 pub mod Refused
 pub mod Shown
 pub mod ShownChecks

@@ -23,6 +23,7 @@ use Rattle.rulebook.specs.Inputs.{refuse_if}
 use Rattle.rulebook.specs.Packets.{certificate_at}
 use Rattle.rulebook.specs.Checker.{judge_weight, judge_kind, judge, check_proof}
 use Rattle.rule_laws.proofs.ToolLaws.{given_on, by_test}
+use Rattle.rule_laws.proofs.PanelLaws.{refused_told}
 use Rattle.pieces.specs.Pieces.{Taken, nothing, since, after_piece, piece_answer, end_answer, piece_panel, Asked, piece, end, after_call, after_calls, Piece, calls, packet}
 use Rattle.pieces.specs.State.{mark, nodes, table, front, is_ready, is_whole, piece_leaves, end_leaves, PieceOf, EndOf, words_of, bytes_of}
 use Rattle.pieces.specs.Promises.{zero_words, zero_bytes}
@@ -192,14 +193,10 @@ check_low stakes bytes =
 
 -- ---- what the face leaves
 
-piece_refusal : (a : Result ⊤ Refusal) → ¬ ((piece_panel a).number ≡ 0) → (r : Refusal) × (a ≡ Err r)
-unfolding piece_panel
-piece_refusal (Ok tt) h = absurd (h refl)
-piece_refusal (Err r) h = (r, refl)
-
 pub face_piece_refused : FacePieceRefused
+unfolding piece_panel
 face_piece_refused ws bs stakes bytes number ws' bs' h ne =
-    let x = piece_refusal (piece_leaves ws bs stakes bytes).answer (λ e. ne (h.numbered ∙ e)) in
+    let x = refused_told (piece_leaves ws bs stakes bytes).answer (λ e. ne (h.numbered ∙ e)) in
     piece_refused_lem ws bs stakes bytes x.0 ws' bs' (record { answered = sym x.1; words = h.words; front = h.front })
 
 -- The number is 17 exactly where the state is refused.

@@ -24,6 +24,7 @@ use Rattle.rulebook.specs.Tools.{part}
 use Rattle.rulebook.specs.Checker.{check_proof}
 use Rattle.rulebook.specs.Writers.{Wrote, wrote_on, over}
 use Rattle.rule_laws.proofs.ToolLaws.{by_test}
+use Rattle.rule_laws.proofs.PanelLaws.{refusal_numbered, zeros_told}
 use Rattle.record.specs.Layout.{ledger_of}
 use Rattle.soundness.specs.Sound.{sound_words}
 use Rattle.mail.specs.Policy.{may_announce}
@@ -45,7 +46,7 @@ use Rattle.answers.specs.Face.{WeightsRead}
 use Rattle.texts.specs.Texts.{refusal_text, text_room, text_on}
 use Rattle.promises.specs.Panels.{shown, beside_it, sound_first, proof_checked}
 use Rattle.promises.specs.Differs.{shown_as}
-use Rattle.promises.proofs.Numbered.{refusal_numbered}
+use Rattle.promises.proofs.Refused.{only}
 use Rattle.promises.proofs.ShownChecks.{proof_check_shown}
 use Rattle.promises.specs.Readers.{FinalShown, ArmedShown, AnnounceShown, SplitShown, VotesShown, BlocksShown, MarksShown, HeadShown, WeightsShown, FaceWeightsMissing, kept_of, KeptTold, CertificatesShown, FaceCertificates, TextShown, FaceFinalRefused, FaceArmedRefused, FaceAnnounceRefused, FaceSplitRefused, FaceVotesRefused, FaceBlocksRefused, FaceMarksRefused, FaceHeadRefused, FaceWeightsRefused, FaceCertificatesRefused, FaceTextRefused}
 use Rattle.readers.specs.declared.BlockWeights.{BlockWeights}
@@ -254,81 +255,41 @@ text_shown buffer n a after h =
 
 -- ---- refusals
 
-final_refusal : (a : Result ℕ Refusal) → ¬ ((final_panel a).number ≡ 0) → (final_panel a).values ≡ 0 ∷ []
-unfolding final_panel
-final_refusal (Ok b) h = absurd (h refl)
-final_refusal (Err r) h = refl
-
-armed_refusal : (a : Result Bool Refusal) → ¬ ((armed_panel a).number ≡ 0) → (armed_panel a).values ≡ 0 ∷ []
-unfolding armed_panel
-armed_refusal (Ok b) h = absurd (h refl)
-armed_refusal (Err r) h = refl
-
-votes_refusal : (a : Result Cell Refusal) → ¬ ((votes_panel a).number ≡ 0) → (votes_panel a).values ≡ 0 ∷ 0 ∷ 0 ∷ 0 ∷ 0 ∷ 0 ∷ 0 ∷ []
-unfolding votes_panel
-votes_refusal (Ok c) h = absurd (h refl)
-votes_refusal (Err r) h = refl
-
-blocks_refusal : (a : Result KeptBlocks Refusal) → ¬ ((blocks_panel a).number ≡ 0) → (blocks_panel a).values ≡ 0 ∷ 0 ∷ 0 ∷ 0 ∷ 0 ∷ 0 ∷ 0 ∷ 0 ∷ 0 ∷ 0 ∷ 0 ∷ 0 ∷ []
-unfolding blocks_panel
-blocks_refusal (Ok k) h = absurd (h refl)
-blocks_refusal (Err r) h = refl
-
-marks_refusal : (a : Result SlotMarks Refusal) → ¬ ((marks_panel a).number ≡ 0) → (marks_panel a).values ≡ 0 ∷ 0 ∷ []
-unfolding marks_panel
-marks_refusal (Ok m) h = absurd (h refl)
-marks_refusal (Err r) h = refl
-
-head_refusal : (a : Result RecordHead Refusal) → ¬ ((head_panel a).number ≡ 0) → (head_panel a).values ≡ 0 ∷ 0 ∷ 0 ∷ 0 ∷ []
-unfolding head_panel
-head_refusal (Ok x) h = absurd (h refl)
-head_refusal (Err r) h = refl
-
-weights_refusal : (a : Result BlockWeights Refusal) → ¬ ((weights_panel a).number ≡ 0) → (weights_panel a).values ≡ 0 ∷ 0 ∷ 0 ∷ 0 ∷ []
-unfolding weights_panel
-weights_refusal (Ok w) h = absurd (h refl)
-weights_refusal (Err r) h = refl
-
-announce_refusal : (a : Result Bool Refusal) → ¬ ((announce_panel a).number ≡ 0) → (announce_panel a).values ≡ 0 ∷ []
-unfolding announce_panel
-announce_refusal (Ok x) h = absurd (h refl)
-announce_refusal (Err r) h = refl
-
-split_refusal : (a : Result ℕ Refusal) → ¬ ((split_panel a).number ≡ 0) → (split_panel a).values ≡ 0 ∷ []
-unfolding split_panel
-split_refusal (Ok n) h = absurd (h refl)
-split_refusal (Err r) h = refl
-
--- The one value beside a number.
-only : {v w : ℕ} {values : List ℕ} → v ∷ [] ≡ values → values ≡ w ∷ [] → v ≡ w
-only a b = cc
-
 pub face_final_refused : FaceFinalRefused
-face_final_refused answer number block h ne = only h.valued (final_refusal answer (λ e. ne (h.numbered ∙ e)))
+unfolding final_panel
+face_final_refused answer number block h ne = only h.valued (zeros_told _ _ answer (λ e. ne (h.numbered ∙ e)))
 
 pub face_armed_refused : FaceArmedRefused
-face_armed_refused answer number armed h ne = only h.valued (armed_refusal answer (λ e. ne (h.numbered ∙ e)))
+unfolding armed_panel
+face_armed_refused answer number armed h ne = only h.valued (zeros_told _ _ answer (λ e. ne (h.numbered ∙ e)))
 
 pub face_announce_refused : FaceAnnounceRefused
-face_announce_refused answer number may h ne = only h.valued (announce_refusal answer (λ e. ne (h.numbered ∙ e)))
+unfolding announce_panel
+face_announce_refused answer number may h ne = only h.valued (zeros_told _ _ answer (λ e. ne (h.numbered ∙ e)))
 
 pub face_split_refused : FaceSplitRefused
-face_split_refused answer number first h ne = only h.valued (split_refusal answer (λ e. ne (h.numbered ∙ e)))
+unfolding split_panel
+face_split_refused answer number first h ne = only h.valued (zeros_told _ _ answer (λ e. ne (h.numbered ∙ e)))
 
 pub face_votes_refused : FaceVotesRefused
-face_votes_refused answer number values h ne = h.valued ∙ votes_refusal answer (λ e. ne (h.numbered ∙ e))
+unfolding votes_panel
+face_votes_refused answer number values h ne = h.valued ∙ zeros_told _ _ answer (λ e. ne (h.numbered ∙ e))
 
 pub face_blocks_refused : FaceBlocksRefused
-face_blocks_refused answer number values h ne = h.valued ∙ blocks_refusal answer (λ e. ne (h.numbered ∙ e))
+unfolding blocks_panel
+face_blocks_refused answer number values h ne = h.valued ∙ zeros_told _ _ answer (λ e. ne (h.numbered ∙ e))
 
 pub face_marks_refused : FaceMarksRefused
-face_marks_refused answer number values h ne = h.valued ∙ marks_refusal answer (λ e. ne (h.numbered ∙ e))
+unfolding marks_panel
+face_marks_refused answer number values h ne = h.valued ∙ zeros_told _ _ answer (λ e. ne (h.numbered ∙ e))
 
 pub face_head_refused : FaceHeadRefused
-face_head_refused answer number values h ne = h.valued ∙ head_refusal answer (λ e. ne (h.numbered ∙ e))
+unfolding head_panel
+face_head_refused answer number values h ne = h.valued ∙ zeros_told _ _ answer (λ e. ne (h.numbered ∙ e))
 
 pub face_weights_refused : FaceWeightsRefused
-face_weights_refused answer number values h ne = h.valued ∙ weights_refusal answer (λ e. ne (h.numbered ∙ e))
+unfolding weights_panel
+face_weights_refused answer number values h ne = h.valued ∙ zeros_told _ _ answer (λ e. ne (h.numbered ∙ e))
 
 pub face_certificates_refused : FaceCertificatesRefused
 face_certificates_refused ws s list number beside left d ne =

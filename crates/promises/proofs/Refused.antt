@@ -12,7 +12,7 @@ use Rattle.rulebook.specs.declared.Refusal.{Refusal}
 use Rattle.rulebook.specs.declared.Refusal.TheVariants as refusal
 use Rattle.rulebook.specs.declared.Vote.{Vote}
 use Rattle.rulebook.specs.Ledger.{Ledger}
-use Rattle.rulebook.specs.PaperNumbers.{step_panel, write_panel, read_panel, check_values}
+use Rattle.rulebook.specs.PaperNumbers.{start_panel, step_panel, write_panel, read_panel, check_number, check_values}
 use Rattle.rulebook.specs.Inputs.{Fed, verdict, fed_with, refused_with, fed_on, feed}
 use Rattle.rulebook.specs.WellFormed.{well_formed, outbox_words, step, take_certificate}
 use Rattle.rulebook.specs.Writers.{Wrote, wrote_on, write_certificate, write_proof, certificate_verdict, proof_verdict, proof_bytes, certificate_for, over, Writes}
@@ -20,6 +20,7 @@ use Rattle.rulebook.specs.Packets.{certificate_bytes}
 use Rattle.rulebook.specs.Messages.{message_bytes, message_verdict, write_vote}
 use Rattle.rule_laws.proofs.ToolLaws.{given_on, given_off, given_keeps, by_test}
 use Rattle.rule_laws.proofs.RuleLaws as rules
+use Rattle.rule_laws.proofs.PanelLaws.{refused_told, zeros_told}
 use Rattle.record.specs.Layout.{ledger_of}
 use Rattle.record.specs.Spelling.{words_of, is_spelled}
 use Rattle.record.proofs.Spelled.{spelled_words}
@@ -31,9 +32,8 @@ use Rattle.tray_rules.specs.Trays.{votes_in, whole_votes, Served, serve, Tray, t
 use Rattle.trays.specs.Lent as trays
 use Rattle.trays.specs.Lent.{as_served, tray_leaves}
 use Rattle.writers.specs.Writing.{unsound, kind_on, certificate_on, proof_on}
-use Rattle.answers.specs.Face.{Beside}
+use Rattle.answers.specs.Face as face
 use Rattle.promises.specs.Refusals.{StartRefused, WatchRefused, StepRefused, TakeRefused, TrayRefused, CertificateRefused, ProofRefused, MessageRefused, FaceStartRefused, FaceWatchRefused, FaceStepRefused, FaceTakeRefused, FaceTrayRefused, FaceCertificateRefused, FaceProofRefused, FaceMessageRefused, FaceReadRefused, FaceCheckRefused}
-use Rattle.promises.proofs.Numbered.{start_refusal, step_refusal, write_refusal, read_refusal, check_refusal}
 
 -- ---- start
 
@@ -194,75 +194,72 @@ message_refused count v buffer r after h =
 -- ---- the face
 
 pub face_start_refused : FaceStartRefused
+unfolding start_panel
 face_start_refused ws stakes own genesis number left h ne =
-    let x = start_refusal (start_answer (start_judged ws stakes own genesis)) (λ e. ne (h.numbered ∙ e)) in
+    let x = refused_told (start_answer (start_judged ws stakes own genesis)) (λ e. ne (h.numbered ∙ e)) in
     start_refused ws stakes own genesis x.0 left (record { answered = sym x.1; words = h.words })
 
 pub face_watch_refused : FaceWatchRefused
+unfolding start_panel
 face_watch_refused ws stakes genesis number left h ne =
-    let x = start_refusal (start_answer (watch_judged ws stakes genesis)) (λ e. ne (h.numbered ∙ e)) in
+    let x = refused_told (start_answer (watch_judged ws stakes genesis)) (λ e. ne (h.numbered ∙ e)) in
     watch_refused ws stakes genesis x.0 left (record { answered = sym x.1; words = h.words })
 
--- The one value beside a refusal is 0.
-step_none : (a : Result ℕ Refusal) (made : ℕ) (r : Refusal) → a ≡ Err r → Beside made (step_panel a).values → made ≡ 0
-unfolding step_panel
-step_none a made r e b = let q : made ∷ [] ≡ 0 ∷ [] = b ∙ ap (λ (x : Result ℕ Refusal). (step_panel x).values) e in cc
-
-write_none : (a : Result ℕ Refusal) (written : ℕ) (r : Refusal) → a ≡ Err r → Beside written (write_panel a).values → written ≡ 0
-unfolding write_panel
-write_none a written r e b = let q : written ∷ [] ≡ 0 ∷ [] = b ∙ ap (λ (x : Result ℕ Refusal). (write_panel x).values) e in cc
+-- The one value beside a number.
+pub only : {v w : ℕ} {values : List ℕ} → v ∷ [] ≡ values → values ≡ w ∷ [] → v ≡ w
+only a b = cc
 
 pub face_step_refused : FaceStepRefused
+unfolding step_panel
 face_step_refused ws out i number made ws' left h ne =
-    let x = step_refusal (step_leaves ws out i).answer (λ e. ne (h.numbered ∙ e)) in
+    let a = (step_leaves ws out i).answer in
+    let x = refused_told a (λ e. ne (h.numbered ∙ e)) in
     let k = step_refused ws out i x.0 ws' left (record { answered = sym x.1; words = h.words; outbox = h.outbox }) in
-    (step_none (step_leaves ws out i).answer made x.0 x.1 h.counted, k.0, k.1)
+    (only h.counted (zeros_told _ _ a (λ e. ne (h.numbered ∙ e))), k.0, k.1)
 
 pub face_take_refused : FaceTakeRefused
+unfolding step_panel
 face_take_refused ws out packet number made ws' left h ne =
-    let x = step_refusal (take_leaves ws out packet).answer (λ e. ne (h.numbered ∙ e)) in
+    let a = (take_leaves ws out packet).answer in
+    let x = refused_told a (λ e. ne (h.numbered ∙ e)) in
     let k = take_refused ws out packet x.0 ws' left (record { answered = sym x.1; words = h.words; outbox = h.outbox }) in
-    (k.0, k.1, step_none (take_leaves ws out packet).answer made x.0 x.1 h.counted)
+    (k.0, k.1, only h.counted (zeros_told _ _ a (λ e. ne (h.numbered ∙ e))))
 
 pub face_tray_refused : FaceTrayRefused
+unfolding step_panel
 face_tray_refused ws out votes places number made ws' left answers h ne =
     let a = (tray_leaves ws out votes places).answer in
-    let x = step_refusal a (λ e. ne (h.numbered ∙ e)) in
+    let x = refused_told a (λ e. ne (h.numbered ∙ e)) in
     let k = tray_refused_lem ws out votes places x.0 ws' left answers (record { answered = sym x.1; words = h.words; outbox = h.outbox; answers = h.answered }) in
-    (step_none a made x.0 x.1 h.counted, k.2, k.0, k.1)
+    (only h.counted (zeros_told _ _ a (λ e. ne (h.numbered ∙ e))), k.2, k.0, k.1)
+
+-- A writer that answers another number than 0 wrote nothing.
+none_written : (w : Wrote) (buffer : List ℕ) (number written : ℕ) (after : List ℕ) → Unwritten w → face.Wrote w buffer number written after → ¬ (number ≡ 0)
+    → (written ≡ 0) × (after ≡ buffer)
+unfolding write_panel
+none_written w buffer number written after u h ne =
+    let x = refused_told w.answer (λ e. ne (h.numbered ∙ e)) in (
+      only h.counted (zeros_told _ _ w.answer (λ e. ne (h.numbered ∙ e))),
+      unwritten w buffer x.0 after u (record { answered = sym x.1; bytes = h.bytes }),
+    )
 
 pub face_certificate_refused : FaceCertificateRefused
 face_certificate_refused ws buffer k s b number written after h ne =
-    let a = (certificate_on ws (length buffer) k s b).answer in
-    let x = write_refusal a (λ e. ne (h.numbered ∙ e)) in (
-      write_none a written x.0 x.1 h.counted,
-      certificate_refused ws buffer k s b x.0 after (record { answered = sym x.1; bytes = h.bytes }),
-    )
+    none_written _ buffer number written after (certificate_unwritten ws (length buffer) k s b) h ne
 
 pub face_proof_refused : FaceProofRefused
 face_proof_refused ws buffer s b number written after h ne =
-    let a = (proof_on ws (length buffer) s b).answer in
-    let x = write_refusal a (λ e. ne (h.numbered ∙ e)) in (
-      write_none a written x.0 x.1 h.counted,
-      proof_refused ws buffer s b x.0 after (record { answered = sym x.1; bytes = h.bytes }),
-    )
+    none_written _ buffer number written after (proof_unwritten ws (length buffer) s b) h ne
 
 pub face_message_refused : FaceMessageRefused
+unfolding write_vote
 face_message_refused count v buffer number written after h ne =
-    let a = (write_vote count (length buffer) v).answer in
-    let x = write_refusal a (λ e. ne (h.numbered ∙ e)) in (
-      write_none a written x.0 x.1 h.counted,
-      message_refused count v buffer x.0 after (record { answered = sym x.1; bytes = h.bytes }),
-    )
+    none_written _ buffer number written after (wrote_unwritten (message_verdict count (length buffer) v) (message_bytes v)) h ne
 
 pub face_read_refused : FaceReadRefused
 unfolding read_panel
-face_read_refused answer number values h ne =
-    let x = read_refusal answer (λ e. ne (h.numbered ∙ e)) in
-    h.valued ∙ ap (λ (a : Result Vote Refusal). (read_panel a).values) x.1
+face_read_refused answer number values h ne = h.valued ∙ zeros_told _ _ answer (λ e. ne (h.numbered ∙ e))
 
 pub face_check_refused : FaceCheckRefused
-unfolding check_values
-face_check_refused count answer number values missing h ne =
-    let x = check_refusal answer (λ e. ne (h.numbered ∙ e)) in
-    h.valued ∙ ap (check_values count) x.1
+unfolding check_number check_values
+face_check_refused count answer number values missing h ne = h.valued ∙ zeros_told _ _ answer (λ e. ne (h.numbered ∙ e))

@@ -17,7 +17,7 @@ use Rattle.rulebook.specs.declared.Refusal.TheVariants as refusal
 use Rattle.rulebook.specs.declared.Slot.{Slot}
 use Rattle.rulebook.specs.declared.Vote.{Vote}
 use Rattle.rulebook.specs.Tools.{whenever}
-use Rattle.rulebook.specs.PaperNumbers.{Panel, kind_in, refusal_number, verdict_number, step_panel}
+use Rattle.rulebook.specs.PaperNumbers.{Panel, kind_in, refusal_number, verdict_number, start_panel, step_panel}
 use Rattle.rulebook.specs.Weights.{places_for, slot_ok}
 use Rattle.rulebook.specs.Ledger.{Ledger, is_watcher, fresh, cell_at, certificates_at}
 use Rattle.rulebook.specs.Votes.{place_of}
@@ -29,6 +29,7 @@ use Rattle.rulebook.specs.WellFormed.{well_formed, outbox_words, step, take_cert
 use Rattle.rule_laws.proofs.ToolLaws.{given_on, given_keeps, by_test}
 use Rattle.rule_laws.proofs.RuleLaws.{refuse_fine}
 use Rattle.rule_laws.proofs.AcceptedLaws.{packet_cases}
+use Rattle.rule_laws.proofs.PanelLaws.{done_told}
 use Rattle.settling.specs.Facts.{Sound}
 use Rattle.settling.specs.Steps.{life}
 use Rattle.settling.proofs.Start.{watching_sound}
@@ -48,7 +49,6 @@ use Rattle.watchers.proofs.Silent.{life_silent}
 use Rattle.answers.specs.Face.{Beside, vote_input, timeout_input}
 use Rattle.promises.specs.Panels.{shown, sound_first, step_judged}
 use Rattle.promises.specs.Watchers.{FaceWatches, four_at_once, WatcherTimeoutFour, FaceTimeoutFour, NeverSix, FaceNeverSix, record_at, NoVoteTold, FaceNeverVotes}
-use Rattle.promises.proofs.Numbered.{start_done}
 use Rattle.promises.proofs.Shown.{step_shown}
 
 -- ---- a watcher's start
@@ -66,10 +66,10 @@ left_watches (Ok tt) ws stakes genesis left e w h =
 left_watches (Err r) ws stakes genesis left e w h = absurd cc
 
 pub face_watches : FaceWatches
-unfolding watch_judged
+unfolding watch_judged start_panel
 face_watches ws stakes genesis left h =
     let v = watch_judged ws stakes genesis in
-    let e : Ok tt ≡ start_answer v = start_done (start_answer v) (sym h.numbered) in
+    let e : Ok tt ≡ start_answer v = sym (done_told (start_answer v) (sym h.numbered)).1 in
     record {
       sound = watch_leaves_sound ws stakes genesis left (record { answered = e; words = h.words });
       watcher = left_watches v ws stakes genesis left e h.words

@@ -12,31 +12,14 @@ use Rattle.rulebook.specs.PaperNumbers.{refusal_number, step_panel, kind_in, num
 use Rattle.rulebook.specs.Writers as writer
 use Rattle.rulebook.specs.Writers.{Writes}
 use Rattle.rule_laws.proofs.KindLaws.{kind_back}
+use Rattle.rule_laws.proofs.PanelLaws.{refusal_numbered}
 use Rattle.safety.specs.Promises.{AcceptedAs}
 use Rattle.answers.specs.Face.{Beside, accepted_values, Wrote, Checked}
 use Rattle.seen.specs.Written.{NamedAs}
 
 -- No refusal's number is 0.
 pub refusal_above : {X : Type 0} (r : Refusal) → refusal_number r ≡ 0 → X
-unfolding refusal_number
-refusal_above refusal.BadSizes e = absurd (omega (arith, e))
-refusal_above refusal.BadNode e = absurd (omega (arith, e))
-refusal_above refusal.BadSlot e = absurd (omega (arith, e))
-refusal_above refusal.BadKind e = absurd (omega (arith, e))
-refusal_above refusal.BadBlock e = absurd (omega (arith, e))
-refusal_above refusal.OwnName e = absurd (omega (arith, e))
-refusal_above refusal.AlreadyKept e = absurd (omega (arith, e))
-refusal_above refusal.OtherStands e = absurd (omega (arith, e))
-refusal_above refusal.NoRoom e = absurd (omega (arith, e))
-refusal_above refusal.NotArmed e = absurd (omega (arith, e))
-refusal_above refusal.BadParent e = absurd (omega (arith, e))
-refusal_above refusal.BadLength e = absurd (omega (arith, e))
-refusal_above refusal.BadNumber e = absurd (omega (arith, e))
-refusal_above refusal.BadSigners e = absurd (omega (arith, e))
-refusal_above (refusal.TooLight missing) e = absurd (omega (arith, e))
-refusal_above refusal.NotAProof e = absurd (omega (arith, e))
-refusal_above refusal.BadRecord e = absurd (omega (arith, e))
-refusal_above refusal.NotHeld e = absurd (omega (arith, e))
+refusal_above r e = absurd (omega (arith, refusal_numbered r, e))
 
 -- 8 is one refusal's number.
 pub eight_stands_lem : (r : Refusal) → refusal_number r ≡ 8 → r ≡ refusal.OtherStands
