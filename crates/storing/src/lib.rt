@@ -11,7 +11,7 @@ use cells::with_vote;
 use pool::weight_of;
 use record::{load_card, load_cell, stake, store_card, store_cell};
 use rulebook::{Node, Slot, Tally, VoteKind, Weight, Who};
-use tally::{adds, updated};
+use tally::{adds, tallied};
 
 // The number of a notar vote.
 const NOTAR: u64 = 1;
@@ -39,5 +39,5 @@ pub fn store_vote(rec: &mut [u64], s: Slot, n: Node, k: VoteKind, b: u64)
     let card = load_card(rec, s);
     let c = load_cell(rec, s, n);
     store_cell(rec, s, n, with_vote(c, k, b));
-    store_card(rec, s, updated(card, d));
+    store_card(rec, s, tallied(card, d));
 }

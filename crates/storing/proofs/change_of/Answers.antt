@@ -19,7 +19,7 @@ pub adds-requires : goal.adds-requires
 adds-requires c =
     (omega (arith, c.stake-w.ensures, stake_small c.requires), omega (arith, c.weight_of.ensures, weight_small c.requires (who.Notar c.args.b)))
 
-pub returns-then-from-eq-NOTAR : goal.returns-then-vote_number-eq-NOTAR
+pub returns-then-from-eq-NOTAR : goal.returns-then-from-eq-NOTAR
 returns-then-from-eq-NOTAR c =
     c.adds.ensures
     ∙ change_notar (ledger_of c.args.rec.now) c.args.s.0 c.args.n.0 c.args.k c.args.b _ _ _ c.load_cell-c.ensures c.stake-w.ensures c.weight_of.ensures
