@@ -1,12 +1,11 @@
 -- Laws of a packet: whether a table is made from the lent stakes, and the answer from what is told of its certificates. Assumes nothing.
 use Rattle.std.specs.Prelude.{Result, Err}
-use mathlib.Core.Path.{◌≡◌, refl, sym, ap, ◌∙◌, subst}
+use mathlib.Core.Path.{◌≡◌, refl, sym, ap, ◌∙◌}
 use mathlib.Core.Bool.{Bool, true, false}
 use mathlib.Core.List.{List}
 use Prim.Native.Nat.{ℕ, ◌+◌, ◌-◌}
 use native.Mathlib.Omega.{arith}
-use lib.ListN.{length, take}
-use lib.Seq.{take-length}
+use lib.ListN.{length}
 use lib.Dec.{eqb}
 use borrow.Author.Tests.{eq-eqb, ne_eqb, eqb-true, eqb-false}
 use Rattle.rulebook.specs.Certificates.{Certificate}
@@ -18,13 +17,8 @@ use Rattle.rulebook.specs.Weights.{stakes_fit, family}
 use Rattle.rulebook.specs.PaperNumbers.{certificate_kind, certificate_number, kind_in, number_in}
 use Rattle.rulebook.specs.Checker.{One, good, bad, accepted_of, one_at, ended, single_of, second_of, first_in, proof_of, check_certificate, check_proof}
 use Rattle.rule_laws.proofs.ToolLaws.{given_on, given_off, by_test}
-use Rattle.stakes.specs.declared.Made.{Made}
-use Rattle.stakes.specs.declared.LentTable.{LentTable}
-use Rattle.stakes.specs.Table.{made_of, Fit, filled}
-use Rattle.stakes.proofs.Laws.{made_fits, made_fit}
-use Rattle.stakes.proofs.Filling.{filled_front}
 use Rattle.certificates.specs.Told.{told}
-use Rattle.checker.specs.InPacket.{finished, alone, is_final_kind, followed, continued, proven, placed_stakes, single_on, proven_on}
+use Rattle.checker.specs.InPacket.{finished, alone, is_final_kind, followed, continued, proven, single_on, proven_on}
 use Rattle.rulebook.specs.declared.Accepted.{Accepted}
 use Rattle.rulebook.specs.declared.Refusal.{Refusal}
 
@@ -110,48 +104,23 @@ module _ (ws packet : List ℕ) (o : Result (Accepted × ℕ) Refusal) (e : o �
 
 -- ---- the whole answer, by whether they fit
 
-module _ (ws packet : List ℕ) (t : Bool) (e : stakes_fit ws (length ws) ≡ t) where
-  pub single_bad : t ≡ false → Err refusal.BadSizes ≡ check_certificate ws packet
+module _ (ws packet : List ℕ) where
+  pub single_bad : stakes_fit ws (length ws) ≡ false → Err refusal.BadSizes ≡ check_certificate ws packet
   unfolding check_certificate
-  single_bad f = sym (given_off (stakes_fit ws (length ws)) (Err refusal.BadSizes) (λ _. single_of ws packet (one_at ws packet 0)) (e ∙ f))
+  single_bad f = sym (given_off (stakes_fit ws (length ws)) (Err refusal.BadSizes) (λ _. single_of ws packet (one_at ws packet 0)) f)
 
-  pub proof_bad : t ≡ false → Err refusal.BadSizes ≡ check_proof ws packet
+  pub proof_bad : stakes_fit ws (length ws) ≡ false → Err refusal.BadSizes ≡ check_proof ws packet
   unfolding check_proof
-  proof_bad f = sym (given_off (stakes_fit ws (length ws)) (Err refusal.BadSizes) (λ _. proof_of ws packet (one_at ws packet 0)) (e ∙ f))
+  proof_bad f = sym (given_off (stakes_fit ws (length ws)) (Err refusal.BadSizes) (λ _. proof_of ws packet (one_at ws packet 0)) f)
 
-  pub single_on_lem : t ≡ true → (xs : List ℕ) → xs ≡ ws → single_on xs packet ≡ check_certificate ws packet
+  pub single_on_lem : stakes_fit ws (length ws) ≡ true → (xs : List ℕ) → xs ≡ ws → single_on xs packet ≡ check_certificate ws packet
   unfolding check_certificate single_on
   single_on_lem f xs q =
       ap (λ (x : List ℕ). single_of x packet (one_at x packet 0)) q
-      ∙ sym (given_on (stakes_fit ws (length ws)) (Err refusal.BadSizes) (λ _. single_of ws packet (one_at ws packet 0)) (e ∙ f))
+      ∙ sym (given_on (stakes_fit ws (length ws)) (Err refusal.BadSizes) (λ _. single_of ws packet (one_at ws packet 0)) f)
 
-  pub proof_on_lem : t ≡ true → (xs : List ℕ) → xs ≡ ws → proven_on xs packet ≡ check_proof ws packet
+  pub proof_on_lem : stakes_fit ws (length ws) ≡ true → (xs : List ℕ) → xs ≡ ws → proven_on xs packet ≡ check_proof ws packet
   unfolding check_proof proven_on
   proof_on_lem f xs q =
       ap (λ (x : List ℕ). proof_of x packet (one_at x packet 0)) q
-      ∙ sym (given_on (stakes_fit ws (length ws)) (Err refusal.BadSizes) (λ _. proof_of ws packet (one_at ws packet 0)) (e ∙ f))
-
--- ---- lent stakes
-
--- A table is made exactly where the stakes fit.
-pub made_test : (ws : List ℕ) (m : Made) → m ≡ made_of ws → stakes_fit ws (length ws) ≡ m.fits
-made_test ws m q = sym (made_fits ws) ∙ ap (λ (x : Made). x.fits) (sym q)
-
--- All places of lent stakes are its.
-pub lent_all : (ws : List ℕ) (t : LentTable) → Fit ws t → placed_stakes ws t ≡ ws
-lent_all ws t f = ap (λ (n : ℕ). take n ws) f.count ∙ take-length ws
-
-pub lent_fit : (ws : List ℕ) (t : LentTable) → Fit ws t → Fit (placed_stakes ws t) t
-lent_fit ws t f = subst (λ (xs : List ℕ). Fit xs t) (sym (lent_all ws t f)) f
-
--- ---- the stake table
-
-module _ (places ws left : List ℕ) (m : Made) (q : m ≡ made_of ws) (e : m.fits ≡ true) (f : left ≡ filled ws places) where
-  -- The lent stakes stand in its first places,
-  pub filled_all : placed_stakes left m.table ≡ ws
-  filled_all =
-      ap (λ (xs : List ℕ). take m.table.count xs) f ∙ filled_front places ws m.table.count (made_fit ws m q e).count
-
-  -- and the count and the total are theirs.
-  pub filled_fit : Fit (placed_stakes left m.table) m.table
-  filled_fit = subst (λ (xs : List ℕ). Fit xs m.table) (sym filled_all) (made_fit ws m q e)
+      ∙ sym (given_on (stakes_fit ws (length ws)) (Err refusal.BadSizes) (λ _. proof_of ws packet (one_at ws packet 0)) f)

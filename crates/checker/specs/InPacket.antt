@@ -1,12 +1,14 @@
 -- What becomes of a certificate in a packet: alone, or as the first or second of a proof.
-use Rattle.std.specs.Prelude.{Bool, true, false, not, ◌&&◌, List, ℕ, length, take, eqb, ltb, Result, Ok, Err}
+use Rattle.std.specs.Prelude.{◌≡◌, Bool, true, false, not, ◌&&◌, List, ℕ, length, eqb, ltb, Result, Ok, Err}
 use Rattle.rulebook.specs.declared.Accepted.{Accepted}
 use Rattle.rulebook.specs.declared.CertificateKind.{CertificateKind}
 use Rattle.rulebook.specs.declared.CertificateKind.TheVariants as certificate
 use Rattle.rulebook.specs.declared.Refusal.TheVariants as refusal
 use Rattle.rulebook.specs.Tools.{whenever}
+use Rattle.rulebook.specs.Weights.{stakes_fit}
 use Rattle.rulebook.specs.Checker.{one_at, single_of, proof_of}
 use Rattle.stakes.specs.declared.LentTable.{LentTable}
+use Rattle.stakes.specs.Table.{Fit}
 use Rattle.certificates.specs.Told.{told}
 use Rattle.rulebook.specs.declared.Refusal.{Refusal}
 
@@ -47,15 +49,20 @@ unfoldable pub proven : List ℕ → List ℕ → Result (Accepted × ℕ) Refus
 proven stakes packet (Ok (a, next)) = continued stakes packet a.kind a next
 proven stakes packet (Err r) = Err r
 
--- ---- the table
-
--- The stakes of a table in the places that hold them.
-abbrev pub placed_stakes : List ℕ → LentTable → List ℕ
-placed_stakes places t = take t.count places
-
 -- A packet on stakes that fit.
 unfoldable pub single_on : List ℕ → List ℕ → Result Accepted Refusal
 single_on stakes packet = single_of stakes packet (one_at stakes packet 0)
 
 unfoldable pub proven_on : List ℕ → List ℕ → Result Accepted Refusal
 proven_on stakes packet = proof_of stakes packet (one_at stakes packet 0)
+
+-- Lent stakes that fit stand where they are weighed, and the table beside them is theirs.
+pub record Weighs (lent on : List ℕ) (t : LentTable) : Type 0 where
+  pub fits : stakes_fit lent (length lent) ≡ true
+  pub same : on ≡ lent
+  pub table : Fit lent t
+
+-- "1", where they do not fit.
+pub record Unfit (lent : List ℕ) (r : Refusal) : Type 0 where
+  pub fits : stakes_fit lent (length lent) ≡ false
+  pub number : r ≡ refusal.BadSizes

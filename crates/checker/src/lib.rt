@@ -1,16 +1,17 @@
 // The checker of certificates and finality proofs, on lent stakes and a lent packet.
 #![tactic(auto)]
 
-ghost use Rattle.std.specs.Prelude.{◌≡◌};
+ghost use Rattle.std.specs.Prelude.{◌≡◌, IfOk, IfErr, Ok};
 ghost use Rattle.rulebook.specs.Checker.{check_certificate, check_proof};
 ghost use Rattle.stakes.specs.Table.{Fit};
-ghost use Rattle.checker.specs.InPacket.{finished, is_final_kind, followed, continued, placed_stakes, single_on, proven_on};
+ghost use Rattle.checker.specs.InPacket.{finished, followed, continued, single_on, proven_on, Weighs, Unfit};
 
 use certificates::one_at;
 use rulebook::{Accepted, CertificateKind, Refusal, Weight};
-use stakes::{LentTable, StakeTable, TABLE_NODES};
+use stakes::{LentTable, StakeTable, TABLE_NODES, fill_table, make_table};
 
 // Leftover bytes last.
+#[tactic(auto, unfolding(crate::specs::InPacket::finished, rulebook::specs::Tools::whenever))]
 fn finish(a: Accepted, next: usize, length: usize) -> Result<Accepted, Refusal>
     ensures { result ≡ finished a next length }
 {
@@ -21,130 +22,98 @@ fn finish(a: Accepted, next: usize, length: usize) -> Result<Accepted, Refusal>
     }
 }
 
-// The kind that a second certificate must have.
-fn is_final(k: CertificateKind) -> bool
-    ensures { result ≡ is_final_kind k }
+// What the second certificate, told as f, makes of a proof whose first is told as a: 16 unless it is kind 5 of that slot.
+#[tactic(auto, unfolding(crate::specs::InPacket::followed, crate::specs::InPacket::is_final_kind, rulebook::specs::Tools::whenever))]
+fn second(a: Accepted, f: Accepted, next: usize, length: usize) -> Result<Accepted, Refusal>
+    ensures { result ≡ followed a length (Ok (f, next)) }
 {
-    match k {
-        CertificateKind::FastFinal => false,
-        CertificateKind::Notar => false,
-        CertificateKind::NotarFallback => false,
-        CertificateKind::Skip => false,
-        CertificateKind::Final => true,
-        CertificateKind::Other => false,
-    }
-}
-
-// What the second certificate makes of a proof whose first is told as a: 16 unless it is kind 5 of that slot.
-fn second(a: Accepted, other: Result<(Accepted, usize), Refusal>, length: usize) -> Result<Accepted, Refusal>
-    ensures { result ≡ followed a length other }
-{
-    match other {
-        Err(r) => Err(r),
-        Ok((f, next)) => {
-            let kind = f.kind;
-            let of_that_slot = f.slot.0 == a.slot.0;
-            if is_final(kind) & of_that_slot {
-                finish(a, next, length)
-            } else {
-                Err(Refusal::NotAProof)
-            }
-        }
+    if (f.kind == CertificateKind::Final) & (f.slot == a.slot) {
+        finish(a, next, length)
+    } else {
+        Err(Refusal::NotAProof)
     }
 }
 
 // What follows the first certificate of a proof, told as a: 16 unless its kind is 1 or 2.
-fn after_first(stakes: &[u64], t: LentTable, packet: &[u8], a: Accepted, next: usize) -> Result<Accepted, Refusal>
+#[tactic(auto, unfolding(crate::specs::InPacket::continued, crate::specs::InPacket::followed))]
+fn after_first(
+    stakes: &[u64],
+    t: LentTable,
+    packet: &[u8],
+    a: Accepted,
+    next: usize,
+) -> Result<Accepted, Refusal>
     requires { Fit stakes.now t }
     ensures { result ≡ continued stakes.now packet.now a.kind a next }
 {
-    let k = a.kind;
-    match k {
+    match a.kind {
         CertificateKind::FastFinal => finish(a, next, packet.len()),
-        CertificateKind::Notar => second(a, one_at(stakes, t, packet, next), packet.len()),
-        CertificateKind::NotarFallback => Err(Refusal::NotAProof),
-        CertificateKind::Skip => Err(Refusal::NotAProof),
-        CertificateKind::Final => Err(Refusal::NotAProof),
-        CertificateKind::Other => Err(Refusal::NotAProof),
+        CertificateKind::Notar => {
+            let (f, past) = one_at(stakes, t, packet, next)?;
+            second(a, f, past, packet.len())
+        }
+        _ => Err(Refusal::NotAProof),
     }
 }
 
-// A packet that is to be one certificate, on the stakes in the first places, which fit.
-fn certificate_on(places: &[u64], t: LentTable, packet: &[u8]) -> Result<Accepted, Refusal>
-    requires { Fit (placed_stakes places.now t) t }
-    ensures { result ≡ single_on (placed_stakes places.now t) packet.now }
+// A packet that is to be one certificate, on stakes that fit.
+#[tactic(auto, using(crate::proofs::Laws::single_answer), unfolding(crate::specs::InPacket::alone))]
+fn certificate_on(stakes: &[u64], t: LentTable, packet: &[u8]) -> Result<Accepted, Refusal>
+    requires { Fit stakes.now t }
+    ensures { result ≡ single_on stakes.now packet.now }
 {
-    let count = t.count;
-    let one = one_at(&places[..count], t, packet, 0);
-    match one {
-        Err(r) => Err(r),
-        Ok((a, next)) => finish(a, next, packet.len()),
-    }
+    let (a, next) = one_at(stakes, t, packet, 0)?;
+    finish(a, next, packet.len())
 }
 
 // A packet that is to be a finality proof, on such stakes: kind 1, or kind 2 and then kind 5 of the same slot.
-fn proof_on(places: &[u64], t: LentTable, packet: &[u8]) -> Result<Accepted, Refusal>
-    requires { Fit (placed_stakes places.now t) t }
-    ensures { result ≡ proven_on (placed_stakes places.now t) packet.now }
+fn proof_on(stakes: &[u64], t: LentTable, packet: &[u8]) -> Result<Accepted, Refusal>
+    requires { Fit stakes.now t }
+    ensures { result ≡ proven_on stakes.now packet.now }
 {
-    let count = t.count;
-    let first = one_at(&places[..count], t, packet, 0);
-    match first {
-        Err(r) => Err(r),
-        Ok((a, next)) => after_first(&places[..count], t, packet, a, next),
-    }
+    let (first, next) = one_at(stakes, t, packet, 0)?;
+    after_first(stakes, t, packet, first, next)
 }
 
-// Checks a packet that is to be one certificate: up to 64 nodes on the stake table, above that on the lent words.
+// The stakes that a check weighs, with their table: up to 64 nodes stand in a stake table, above that they stay where they are lent.
+fn placed<'a>(
+    stakes: &'a [u64],
+    table: &'a mut StakeTable,
+) -> Result<(&'a [u64], LentTable), Refusal>
+    ensures ok { IfOk result (λ p. Weighs stakes.now p.0.now p.1) }
+    ensures err { IfErr result (Unfit stakes.now) }
+{
+    let lent = make_table(stakes).ok_or(Refusal::BadSizes)?;
+    if TABLE_NODES < lent.count {
+        return Ok((stakes, lent));
+    }
+    fill_table(&mut table.stakes, stakes);
+    table.count = lent.count;
+    table.total = lent.total;
+    Ok((&table.stakes[..lent.count], lent))
+}
+
+// A stake table of no node.
+const NO_STAKES: StakeTable = StakeTable {
+    stakes: [0; TABLE_NODES],
+    count: 0,
+    total: Weight(0),
+};
+
+// Checks a packet that is to be one certificate.
 pub fn check_certificate(stakes: &[u64], packet: &[u8]) -> Result<Accepted, Refusal>
     ensures { result ≡ check_certificate stakes.now packet.now }
 {
-    let made = stakes::make_table(stakes);
-    if !made.fits {
-        return Err(Refusal::BadSizes);
-    }
-    let lent = made.table;
-    if TABLE_NODES < lent.count {
-        return certificate_on(stakes, lent, packet);
-    }
-    let places = [0u64; TABLE_NODES];
-    let total = lent.total;
-    let mut t = StakeTable {
-        stakes: places,
-        count: lent.count,
-        total,
-    };
-    stakes::fill_table(&mut t.stakes, stakes);
-    let sums = LentTable {
-        count: t.count,
-        total: Weight(t.total.0),
-    };
-    certificate_on(&t.stakes, sums, packet)
+    let mut table = NO_STAKES;
+    let (on, t) = placed(stakes, &mut table)?;
+    certificate_on(on, t, packet)
 }
 
-// Checks a packet that is to be a finality proof, on the same tables.
+// Checks a packet that is to be a finality proof.
 pub fn check_proof(stakes: &[u64], packet: &[u8]) -> Result<Accepted, Refusal>
     ensures { result ≡ check_proof stakes.now packet.now }
 {
-    let made = stakes::make_table(stakes);
-    if !made.fits {
-        return Err(Refusal::BadSizes);
-    }
-    let lent = made.table;
-    if TABLE_NODES < lent.count {
-        return proof_on(stakes, lent, packet);
-    }
-    let places = [0u64; TABLE_NODES];
-    let total = lent.total;
-    let mut t = StakeTable {
-        stakes: places,
-        count: lent.count,
-        total,
-    };
-    stakes::fill_table(&mut t.stakes, stakes);
-    let sums = LentTable {
-        count: t.count,
-        total: Weight(t.total.0),
-    };
-    proof_on(&t.stakes, sums, packet)
+    let mut table = NO_STAKES;
+    let (on, t) = placed(stakes, &mut table)?;
+    proof_on(on, t, packet)
 }

@@ -1,40 +1,17 @@
--- Up to 64 nodes the lent stakes stand at the front of the stake table, above that they are the table.
-use mathlib.Core.Path.{refl, ◌∙◌}
-use native.Mathlib.Omega.{arith}
-use borrow.Author.Tests.{not-true, not-false}
-use Rattle.stakes.proofs.Laws.{made_fit}
-use Rattle.checker.proofs.Laws.{proof_bad, proof_on_lem, made_test, lent_all, lent_fit, filled_all, filled_fit}
+-- On the stakes where they stand, or 1.
+use Rattle.std.specs.Prelude.{Err}
+use borrow.Author.Rules.{rules}
+use mathlib.Core.Path.{◌≡◌, ap, ◌∙◌}
+use Rattle.checker.proofs.Laws.{proof_bad, proof_on_lem}
 use Rattle.checker.proofs.check_proof.Goals as goal
 
-pub returns-then-not-made : goal.returns-then-not-made
-returns-then-not-made c = proof_bad _ _ _ (made_test _ _ c.make_table-made.ensures) (not-true _ c.if-not-made.true)
-
 pub proof_on-requires : goal.proof_on-requires
-proof_on-requires c =
-    let made = c.make_table-made.ensures in
-    let fits = not-false _ c.if-not-made.false in
-    lent_fit _ _ (made_fit _ _ made fits)
+proof_on-requires c = rw c.in_ok-on.ensures.ok.same c.in_ok-on.ensures.ok.table
 
-pub returns-then-lent-gt-TABLE_NODES : goal.returns-then-lent-gt-TABLE_NODES
-returns-then-lent-gt-TABLE_NODES c =
-    let made = c.make_table-made.ensures in
-    let fits = not-false _ c.if-not-made.false in
-    c.proof_on.ensures ∙ proof_on_lem _ _ _ (made_test _ _ made) fits _ (lent_all _ _ (made_fit _ _ made fits))
-
-pub fill_table-requires : goal.fill_table-requires
-fill_table-requires c =
-    let made = c.make_table-made.ensures in
-    let fits = not-false _ c.if-not-made.false in
-    record { room = refl; few = omega (arith, (made_fit _ _ made fits).count, c.if-lent-gt-TABLE_NODES.false) }
-
-pub proof_on-requires-2 : goal.proof_on-requires-2
-proof_on-requires-2 c =
-    let made = c.make_table-made.ensures in
-    let fits = not-false _ c.if-not-made.false in
-    filled_fit _ _ _ _ made fits c.fill_table.ensures
+pub returns-in_err-on : goal.returns-in_err-on
+returns-in_err-on c =
+    let u = c.in_err-on.ensures.err in
+    let q : c.from_residual.result ≡ Err c.in_err-on.field-0.0 = search rules in q ∙ ap Err u.number ∙ proof_bad _ _ u.fits
 
 pub returns : goal.returns
-returns c =
-    let made = c.make_table-made.ensures in
-    let fits = not-false _ c.if-not-made.false in
-    c.proof_on-2.ensures ∙ proof_on_lem _ _ _ (made_test _ _ made) fits _ (filled_all _ _ _ _ made fits c.fill_table.ensures)
+returns c = let w = c.in_ok-on.ensures.ok in c.proof_on.ensures ∙ proof_on_lem _ _ w.fits _ w.same

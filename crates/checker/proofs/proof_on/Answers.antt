@@ -1,14 +1,16 @@
 -- By what is told of the first certificate.
-use mathlib.Core.Path.{sym, ap, ◌∙◌}
+use Rattle.std.specs.Prelude.{Err}
+use borrow.Author.Rules.{rules}
+use mathlib.Core.Path.{◌≡◌, sym, ◌∙◌}
 use Rattle.checker.specs.InPacket.{proven}
 use Rattle.checker.proofs.Laws.{proof_answer}
 use Rattle.checker.proofs.proof_on.Goals as goal
 
-pub returns-in-Err : goal.returns-in-Err
+pub returns-in_err-first : goal.returns-in_err-first
 unfolding proven
-returns-in-Err c = sym (proof_answer _ _ _ c.one_at-first.ensures ∙ ap (proven _ _) c.in-Err.is)
+returns-in_err-first c =
+    let q : c.from_residual.result ≡ Err c.in_err-first.field-0.0 = search rules in q ∙ sym (proof_answer _ _ _ c.in_err-first.ensures)
 
-pub returns-in-Ok : goal.returns-in-Ok
+pub returns : goal.returns
 unfolding proven
-returns-in-Ok c =
-    c.after_first.ensures ∙ sym (proof_answer _ _ _ c.one_at-first.ensures ∙ ap (proven _ _) c.in-Ok.is)
+returns c = c.after_first.ensures ∙ sym (proof_answer _ _ _ c.in_ok-first.ensures)
