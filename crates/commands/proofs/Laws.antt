@@ -2,14 +2,14 @@
 use mathlib.Core.Path.{◌≡◌, sym, ap, ◌∙◌}
 use mathlib.Core.Bool.{Bool, true, false, ◌&&◌}
 use mathlib.Core.List.{List}
-use Prim.Native.Nat.{ℕ, ◌+◌, ◌-◌, ◌≤◌, ◌<◌}
+use Prim.Native.Nat.{ℕ, ◌-◌, ◌≤◌, ◌<◌}
 use native.Mathlib.Omega.{arith}
-use lib.Dec.{eqb, ltb}
-use lib.ListN.{length, get_or, take, drop}
-use borrow.Author.Tests.{eq-eqb, ne_eqb, lt-ltb, le-ltb, eqb-true}
-use Rattle.rulebook.specs.Tools.{all_to}
-use Rattle.rule_laws.proofs.ToolLaws.{by_test, both_and, true_not_false, all_none, all_more, all_at, choose_on, choose_off}
-use Rattle.hex_bytes.specs.declared.Hex.{Hex}
+use lib.Dec.{ltb}
+use lib.ListN.{take, drop}
+use borrow.Author.Tests.{lt-ltb, le-ltb}
+use Rattle.rule_laws.proofs.ToolLaws.{true_not_false, choose_on, choose_off}
+use Rattle.std.specs.Prelude.{Option}
+use Rattle.std.specs.Option.{is_some}
 use Rattle.script.specs.declared.Word.{Word}
 use Rattle.script.specs.Words.{WordIn}
 use Rattle.hex_bytes.specs.Bytes.{hex_of}
@@ -19,35 +19,7 @@ use Rattle.commands.specs.declared.Command.{Command}
 use Rattle.commands.specs.declared.Command.TheVariants as command
 use Rattle.commands.specs.declared.Reading.{Reading}
 use Rattle.commands.specs.declared.Reading.TheVariants as reading
-use Rattle.commands.specs.Commands.{same_text, input_of, exactly, at_least, word_of, one_word, packet_and_stakes, packet_alone, count_and_message, arguments_fit, command_of, reading_of, reading_fits, reading_on, tells, Heard}
-
--- ---- two texts
-
-module _ (a b : List ℕ) where
-  -- The first n places hold the same.
-  abbrev pub same_to : ℕ → Bool
-  same_to n = all_to n (λ i. eqb (get_or a i 0) (get_or b i 0))
-
-  pub same_none : same_to 0 ≡ true
-  same_none = all_none (λ i. eqb (get_or a i 0) (get_or b i 0))
-
-  pub same_more : (n : ℕ) → same_to n ≡ true → get_or a n 0 ≡ get_or b n 0 → same_to (n + 1) ≡ true
-  same_more n h e =
-      all_more n (λ i. eqb (get_or a i 0) (get_or b i 0)) ∙ both_and (same_to n) (eqb (get_or a n 0) (get_or b n 0)) h (eq-eqb (get_or a n 0) (get_or b n 0) e)
-
-  pub other_length : (length a ≡ length b → ⊥) → false ≡ same_text a b
-  unfolding same_text
-  other_length e = sym (ap (λ (t : Bool). t && same_to (length a)) (ne_eqb (length a) (length b) e))
-
-  pub same_length : length a ≡ length b → same_to (length a) ≡ same_text a b
-  unfolding same_text
-  same_length e = sym (ap (λ (t : Bool). t && same_to (length a)) (eq-eqb (length a) (length b) e))
-
-  pub other_byte : (i : ℕ) → length a ≡ length b → i < length a → (get_or a i 0 ≡ get_or b i 0 → ⊥) → false ≡ same_text a b
-  other_byte i e h d =
-      by_test (same_to (length a))
-      (λ t. absurd (d (eqb-true (get_or a i 0) (get_or b i 0) (all_at (length a) i (λ j. eqb (get_or a j 0) (get_or b j 0)) t h))))
-      (λ t. sym t ∙ same_length e)
+use Rattle.commands.specs.Commands.{input_of, exactly, at_least, word_of, one_word, packet_and_stakes, packet_alone, count_and_message, arguments_fit, command_of, reading_of, reading_fits, reading_on, tells, Heard}
 
 -- ---- the next word
 
@@ -61,20 +33,20 @@ module _ (line : List ℕ) (at : ℕ) (w : Word) (h : WordIn line at w) where
   pub no_packet : w.to ≤ w.from → false ≡ packet_and_stakes line at
   unfolding packet_and_stakes
   no_packet k =
-      sym (ap (λ (t : Bool). packet_test t (hex_of (word_of line at) 32768).good)
+      sym (ap (λ (t : Bool). packet_test t (is_some (hex_of (word_of line at) 32768)))
       (le-ltb (word_from line at) (word_to line at) (omega (arith, word_to_lem line at w h, word_from_lem line at w h))))
 
-  module _ (k : w.from < w.to) (hex : Hex) (room : ℕ) (e : room ≡ 32768) (q : hex ≡ hex_of (take (w.to - w.from) (drop w.from line)) room) where
-    packet_is : packet_test true hex.good ≡ packet_and_stakes line at
+  module _ (k : w.from < w.to) (hex : Option ℕ) (room : ℕ) (e : room ≡ 32768) (q : hex ≡ hex_of (take (w.to - w.from) (drop w.from line)) room) where
+    packet_is : packet_test true (is_some hex) ≡ packet_and_stakes line at
     unfolding packet_and_stakes
     packet_is =
         λ i. packet_test (sym (lt-ltb (word_from line at) (word_to line at) (omega (arith, word_to_lem line at w h, word_from_lem line at w h))) i)
-        ((ap (λ (x : Hex). x.good) q ∙ (λ j. (hex_of (word_is j) (e j)).good)) i)
+        ((ap (λ (x : Option ℕ). is_some x) q ∙ (λ j. is_some (hex_of (word_is j) (e j)))) i)
 
-    pub bad_packet : hex.good ≡ false → false ≡ packet_and_stakes line at
+    pub bad_packet : is_some hex ≡ false → false ≡ packet_and_stakes line at
     bad_packet d = ap (packet_test true) (sym d) ∙ packet_is
 
-    pub good_packet : (r : Bool) → hex.good ≡ true → r ≡ at_least line w.to 0 → r ≡ packet_and_stakes line at
+    pub good_packet : (r : Bool) → is_some hex ≡ true → r ≡ at_least line w.to 0 → r ≡ packet_and_stakes line at
     good_packet r d g = g ∙ ap (λ (n : ℕ). at_least line n 0) (word_to_lem line at w h) ∙ ap (packet_test true) (sym d) ∙ packet_is
 
 -- ---- one word

@@ -1,6 +1,9 @@
 -- The commands of a script, and the lines that are none.
-use Rattle.std.specs.Prelude.{◌≡◌, Bool, true, false, ◌&&◌, ◌||◌, List, [], ◌∷◌, ℕ, ◌-◌, eqb, leb, ltb, length, get_or, take, drop}
-use Rattle.rulebook.specs.Tools.{choose, all_to}
+use Rattle.std.specs.Prelude.{◌≡◌, Bool, true, false, ◌&&◌, ◌||◌, List, [], ◌∷◌, ℕ, ◌-◌, eqb, leb, ltb, take, drop, Result, Ok, Err}
+use Rattle.std.specs.Str.{bytes_eq}
+use Rattle.std.specs.Option.{is_some}
+use Rattle.script.specs.declared.NoNumber.{NoNumber}
+use Rattle.rulebook.specs.Tools.{choose}
 use Rattle.hex_bytes.specs.Bytes.{hex_of}
 use Rattle.script.specs.Numbers.{word_from, word_to, numbers_of}
 use Rattle.commands.specs.declared.Command.{Command}
@@ -9,8 +12,8 @@ use Rattle.commands.specs.declared.Reading.{Reading}
 use Rattle.commands.specs.declared.Reading.TheVariants as reading
 
 -- Two texts are the same: as long as each other, and the same byte at each place.
-unfoldable pub same_text : List ℕ → List ℕ → Bool
-same_text a b = eqb (length a) (length b) && all_to (length a) (λ i. eqb (get_or a i 0) (get_or b i 0))
+abbrev pub same_text : List ℕ → List ℕ → Bool
+same_text = bytes_eq
 
 -- The commands' words, letter by letter.
 abbrev pub start_text : List ℕ
@@ -144,12 +147,17 @@ unfoldable pub input_of : List ℕ → Command
 input_of w =
     choose (same_text w start_text) command.Start (choose (same_text w watch_text) command.Watch (choose (same_text w vote_text) command.Vote (choose (same_text w block_text) command.Block (choose (same_text w timeout_text) command.Timeout (choose (same_text w look_text) command.Look (choose (same_text w tray_text) command.Tray (choose (same_text w take_text) command.Take (question_of w))))))))
 
+-- Words that are all numbers, so many that a test passes.
+abbrev pub told : Result ℕ NoNumber → (ℕ → Bool) → Bool
+told (Ok n) p = p n
+told (Err e) p = false
+
 -- From a place on, a line holds numbers and nothing else: so many, or so many at least.
 unfoldable pub exactly : List ℕ → ℕ → ℕ → Bool
-exactly line at many = let n = (numbers_of line at []).answer in n.good && eqb n.count many
+exactly line at many = told (numbers_of line at []).answer (λ n. eqb n many)
 
 unfoldable pub at_least : List ℕ → ℕ → ℕ → Bool
-at_least line at many = let n = (numbers_of line at []).answer in n.good && leb many n.count
+at_least line at many = told (numbers_of line at []).answer (λ n. leb many n)
 
 -- The next word of a line.
 abbrev pub word_of : List ℕ → ℕ → List ℕ
@@ -162,7 +170,7 @@ one_word line at = ltb (word_from line at) (word_to line at) && exactly line (wo
 -- A packet in hex, of at most 32,768 bytes, which no line exceeds, and then numbers.
 unfoldable pub packet_and_stakes : List ℕ → ℕ → Bool
 packet_and_stakes line at =
-    ltb (word_from line at) (word_to line at) && ((hex_of (word_of line at) 32768).good && at_least line (word_to line at) 0)
+    ltb (word_from line at) (word_to line at) && (is_some (hex_of (word_of line at) 32768) && at_least line (word_to line at) 0)
 
 -- A packet in hex, and nothing more.
 unfoldable pub packet_alone : List ℕ → ℕ → Bool

@@ -2,10 +2,10 @@
 #![tactic(auto)]
 
 ghost use Rattle.std.specs.Prelude.{◌≡◌};
-ghost use Rattle.commands.specs.Commands.{same_text, input_of, question_of, message_of, pieces_of, compared_of, inquest_of, view_of, exactly, at_least, one_word, packet_and_stakes, packet_alone, count_and_message, arguments_fit, command_of, reading_of, reading_fits, reading_on};
+ghost use Rattle.commands.specs.Commands.{same_text, input_of, exactly, at_least, one_word, packet_and_stakes, packet_alone, count_and_message, arguments_fit, command_of, reading_of, reading_fits, reading_on};
 
 use hex_bytes::read_hex;
-use script::{read_numbers, word_at};
+use script::{Word, read_numbers, word_at};
 
 // The commands, and one case for every other line.
 #[derive(Clone, Copy)]
@@ -57,172 +57,67 @@ pub enum Reading {
 pub fn same(a: &[u8], b: &[u8]) -> bool
     ensures { result ≡ same_text a.now b.now }
 {
-    if a.len() != b.len() {
-        return false;
-    }
-    for i in 0..a.len() {
-        if a[i] != b[i] {
-            return false;
-        }
-    }
-    true
+    a == b
 }
 
-// The commands that tell a node something.
-fn input_of(word: &[u8]) -> Command
+// The command that a word is.
+#[tactic(auto, unfolding(crate::specs::Commands::input_of, crate::specs::Commands::question_of, crate::specs::Commands::message_of, crate::specs::Commands::pieces_of, crate::specs::Commands::compared_of, crate::specs::Commands::inquest_of, crate::specs::Commands::view_of, rulebook::specs::Tools::choose))]
+fn command_named(word: &[u8]) -> Command
     ensures { result ≡ input_of word.now }
 {
-    if same(word, b"start") {
-        return Command::Start;
+    match word {
+        b"start" => Command::Start,
+        b"watch" => Command::Watch,
+        b"vote" => Command::Vote,
+        b"block" => Command::Block,
+        b"timeout" => Command::Timeout,
+        b"look" => Command::Look,
+        b"tray" => Command::Tray,
+        b"take" => Command::Take,
+        b"cert" => Command::Cert,
+        b"proof" => Command::Proof,
+        b"check" => Command::Check,
+        b"checkproof" => Command::CheckProof,
+        b"card" => Command::Card,
+        b"pack" => Command::Pack,
+        b"unpack" => Command::Unpack,
+        b"piece" => Command::Piece,
+        b"end" => Command::End,
+        b"aside" => Command::Aside,
+        b"differ" => Command::Differ,
+        b"save" => Command::Save,
+        b"stands" => Command::Stands,
+        b"vouched" => Command::Vouched,
+        b"board" => Command::Board,
+        b"votes" => Command::Votes,
+        b"why" => Command::Why,
+        b"help" => Command::Help,
+        b"quit" => Command::Quit,
+        _ => Command::Other,
     }
-    if same(word, b"watch") {
-        return Command::Watch;
-    }
-    if same(word, b"vote") {
-        return Command::Vote;
-    }
-    if same(word, b"block") {
-        return Command::Block;
-    }
-    if same(word, b"timeout") {
-        return Command::Timeout;
-    }
-    if same(word, b"look") {
-        return Command::Look;
-    }
-    if same(word, b"tray") {
-        return Command::Tray;
-    }
-    if same(word, b"take") {
-        return Command::Take;
-    }
-    question_of(word)
-}
-
-// The commands that ask something.
-fn question_of(word: &[u8]) -> Command
-    ensures { result ≡ question_of word.now }
-{
-    if same(word, b"cert") {
-        return Command::Cert;
-    }
-    if same(word, b"proof") {
-        return Command::Proof;
-    }
-    if same(word, b"check") {
-        return Command::Check;
-    }
-    if same(word, b"checkproof") {
-        return Command::CheckProof;
-    }
-    if same(word, b"card") {
-        return Command::Card;
-    }
-    message_of(word)
-}
-
-// The commands of vote messages.
-fn message_of(word: &[u8]) -> Command
-    ensures { result ≡ message_of word.now }
-{
-    if same(word, b"pack") {
-        return Command::Pack;
-    }
-    if same(word, b"unpack") {
-        return Command::Unpack;
-    }
-    pieces_of(word)
-}
-
-// The commands of proofs in pieces.
-fn pieces_of(word: &[u8]) -> Command
-    ensures { result ≡ pieces_of word.now }
-{
-    if same(word, b"piece") {
-        return Command::Piece;
-    }
-    if same(word, b"end") {
-        return Command::End;
-    }
-    compared_of(word)
-}
-
-// The commands by which two nodes are compared.
-fn compared_of(word: &[u8]) -> Command
-    ensures { result ≡ compared_of word.now }
-{
-    if same(word, b"aside") {
-        return Command::Aside;
-    }
-    if same(word, b"differ") {
-        return Command::Differ;
-    }
-    if same(word, b"save") {
-        return Command::Save;
-    }
-    inquest_of(word)
-}
-
-// The commands of the inquest.
-fn inquest_of(word: &[u8]) -> Command
-    ensures { result ≡ inquest_of word.now }
-{
-    if same(word, b"stands") {
-        return Command::Stands;
-    }
-    if same(word, b"vouched") {
-        return Command::Vouched;
-    }
-    view_of(word)
-}
-
-// The commands for people.
-fn view_of(word: &[u8]) -> Command
-    ensures { result ≡ view_of word.now }
-{
-    if same(word, b"board") {
-        return Command::Board;
-    }
-    if same(word, b"votes") {
-        return Command::Votes;
-    }
-    if same(word, b"why") {
-        return Command::Why;
-    }
-    if same(word, b"help") {
-        return Command::Help;
-    }
-    if same(word, b"quit") {
-        return Command::Quit;
-    }
-    Command::Other
 }
 
 // Whether the rest of a line is so many numbers.
+#[tactic(auto, unfolding(crate::specs::Commands::exactly))]
 fn exactly(line: &[u8], at: usize, many: usize) -> bool
     ensures { result ≡ exactly line.now at many }
 {
-    let mut none = [0u64; 0];
-    let n = read_numbers(line, at, &mut none);
-    n.good & (n.count == many)
+    read_numbers(line, at, &mut []).is_ok_and(|n| n == many)
 }
 
 // Whether the rest of a line is so many numbers or more.
+#[tactic(auto, unfolding(crate::specs::Commands::at_least))]
 fn at_least(line: &[u8], at: usize, many: usize) -> bool
     ensures { result ≡ at_least line.now at many }
 {
-    let mut none = [0u64; 0];
-    let n = read_numbers(line, at, &mut none);
-    n.good & (many <= n.count)
+    read_numbers(line, at, &mut []).is_ok_and(|n| many <= n)
 }
 
 // Whether the rest of a line is one word, whatever it is.
 fn one_word(line: &[u8], at: usize) -> bool
     ensures { result ≡ one_word line.now at }
 {
-    let w = word_at(line, at);
-    let from = w.from;
-    let to = w.to;
+    let Word { from, to } = word_at(line, at);
     let ended = exactly(line, to, 0);
     (from < to) & ended
 }
@@ -231,18 +126,12 @@ fn one_word(line: &[u8], at: usize) -> bool
 fn packet_and_stakes(line: &[u8], at: usize) -> bool
     ensures { result ≡ packet_and_stakes line.now at }
 {
-    let w = word_at(line, at);
-    let from = w.from;
-    let to = w.to;
+    let Word { from, to } = word_at(line, at);
     if to <= from {
         return false;
     }
     let mut bytes = [0u8; 32768];
-    let hex = read_hex(&line[from..to], &mut bytes);
-    if !hex.good {
-        return false;
-    }
-    at_least(line, to, 0)
+    read_hex(&line[from..to], &mut bytes).is_some() && at_least(line, to, 0)
 }
 
 // Whether the rest of a line is a packet in hex, of at most 32,768 bytes, and nothing more.
@@ -259,14 +148,14 @@ fn packet_alone(line: &[u8], at: usize) -> bool
 fn count_and_message(line: &[u8], at: usize) -> bool
     ensures { result ≡ count_and_message line.now at }
 {
-    let w = word_at(line, at);
-    let to = w.to;
+    let to = word_at(line, at).to;
     let counted = exactly(&line[..to], at, 1);
     let packed = packet_alone(line, to);
     counted & packed
 }
 
 // Whether what follows a command's word is what it asks for.
+#[tactic(auto, unfolding(crate::specs::Commands::arguments_fit))]
 fn arguments_fit(c: Command, line: &[u8], at: usize) -> bool
     ensures { result ≡ arguments_fit c line.now at }
 {
@@ -306,10 +195,8 @@ fn arguments_fit(c: Command, line: &[u8], at: usize) -> bool
 pub fn command_of(line: &[u8]) -> Command
     ensures { result ≡ command_of line.now }
 {
-    let w = word_at(line, 0);
-    let from = w.from;
-    let to = w.to;
-    let c = input_of(&line[from..to]);
+    let Word { from, to } = word_at(line, 0);
+    let c = command_named(&line[from..to]);
     if arguments_fit(c, line, to) {
         return c;
     }
@@ -317,34 +204,24 @@ pub fn command_of(line: &[u8]) -> Command
 }
 
 // What a word reads.
-fn reading_of(word: &[u8]) -> Reading
+#[tactic(auto, unfolding(crate::specs::Commands::reading_of, rulebook::specs::Tools::choose))]
+fn reading_named(word: &[u8]) -> Reading
     ensures { result ≡ reading_of word.now }
 {
-    if same(word, b"blocks") {
-        return Reading::Blocks;
+    match word {
+        b"blocks" => Reading::Blocks,
+        b"marks" => Reading::Marks,
+        b"head" => Reading::Head,
+        b"certificates" => Reading::Certificates,
+        b"weights" => Reading::Weights,
+        b"parents" => Reading::Parents,
+        b"help" => Reading::Topic,
+        _ => Reading::Nothing,
     }
-    if same(word, b"marks") {
-        return Reading::Marks;
-    }
-    if same(word, b"head") {
-        return Reading::Head;
-    }
-    if same(word, b"certificates") {
-        return Reading::Certificates;
-    }
-    if same(word, b"weights") {
-        return Reading::Weights;
-    }
-    if same(word, b"parents") {
-        return Reading::Parents;
-    }
-    if same(word, b"help") {
-        return Reading::Topic;
-    }
-    Reading::Nothing
 }
 
 // Whether what follows the word is what is asked for.
+#[tactic(auto, unfolding(crate::specs::Commands::reading_fits))]
 fn reading_fits(r: Reading, line: &[u8], at: usize) -> bool
     ensures { result ≡ reading_fits r line.now at }
 {
@@ -364,10 +241,8 @@ fn reading_fits(r: Reading, line: &[u8], at: usize) -> bool
 pub fn reading_on(line: &[u8]) -> Reading
     ensures { result ≡ reading_on line.now }
 {
-    let w = word_at(line, 0);
-    let from = w.from;
-    let to = w.to;
-    let r = reading_of(&line[from..to]);
+    let Word { from, to } = word_at(line, 0);
+    let r = reading_named(&line[from..to]);
     if reading_fits(r, line, to) {
         return r;
     }

@@ -4,8 +4,8 @@ use Rattle.commands.proofs.command_of.Goals as goal
 
 pub returns-then-arguments_fit : goal.returns-then-arguments_fit
 returns-then-arguments_fit c =
-    command_fits _ c.word_at-w.result c.word_at-w.ensures c.input_of-c.result c.input_of-c.ensures _ c.arguments_fit.ensures c.if-arguments_fit.true
+    command_fits _ c.word_at-from.result c.word_at-from.ensures c.command_named-c.result c.command_named-c.ensures _ c.arguments_fit.ensures c.if-arguments_fit.true
 
 pub returns : goal.returns
 returns c =
-    command_none _ c.word_at-w.result c.word_at-w.ensures c.input_of-c.result c.input_of-c.ensures _ c.arguments_fit.ensures c.if-arguments_fit.false
+    command_none _ c.word_at-from.result c.word_at-from.ensures c.command_named-c.result c.command_named-c.ensures _ c.arguments_fit.ensures c.if-arguments_fit.false

@@ -3,4 +3,4 @@ use Rattle.commands.proofs.Laws.{word_alone}
 use Rattle.commands.proofs.one_word.Goals as goal
 
 pub returns : goal.returns
-returns c = word_alone _ _ c.word_at-w.result c.word_at-w.ensures _ c.exactly-ended.ensures
+returns c = word_alone _ _ c.word_at-from.result c.word_at-from.ensures _ c.exactly-ended.ensures
