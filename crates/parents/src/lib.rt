@@ -76,8 +76,8 @@ fn some_block_held(rec: &[u64], p: Slot, blocks: &[u64]) -> bool
     requires { Unkept rec.now p.0 }
     ensures { result ≡ some_to (length blocks.now) (λ i. named_holds (held (ledger_of rec.now) certificate.NotarFallback p.0) (get_or blocks.now i 0)) }
 {
-    for i in 0..blocks.len() {
-        if name_held(rec, p, blocks[i]) {
+    for b in blocks {
+        if name_held(rec, p, *b) {
             return true;
         }
     }
@@ -189,9 +189,7 @@ pub fn some_ready(rec: &[u64], s: Slot) -> bool
     requires { Carded rec.now s.0 }
     ensures { result ≡ some_ready (ledger_of rec.now) s.0 }
 {
-    let mut q = s.0;
-    while 1 < q {
-        q -= 1;
+    for q in (1..s.0).rev() {
         if some_held(rec, Slot(q)) {
             return true;
         }
@@ -199,5 +197,5 @@ pub fn some_ready(rec: &[u64], s: Slot) -> bool
             return false;
         }
     }
-    q == 1
+    0 < s.0
 }

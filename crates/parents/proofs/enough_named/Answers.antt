@@ -1,5 +1,4 @@
 -- What is left of the total: those that name some block among the nodes looked at, and all behind them.
-use Prim.Native.Nat.{◌-◌}
 use native.Mathlib.Omega.{arith}
 use Rattle.parents.proofs.FewLaws.{needed_within, left_begun, left_short, left_enough}
 use Rattle.parents.proofs.enough_named.Goals as goal

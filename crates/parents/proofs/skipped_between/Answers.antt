@@ -1,6 +1,6 @@
 -- The loop goes up as long as slots hold kind 4.
 use mathlib.Core.Path.{◌∙◌, sym}
-use Prim.Native.Nat.{◌+◌, ◌-◌}
+use Prim.Native.Nat.{◌+◌}
 use native.Mathlib.Omega.{arith}
 use Rattle.record.specs.Layout.{ledger_of}
 use Rattle.parents.proofs.ReadyLaws.{skipped_between_lem, between_skipped, skipped_up}

@@ -1,6 +1,5 @@
 -- The loop goes over the places; none passed so far has a block that holds kind 3.
 use mathlib.Core.Path.{◌∙◌, sym}
-use Prim.Native.Nat.{◌-◌}
 use native.Mathlib.Omega.{arith}
 use Rattle.rulebook.specs.Ledger.{certificates_at}
 use Rattle.rulebook.specs.Pool.{held}

@@ -2,40 +2,28 @@
 use mathlib.Core.Path.{◌∙◌, sym}
 use Prim.Native.Nat.{◌-◌}
 use native.Mathlib.Omega.{arith}
-use lib.Dec.{eqb}
-use borrow.Author.Tests.{eqb-true, eqb-false}
+use lib.Dec.{ltb}
+use borrow.Author.Tests.{ltb-true, ltb-false}
 use Rattle.rule_laws.proofs.ToolLaws.{by_test}
 use Rattle.record.specs.Layout.{ledger_of}
 use Rattle.parents.proofs.ReadyLaws.{any_later, found_ready, cut_ready, none_more, skipped_more, end_ready, no_slots}
 use Rattle.parents.proofs.some_ready.Goals as goal
-
-pub loop-q-init : goal.loop-q-init
-loop-q-init c = (omega arith, omega arith, λ i a b. absurd (omega arith), λ i a b. absurd (omega arith))
-
-pub some_held-requires : goal.some_held-requires
-some_held-requires c =
-    let a = c.requires in record { weighing = record { long = a.weighing.long; slot = omega (arith, a.weighing.slot); table = a.weighing.table }; later = omega arith; cards = a.cards }
 
 pub returns-then-some_held : goal.returns-then-some_held
 returns-then-some_held c =
     let a = c.args in
     let l = ledger_of a.rec.now in
     let k = c.loop-q in
-    sym (found_ready l a.s.0 (k.q - 1) (omega arith) (λ i f g. k.invariant.2 i (omega arith) g)
+    sym (found_ready l a.s.0 (k.q - 1) (omega arith) (λ i f g. k.invariant.0 i (omega arith) g)
     (any_later l (k.q - 1) (omega arith) ∙ sym c.some_held.ensures ∙ c.if-some_held.true))
-
-pub held-requires : goal.held-requires
-held-requires c =
-    let a = c.requires in record { weighing = record { long = a.weighing.long; slot = omega (arith, a.weighing.slot); table = a.weighing.table }; later = omega arith; cards = a.cards }
 
 pub returns-then-not-held : goal.returns-then-not-held
 returns-then-not-held c =
     let a = c.args in
     let l = ledger_of a.rec.now in
     let k = c.loop-q in
-    let p = k.q - 1 in
     sym (cut_ready l a.s.0 (k.q - 1) (omega arith)
-    (none_more l a.s.0 (k.q - 1) (omega arith) (λ i f g. k.invariant.2 i (omega arith) g) (any_later l (k.q - 1) (omega arith) ∙ sym c.some_held.ensures ∙ c.if-some_held.false) (λ i f g. k.invariant.3 i (omega arith) g))
+    (none_more l a.s.0 (k.q - 1) (omega arith) (λ i f g. k.invariant.0 i (omega arith) g) (any_later l (k.q - 1) (omega arith) ∙ sym c.some_held.ensures ∙ c.if-some_held.false) (λ i f g. k.invariant.1 i (omega arith) g))
     (sym c.held.ensures ∙ c.if-not-held.true))
 
 pub loop-q-preserved : goal.loop-q-preserved
@@ -43,10 +31,8 @@ loop-q-preserved c =
     let a = c.args in
     let l = ledger_of a.rec.now in
     let k = c.loop-q in (
-      omega arith,
-      omega (arith, c.requires.weighing.slot),
-      skipped_more l (k.q - 1) a.s.0 (sym c.held.ensures ∙ c.if-not-held.false) (λ i f g. k.invariant.2 i (omega arith) g),
-      none_more l a.s.0 (k.q - 1) (omega arith) (λ i f g. k.invariant.2 i (omega arith) g) (any_later l (k.q - 1) (omega arith) ∙ sym c.some_held.ensures ∙ c.if-some_held.false) (λ i f g. k.invariant.3 i (omega arith) g),
+      skipped_more l (k.q - 1) a.s.0 (sym c.held.ensures ∙ c.if-not-held.false) (λ i f g. k.invariant.0 i (omega arith) g),
+      none_more l a.s.0 (k.q - 1) (omega arith) (λ i f g. k.invariant.0 i (omega arith) g) (any_later l (k.q - 1) (omega arith) ∙ sym c.some_held.ensures ∙ c.if-some_held.false) (λ i f g. k.invariant.1 i (omega arith) g),
     )
 
 pub returns : goal.returns
@@ -54,6 +40,6 @@ returns c =
     let a = c.args in
     let l = ledger_of a.rec.now in
     let k = c.loop-q in
-    by_test (eqb k.q 1)
-    (λ e. let q = eqb-true k.q 1 e in e ∙ sym (end_ready l a.s.0 (omega arith) (λ i f g. k.invariant.2 i (omega arith) g)))
-    (λ e. e ∙ sym (no_slots l a.s.0 (omega (arith, eqb-false k.q 1 e))))
+    by_test (ltb 0 a.s.0)
+    (λ e. e ∙ sym (end_ready l a.s.0 (ltb-true 0 a.s.0 e) (λ i f g. k.invariant.0 i (omega arith) g)))
+    (λ e. e ∙ sym (no_slots l a.s.0 (omega (arith, ltb-false 0 a.s.0 e))))
