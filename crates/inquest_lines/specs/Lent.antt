@@ -1,11 +1,12 @@
 -- What a question of the inquest is answered, and the lent list afterwards.
-use Rattle.std.specs.Prelude.{◌≡◌, List, [], ◌∷◌, ◌++◌, ℕ, ◌+◌, ◌*◌, length, leb, Result, Ok, Err}
-use Rattle.std.proofs.lemmas.List.Edits.{sets}
+use Rattle.std.specs.Prelude.{◌≡◌, List, [], ◌∷◌, ◌++◌, ℕ, ◌*◌, length, leb, Result, Ok, Err}
 use Rattle.rulebook.specs.declared.Refusal.TheVariants as refusal
 use Rattle.rulebook.specs.Tools.{whenever}
 use Rattle.rulebook.specs.PaperNumbers.{Panel, refusal_number, vote_number}
 use Rattle.rulebook.specs.Writers.{over}
 use Rattle.difference_lines.specs.Lines.{side_number}
+use Rattle.differences.specs.Rows.{OnList, Puts}
+use Rattle.differences.specs.Rows as rows
 use Rattle.inquest.specs.declared.Line.{Line}
 use Rattle.inquest_lines.specs.declared.ListRefusal.{ListRefusal}
 use Rattle.inquest_lines.specs.declared.ListRefusal.TheVariants as why
@@ -46,10 +47,13 @@ list_panel (Err (why.BadRecord s)) = record { number = refusal_number refusal.Ba
 list_panel (Err (why.Refused r)) = record { number = refusal_number r; values = 0 ∷ [] }
 list_panel (Err (why.NoRoom n)) = record { number = refusal_number refusal.NoRoom; values = n ∷ [] }
 
+-- What puts lines lists all of them, or none where they have no room, whichever they are.
+abbrev pub ListsLines : {F : Type 0} → OnList F → F → List ℕ → Result ℕ ListRefusal → List ℕ → Type 0
+ListsLines g put list r left = (n : ℕ) (ws : List ℕ) → length ws ≡ 5 * n → Puts g put n ws → ToldIn list (put_in (length list) n ws) r left
+
 -- Lines put into the list behind the first `at`, as far as it reaches, every other word as it was; and how many there are then.
-pub record Laid (list : List ℕ) (at : ℕ) (xs : List Line) (left : List ℕ) (next : ℕ) : Type 0 where
-  pub words : left ≡ sets list (5 * at) (spell_lines xs)
-  pub many : next ≡ at + length xs
+abbrev pub Laid : List ℕ → ℕ → List Line → List ℕ → ℕ → Type 0
+Laid = rows.Laid spell_lines
 
 -- No question has more lines than this: seven stored votes and 13 certificates with two masks, in each of sixteen slots.
 abbrev pub most_lines : ℕ
