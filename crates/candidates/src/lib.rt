@@ -153,8 +153,8 @@ fn lowest_of(rec: &[u64], s: Slot, blocks: &[u64]) -> u64
     ensures { result ≡ lowest (falls_back (ledger_of rec.now) s.0) (blocks_to blocks.now (length blocks.now)) }
 {
     let mut best: u64 = 0;
-    for i in 0..blocks.len() {
-        best = lower_fallback(rec, s, blocks[i], best);
+    for b in blocks {
+        best = lower_fallback(rec, s, *b, best);
     }
     best
 }
@@ -228,9 +228,7 @@ pub fn newcomer(rec: &[u64], s: Slot) -> u64
 {
     let card = load_card(rec, s);
     let mut best = lower_newcomer(rec, s, card.leader, 0);
-    let mut n = MOST_CERTIFICATES;
-    while 0 < n {
-        n -= 1;
+    for n in (0..MOST_CERTIFICATES).rev() {
         let b = block_at(rec, s, n);
         best = lower_newcomer(rec, s, b, best);
     }

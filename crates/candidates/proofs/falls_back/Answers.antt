@@ -1,6 +1,5 @@
 -- The own vote, then whether anything would be cast, then the weights, then the block and its parent.
 use mathlib.Core.Path.{◌∙◌, sym}
-use Prim.Native.Nat.{◌-◌}
 use Rattle.record.specs.Layout.{ledger_of}
 use Rattle.candidates.proofs.TestLaws.{falls_own, falls_idle, falls_light, falls_grounded}
 use Rattle.candidates.proofs.falls_back.Goals as goal

@@ -1,7 +1,6 @@
 -- The three ways.
 use mathlib.Core.Bool.{Bool}
 use mathlib.Core.Path.{◌∙◌, ap, sym}
-use Prim.Native.Nat.{◌-◌}
 use Rattle.rulebook.specs.Tools.{lower}
 use Rattle.rule_laws.proofs.LowestLaws.{lower_off, lower_stays, lower_goes}
 use Rattle.candidates.proofs.lower.Goals as goal
