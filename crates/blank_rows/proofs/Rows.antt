@@ -79,10 +79,11 @@ module _ (ws : List ℕ) (s from : ℕ) (h : InSlot ws s) (is : from ≡ row_sta
 
   marks_none : none_from ws (from + 12) 3 ≡ (none (row_at l s).timed_out && (none (row_at l s).final && none (row_at l s).clash))
   marks_none =
-      let x : from + 12 + 1 ≡ from + 13 = omega arith in
-      let y : from + 12 + 2 ≡ from + 14 = omega arith in
+      let w : from + 12 ≡ row_start z s + 12 = ap (λ (k : ℕ). k + 12) is in
+      let x : from + 12 + 1 ≡ row_start z s + 13 = omega (arith, is) in
+      let y : from + 12 + 2 ≡ row_start z s + 14 = omega (arith, is) in
       three_none ws (from + 12)
-      ∙ (λ i. none (timed_out_read ws s from h is i) && (none ((ap (word_at ws) x ∙ final_read ws s from h is) i) && none ((ap (word_at ws) y ∙ clash_read ws s from h is) i)))
+      ∙ (λ i. none ((ap (word_at ws) w ∙ timed_out_read ws s h) i) && (none ((ap (word_at ws) x ∙ final_read ws s h) i) && none ((ap (word_at ws) y ∙ clash_read ws s h) i)))
 
   five_none : (a : ℕ) → a ≡ from + 15 → none_from ws a 5 ≡ same_card (row_at l s).card no_card
   five_none a e = card_none ws a ∙ ap (λ (t : Tally). same_card t no_card) (card_read ws s a h (e ∙ ap (λ (k : ℕ). k + 15) is))
