@@ -7,31 +7,35 @@ ghost use Rattle.std.specs.Str.{IsUtf8};
 ghost use Rattle.door.specs.Sent.{NextLine, Whole};
 
 use lines::{put_byte, put_text};
-use std::io::{Error, ErrorKind, Result, Write};
+use std::io::{Error, ErrorKind, Write};
 
 const OUT: i32 = 1;
 
 const ERR: i32 = 2;
 
-// Writes the text at a page's front to an open file, and answers whether all of it was taken. A page that is full may hold less.
-pub fn send_to(fd: i32, page: &[u8], used: usize) -> bool
+// A text that was not written whole, and after which nothing is.
+#[derive(Clone, Copy, Debug, PartialEq, Eq)]
+pub struct Unwritten;
+
+// Writes the text at a page's front to an open file, all of it. A page that is full may hold less.
+pub fn send_to(fd: i32, page: &[u8], used: usize) -> Result<(), Unwritten>
     ensures { Whole (length page.now) used result }
 {
-    if used < page.len() {
-        return io::write_all(fd, &page[..used]);
+    if used < page.len() && io::write_all(fd, &page[..used]) {
+        return Ok(());
     }
-    false
+    Err(Unwritten)
 }
 
 // The same to standard output.
-pub fn send(page: &[u8], used: usize) -> bool
+pub fn send(page: &[u8], used: usize) -> Result<(), Unwritten>
     ensures { Whole (length page.now) used result }
 {
     send_to(OUT, page, used)
 }
 
 // The same into a writer, with the error where not all of it was taken.
-pub fn send_into<W: Write>(out: &mut W, page: &[u8], used: usize) -> Result<()>
+pub fn send_into<W: Write>(out: &mut W, page: &[u8], used: usize) -> std::io::Result<()>
     ensures { length page.now ≤ used → IsErr result }
 {
     if page.len() <= used {
@@ -40,20 +44,17 @@ pub fn send_into<W: Write>(out: &mut W, page: &[u8], used: usize) -> Result<()>
     out.write_all(&page[..used])
 }
 
-// Ends the line that stands in a page up to a place and sends it. Answers the place where the next line begins: the page's
-// front, or its end where the line was not written, so that nothing follows it.
-pub fn end_line(page: &mut [u8], at: usize) -> usize
+// Ends the line that stands in a page up to a place and sends it. Answers the place where the next line begins, the page's front.
+pub fn end_line(page: &mut [u8], at: usize) -> Result<usize, Unwritten>
     ensures { NextLine (length page.old) at result }
 {
     let used = put_byte(page, at, b'\n');
-    if send(page, used) {
-        return 0;
-    }
-    page.len()
+    send(page, used)?;
+    Ok(0)
 }
 
 // A text as a line of its own, after those that were sent.
-pub fn tell_line(page: &mut [u8], at: usize, text: &[u8]) -> usize
+pub fn tell_line(page: &mut [u8], at: usize, text: &[u8]) -> Result<usize, Unwritten>
     ensures { NextLine (length page.old) at result }
 {
     let next = put_text(page, at, text);
@@ -64,8 +65,8 @@ pub fn tell_line(page: &mut [u8], at: usize, text: &[u8]) -> usize
 fn text_end(text: &[u8]) -> usize
     ensures { result ≤ length text.now }
 {
-    for i in 0..text.len() {
-        if (text[i] == 0) | text[i..].starts_with(b" (os error ") {
+    for (i, b) in text.iter().enumerate() {
+        if *b == 0 || text[i..].starts_with(b" (os error ") {
             return i;
         }
     }
@@ -85,11 +86,8 @@ pub fn fail(what: &[u8], error: Error) {
 }
 
 // A file's name as text: std opens no other.
-pub fn file_name(name: &[u8]) -> Result<&str>
+pub fn file_name(name: &[u8]) -> std::io::Result<&str>
     ensures { MatchResult result (λ text. text.now ≡ name.now) (λ _. IsUtf8 name.now → ⊥) }
 {
-    match str::from_utf8(name) {
-        Ok(text) => Ok(text),
-        Err(_) => Err(Error::from(ErrorKind::InvalidFilename)),
-    }
+    str::from_utf8(name).map_err(|_| Error::from(ErrorKind::InvalidFilename))
 }

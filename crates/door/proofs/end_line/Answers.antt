@@ -1,6 +1,6 @@
--- The line was sent and had room, or the page's end stands.
+-- The line was sent, and had room.
 use Rattle.door.proofs.Laws.{next_front}
 use Rattle.door.proofs.end_line.Goals as goal
 
-pub returns-then-send : goal.returns-then-send
-returns-then-send c = next_front c.put_byte-used.ensures c.send.ensures c.if-send.true
+pub returns : goal.returns
+returns c = next_front c.put_byte-used.ensures c.send.ensures c.in_ok-send.was
