@@ -12,7 +12,6 @@ use borrow.Author.Tests.{eqb-true, eqb-false}
 use Rattle.rulebook.specs.declared.Refusal.{Refusal}
 use Rattle.rulebook.specs.declared.Refusal.TheVariants as refusal
 use Rattle.rulebook.specs.Weights.{stakes_fit}
-use Rattle.rulebook.specs.Ledger.{none}
 use Rattle.rulebook.specs.Checker.{check_proof}
 use Rattle.rule_laws.proofs.ToolLaws.{given_on, given_off, by_test, true_not_false}
 use Rattle.pieces.specs.Pieces.{Taken, nothing, since, after_piece, piece_answer, end_answer, Asked, piece, end, Said, of_piece, of_end, said, after_call, said_by, after_calls, Piece, calls, packet, mores}
@@ -70,8 +69,8 @@ piece_is : (t : Taken) (stakes bytes : List ℕ) → Fits t → PieceIs t stakes
 unfolding Fits PieceIs after_piece piece_answer
 piece_is nothing stakes bytes f =
     by_test (stakes_fit stakes (length stakes))
-    (λ e. rw (given_on (stakes_fit stakes (length stakes)) nothing (λ _. since stakes bytes) e, given_on (stakes_fit stakes (length stakes)) (Err refusal.BadSizes) (λ _. (Ok tt)) e) (first_fits stakes bytes e))
-    (λ e. rw (given_off (stakes_fit stakes (length stakes)) nothing (λ _. since stakes bytes) e, given_off (stakes_fit stakes (length stakes)) (Err refusal.BadSizes) (λ _. (Ok tt)) e)
+    (λ e. rw (given_on (stakes_fit stakes (length stakes)) nothing (λ _. since stakes bytes) e, given_on (stakes_fit stakes (length stakes)) (Err refusal.BadSizes) (λ _. Ok (tt {0})) e) (first_fits stakes bytes e))
+    (λ e. rw (given_off (stakes_fit stakes (length stakes)) nothing (λ _. since stakes bytes) e, given_off (stakes_fit stakes (length stakes)) (Err refusal.BadSizes) (λ _. Ok (tt {0})) e)
     (piece_unfit (words_of nothing) (bytes_of nothing) stakes bytes nothing_ready nothing_mark e))
 piece_is (since table taken) stakes bytes f =
     piece_more (words_of (since table taken)) (bytes_of (since table taken)) stakes bytes (since_ready table taken f) (since_begun table taken)
@@ -172,7 +171,7 @@ all_said : (stakes first : List ℕ) (later : List Piece) → stakes_fit stakes 
 unfolding said_by said after_call piece_answer after_piece
 all_said stakes first later e =
     ap₂ (λ (r : Result ⊤ Refusal) (t : Taken). of_piece r ∷ said_by t (calls later ++ (end ∷ [])))
-    (given_on (stakes_fit stakes (length stakes)) (Err refusal.BadSizes) (λ _. (Ok tt)) e)
+    (given_on (stakes_fit stakes (length stakes)) (Err refusal.BadSizes) (λ _. Ok (tt {0})) e)
     (given_on (stakes_fit stakes (length stakes)) nothing (λ _. since stakes first) e)
     ∙ ap (λ (xs : List Said). of_piece (Ok tt) ∷ xs) (later_said stakes first later)
 

@@ -1,4 +1,6 @@
 -- The two tests of a state, part by part: what refuses it, what decides, and what is known of one that passes. Assumes nothing.
+use Rattle.std.specs.Prelude.{is_some}
+use mathlib.Core.Logic.{⊎_elim}
 use mathlib.Core.Path.{◌≡◌, refl, sym, ap, ◌∙◌}
 use mathlib.Core.Bool.{Bool, true, false, ◌&&◌, ◌||◌}
 use mathlib.Core.List.{List}
@@ -12,6 +14,8 @@ use Rattle.rulebook.specs.Tools.{choose}
 use Rattle.rulebook.specs.Weights.{stakes_fit}
 use Rattle.rulebook.specs.Ledger.{none}
 use Rattle.rule_laws.proofs.ToolLaws.{choose_on, choose_off, and_both, both_and}
+use Rattle.stakes.specs.Table.{made_of}
+use Rattle.stakes.proofs.Laws.{made_cases}
 use Rattle.pieces.specs.State.{state_words, front_bytes, mark, kept, nodes, table, blank, is_sized, is_ready, holds_table, is_whole, Taking}
 
 -- ---- parts as the code lends them
@@ -79,6 +83,10 @@ module _ (ws bs : List ℕ) where
       positive m f = omega arith
 
 -- ---- of the end
+
+-- A table is made exactly where the stakes fit.
+pub made_test : (stakes : List ℕ) → is_some (made_of stakes) ≡ stakes_fit stakes (length stakes)
+made_test stakes = ⊎_elim (λ h. ap is_some h.1 ∙ sym h.0) (λ h. ap is_some h.1 ∙ sym h.0) (made_cases stakes)
 
 module _ (ws : List ℕ) where
   pub table_many : 2048 < nodes ws → false ≡ holds_table ws

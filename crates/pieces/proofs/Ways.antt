@@ -1,11 +1,10 @@
 -- Each way through a piece and through the end is what the definition says. Assumes nothing.
 use Rattle.std.specs.Prelude.{⊤, Result, Ok, Err}
-use mathlib.Core.Path.{◌≡◌, refl, sym, ap, ap₂, ◌∙◌}
+use mathlib.Core.Path.{◌≡◌, refl, sym, ap, ◌∙◌}
 use mathlib.Core.Bool.{true, false}
 use mathlib.Core.List.{List}
-use Prim.Native.Nat.{ℕ, ◌-◌}
-use native.Mathlib.Nat.{sub-zero}
-use lib.ListN.{length, take, drop, replicate}
+use Prim.Native.Nat.{ℕ}
+use lib.ListN.{length, take, replicate}
 use borrow.Author.Tests.{eq-eqb, ne_eqb}
 use Rattle.rulebook.specs.declared.Refusal.TheVariants as refusal
 use Rattle.rulebook.specs.Weights.{stakes_fit}
@@ -86,7 +85,7 @@ module _ (ws bs : List ℕ) where
       end_of (end_checked ws bs) (sym (given_on (is_whole ws bs) _ _ e ∙ given_off (none (mark ws)) _ _ (ne_eqb (mark ws) 0 n))) a b c
 
   -- On the parts as the code lends them.
-  pub end_checked_lem : {ws' bs' : List ℕ} {r : Result Accepted Refusal} → is_whole ws bs ≡ true → (mark ws ≡ 0 → ⊥) → r ≡ check_proof (first_stakes ws) (take (kept ws - 0) (drop 0 bs))
+  pub end_checked_lem : {ws' bs' : List ℕ} {r : Result Accepted Refusal} → is_whole ws bs ≡ true → (mark ws ≡ 0 → ⊥) → r ≡ check_proof (first_stakes ws) (take (kept ws) bs)
       → ws' ≡ replicate (length ws) 0 → bs' ≡ replicate (length bs) 0 → EndOf ws bs r ws' bs'
   end_checked_lem e n a b c =
-      end_whole e n (a ∙ ap₂ check_proof (first_stakes_lem ws) (ap (λ (k : ℕ). take k bs) (sub-zero (kept ws)))) b c
+      end_whole e n (a ∙ ap (λ (x : List ℕ). check_proof x (front ws bs)) (first_stakes_lem ws)) b c

@@ -4,7 +4,7 @@ use Rattle.std.specs.Prelude.{List, [], ◌∷◌, ◌++◌, ℕ, length, ⊤, R
 use Rattle.rulebook.specs.declared.Refusal.TheVariants as refusal
 use Rattle.rulebook.specs.Tools.{whenever}
 use Rattle.rulebook.specs.Weights.{stakes_fit}
-use Rattle.rulebook.specs.PaperNumbers.{Panel, refusal_number, panel_of}
+use Rattle.rulebook.specs.PaperNumbers.{Panel, panel_of}
 use Rattle.rulebook.specs.Checker.{check_proof}
 use Rattle.rulebook.specs.declared.Accepted.{Accepted}
 use Rattle.rulebook.specs.declared.Refusal.{Refusal}

@@ -1,12 +1,13 @@
 // The checker of a finality proof that arrives in pieces. The host lends the state, words and bytes; all zeros, nothing has been taken.
 #![tactic(auto)]
 
-ghost use Rattle.std.specs.Prelude.{◌≡◌, ◌+◌, ◌≤◌, min, length, get_or, set, replicate};
+ghost use Rattle.std.specs.Prelude.{◌≡◌, length};
+ghost use Rattle.std.specs.List.{list_all};
 ghost use Rattle.std.proofs.Math.Seq.{paste};
-ghost use Rattle.pieces.specs.State.{state_words, front_bytes, nodes, blank, is_sized, is_ready, holds_table, is_whole, Pasted, Sized, Taking, Keeps, with_table, PieceOf, EndOf};
+ghost use Rattle.pieces.specs.State.{state_words, front_bytes, nodes, is_sized, is_ready, holds_table, is_whole, Pasted, Sized, Taking, Keeps, with_table, PieceOf, EndOf};
 
 use checker::check_proof;
-use rulebook::{Refusal, Accepted};
+use rulebook::{Accepted, Refusal};
 use stakes::make_table;
 
 // Words of the state: how far the packet is, how many nodes the table has, and a stake for each of at most 2,048.
@@ -40,54 +41,11 @@ pub fn node_count(words: &[u64]) -> usize
     words[1] as usize
 }
 
-// Whether words are all 0.
-fn blank_words(words: &[u64]) -> bool
-    ensures { result ≡ blank words.now }
+// Whether all of these are such a one.
+fn all_are<T: PartialEq>(xs: &[T], x: &T) -> bool
+    ensures { result ≡ list_all (λ y. T.eq y x.now) xs.now }
 {
-    let mut ok = true;
-    for i in 0..words.len() {
-        ok = ok & (words[i] == 0);
-    }
-    ok
-}
-
-// Whether bytes are all 0.
-fn blank_bytes(bytes: &[u8]) -> bool
-    ensures { result ≡ blank bytes.now }
-{
-    let mut ok = true;
-    for i in 0..bytes.len() {
-        ok = ok & (bytes[i] == 0);
-    }
-    ok
-}
-
-// Puts zeros into all words.
-fn clear_words(words: &mut [u64])
-    ensures { words.new ≡ replicate (length words.old) 0 }
-{
-    for i in 0..words.len() {
-        words[i] = 0;
-    }
-}
-
-// Puts zeros into all bytes.
-fn clear_bytes(bytes: &mut [u8])
-    ensures { bytes.new ≡ replicate (length bytes.old) 0 }
-{
-    for i in 0..bytes.len() {
-        bytes[i] = 0;
-    }
-}
-
-// Copies words to a place and those after it.
-fn copy_words(to: &mut [u64], at: usize, from: &[u64])
-    requires { at + length from.now ≤ length to.old }
-    ensures { to.new ≡ paste to.old at from.now (length from.now) }
-{
-    for i in 0..from.len() {
-        to[at + i] = from[i];
-    }
+    xs.iter().all(|y| y == x)
 }
 
 // Copies the first n bytes to a place and those after it.
@@ -95,9 +53,7 @@ fn copy_bytes(to: &mut [u8], at: usize, from: &[u8], n: usize)
     requires { Pasted to.old at from.now n }
     ensures { to.new ≡ paste to.old at from.now n }
 {
-    for i in 0..n {
-        to[at + i] = from[i];
-    }
+    to[at..at + n].copy_from_slice(&from[..n]);
 }
 
 // Whether a state has the size of one.
@@ -117,8 +73,7 @@ fn is_ready(words: &[u64], front: &[u8]) -> bool
     if words[0] != 0 {
         return words[0] <= 1_342;
     }
-    let clean = blank_words(words);
-    clean & blank_bytes(front)
+    all_are(words, &0) & all_are(front, &0)
 }
 
 // The stakes are a table, and the places past them are not used.
@@ -130,9 +85,7 @@ fn holds_table(words: &[u64]) -> bool
         return false;
     }
     let past = 2 + words[1] as usize;
-    let made = make_table(&words[2..past]);
-    let clean = blank_words(&words[past..]);
-    made.fits & clean
+    make_table(&words[2..past]).is_some() & all_are(&words[past..], &0)
 }
 
 // Not 17 for the end: the whole state is one that calls leave.
@@ -146,8 +99,7 @@ fn is_whole(words: &[u64], front: &[u8]) -> bool
         return true;
     }
     let kept = words[0] as usize - 1;
-    let table = holds_table(words);
-    table & blank_bytes(&front[kept..])
+    holds_table(words) & all_are(&front[kept..], &0)
 }
 
 // Begins with a table: no byte yet.
@@ -157,14 +109,7 @@ fn keep_table(words: &mut [u64], stakes: &[u64])
 {
     words[0] = 1;
     words[1] = stakes.len() as u64;
-    copy_words(words, 2, stakes);
-}
-
-// The lesser of two numbers.
-fn least(a: usize, b: usize) -> usize
-    ensures { result ≡ min a b }
-{
-    if a < b { a } else { b }
+    words[2..2 + stakes.len()].copy_from_slice(stakes);
 }
 
 // Keeps as many bytes of a piece as can still count.
@@ -173,13 +118,18 @@ fn keep_bytes(words: &mut [u64], front: &mut [u8], bytes: &[u8])
     ensures { Keeps words.old front.old bytes.now words.new front.new }
 {
     let kept = words[0] as usize - 1;
-    let n = least(bytes.len(), FRONT_BYTES - kept);
+    let n = bytes.len().min(FRONT_BYTES - kept);
     copy_bytes(front, kept, bytes, n);
     words[0] = (kept + n + 1) as u64;
 }
 
 // Takes a piece of a proof. The table is looked at with the first piece alone.
-pub fn piece(words: &mut [u64], front: &mut [u8], stakes: &[u64], bytes: &[u8]) -> Result<(), Refusal>
+pub fn piece(
+    words: &mut [u64],
+    front: &mut [u8],
+    stakes: &[u64],
+    bytes: &[u8],
+) -> Result<(), Refusal>
     ensures { PieceOf words.old front.old stakes.now bytes.now result words.new front.new }
 {
     if !is_ready(words, front) {
@@ -189,8 +139,7 @@ pub fn piece(words: &mut [u64], front: &mut [u8], stakes: &[u64], bytes: &[u8]) 
         keep_bytes(words, front, bytes);
         return Ok(());
     }
-    let made = make_table(stakes);
-    if !made.fits {
+    if make_table(stakes).is_none() {
         return Err(Refusal::BadSizes);
     }
     keep_table(words, stakes);
@@ -210,8 +159,8 @@ pub fn end(words: &mut [u64], front: &mut [u8]) -> Result<Accepted, Refusal>
     }
     let kept = words[0] as usize - 1;
     let past = 2 + words[1] as usize;
-    let a = check_proof(&words[2..past], &front[0..kept]);
-    clear_words(words);
-    clear_bytes(front);
+    let a = check_proof(&words[2..past], &front[..kept]);
+    words.fill(0);
+    front.fill(0);
     a
 }

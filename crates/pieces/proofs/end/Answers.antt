@@ -3,6 +3,7 @@ use Rattle.pieces.proofs.Ways.{end_broken, end_nothing, end_checked_lem}
 use Rattle.pieces.proofs.Tests.{ready_words, ready_bytes, ready_within, whole_ready, whole_held, table_held}
 use mathlib.Core.Path.{◌∙◌, sym}
 use native.Mathlib.Omega.{arith}
+use lib.Seq.{length-take-le}
 use Rattle.pieces.proofs.end.Goals as goal
 
 pub returns-then-not-is_whole : goal.returns-then-not-is_whole
@@ -36,6 +37,12 @@ pub slice_bounds-check_proof-end-2 : goal.slice_bounds-check_proof-end-2
 slice_bounds-check_proof-end-2 c =
     omega (arith, ready_bytes _ _ (whole_ready _ _ (sym c.is_whole.ensures ∙ c.if-not-is_whole.false)), ready_within _ _ (whole_ready _ _ (sym c.is_whole.ensures ∙ c.if-not-is_whole.false)) c.if-words-eq0.false)
 
+pub slice_bounds-check_proof-end-3 : goal.slice_bounds-check_proof-end-3
+slice_bounds-check_proof-end-3 c =
+    let whole = sym c.is_whole.ensures ∙ c.if-not-is_whole.false in
+    sym (length-take-le _ c.args.front.now
+    (omega (arith, ready_bytes _ _ (whole_ready c.args.words.now c.args.front.now whole), ready_within _ _ (whole_ready c.args.words.now c.args.front.now whole) c.if-words-eq0.false)))
+
 pub returns : goal.returns
 returns c =
-    end_checked_lem _ _ (sym c.is_whole.ensures ∙ c.if-not-is_whole.false) c.if-words-eq0.false c.check_proof-a.ensures c.clear_words.ensures c.clear_bytes.ensures
+    end_checked_lem _ _ (sym c.is_whole.ensures ∙ c.if-not-is_whole.false) c.if-words-eq0.false c.check_proof-a.ensures (c.fill.ensures.after (λ y e. e)) (c.fill-2.ensures.after (λ y e. e))

@@ -1,4 +1,5 @@
 -- The size, then the mark; where it is 0, the whole state.
+use Rattle.pieces.proofs.Runs.{all_blank}
 use Rattle.pieces.proofs.Tests.{sized_says, ready_unsized, ready_begun, ready_fresh}
 use mathlib.Core.Bool.{◌&&◌}
 use mathlib.Core.Path.{◌∙◌, ap₂, sym}
@@ -20,4 +21,4 @@ returns-then-words-ne0 c =
 
 pub returns : goal.returns
 returns c =
-    ap₂ ◌&&◌ c.blank_words-clean.ensures c.blank_bytes.ensures ∙ ready_fresh _ _ (sym c.is_sized.ensures ∙ c.if-not-is_sized.false) c.if-words-ne0.false
+    ap₂ ◌&&◌ (c.all_are.ensures ∙ all_blank _) (c.all_are-2.ensures ∙ all_blank _) ∙ ready_fresh _ _ (sym c.is_sized.ensures ∙ c.if-not-is_sized.false) c.if-words-ne0.false

@@ -1,4 +1,5 @@
 -- What a piece looks at, then the table and the bytes past the kept ones.
+use Rattle.pieces.proofs.Runs.{all_blank}
 use Rattle.pieces.proofs.Tests.{ready_words, ready_bytes, ready_within, whole_unready, whole_fresh, whole_decided}
 use mathlib.Core.Path.{◌∙◌, sym}
 use native.Mathlib.Omega.{arith}
@@ -17,17 +18,17 @@ returns-then-words-eq0 c =
 pub bounds-words-0-2 : goal.bounds-words-0-2
 bounds-words-0-2 c = omega (arith, ready_words _ _ (sym c.is_ready.ensures ∙ c.if-not-is_ready.false))
 
-pub holds_table-table-requires : goal.holds_table-table-requires
-holds_table-table-requires c = ready_words _ _ (sym c.is_ready.ensures ∙ c.if-not-is_ready.false)
+pub holds_table-requires : goal.holds_table-requires
+holds_table-requires c = ready_words _ _ (sym c.is_ready.ensures ∙ c.if-not-is_ready.false)
 
-pub slice_bounds-blank_bytes-count : goal.slice_bounds-blank_bytes-count
-slice_bounds-blank_bytes-count c =
+pub slice_bounds-all_are-count : goal.slice_bounds-all_are-count
+slice_bounds-all_are-count c =
     omega (arith, ready_bytes _ _ (sym c.is_ready.ensures ∙ c.if-not-is_ready.false), ready_within _ _ (sym c.is_ready.ensures ∙ c.if-not-is_ready.false) c.if-words-eq0.false)
 
-pub slice_bounds-blank_bytes-start : goal.slice_bounds-blank_bytes-start
-slice_bounds-blank_bytes-start c =
+pub slice_bounds-all_are-start : goal.slice_bounds-all_are-start
+slice_bounds-all_are-start c =
     omega (arith, ready_bytes _ _ (sym c.is_ready.ensures ∙ c.if-not-is_ready.false), ready_within _ _ (sym c.is_ready.ensures ∙ c.if-not-is_ready.false) c.if-words-eq0.false)
 
 pub returns : goal.returns
 returns c =
-    whole_decided c.args.words.now c.args.front.now _ _ (sym c.is_ready.ensures ∙ c.if-not-is_ready.false) c.if-words-eq0.false c.holds_table-table.ensures c.blank_bytes.ensures
+    whole_decided c.args.words.now c.args.front.now _ _ (sym c.is_ready.ensures ∙ c.if-not-is_ready.false) c.if-words-eq0.false c.holds_table.ensures (c.all_are.ensures ∙ all_blank _)

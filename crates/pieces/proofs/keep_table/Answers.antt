@@ -1,13 +1,15 @@
 -- The mark, the count, and the stakes copied behind them.
-use Rattle.pieces.specs.State.{with_table}
-use lib.ListN.{length-set}
+use mathlib.Core.Path.{◌≡◌}
+use Prim.Native.Nat.{◌+◌, ◌-◌}
 use native.Mathlib.Omega.{arith}
-use borrow.Author.Rules.{rules}
+use Rattle.std.proofs.lemmas.Grind.{common_steps}
+use lib.ListN.{length}
+use lib.Seq.{take-length}
+use Rattle.pieces.specs.State.{with_table}
 use Rattle.pieces.proofs.keep_table.Goals as goal
-
-pub copy_words-requires : goal.copy_words-requires
-copy_words-requires c = simp length-set (omega (arith, c.requires.words, c.requires.few))
 
 pub returns : goal.returns
 unfolding with_table
-returns c = search rules
+returns c =
+    let n : 2 + length c.args.stakes.now - 2 ≡ length c.args.stakes.now = omega arith in
+    rw (c.copy_from_slice.ensures.after, take-length c.args.stakes.now, n) (grind (arith, common_steps))
