@@ -19,11 +19,10 @@ pub fn is_short(rec: &[u64], looks: &[u64], s: Slot) -> bool
     requires { Weighing rec.now s.0 }
     ensures { result ≡ is_short (ledger_of rec.now) looks.now s.0 }
 {
-    let i = s.0;
-    if looks.len() <= i {
+    let Some(look) = looks.get(s.0) else {
         return false;
-    }
-    let short = Threshold::SIXTY.missing(Weight(looks[i]), total(rec));
+    };
+    let short = Threshold::SIXTY.missing(Weight(*look), total(rec));
     short.0 != 0
 }
 
@@ -96,17 +95,11 @@ pub fn count_look(rec: &[u64], looks: &mut [u64], s: Slot)
 }
 
 // Whether a vote of a kind names a block.
+#[tactic(auto, unfolding(crate::specs::Looks::names_block))]
 pub fn names_block(k: VoteKind) -> bool
     ensures { result ≡ names_block k }
 {
-    match k {
-        VoteKind::Notar => true,
-        VoteKind::NotarFallback => true,
-        VoteKind::Skip => false,
-        VoteKind::SkipFallback => false,
-        VoteKind::Final => false,
-        VoteKind::Other => false,
-    }
+    matches!(k, VoteKind::Notar | VoteKind::NotarFallback)
 }
 
 // Notes a vote that is about to be stored: the first of its node to name a block adds the stake to its slot's word, up to the total.

@@ -1,6 +1,5 @@
 -- The loop sums the stakes of those who count, one node a turn.
 use mathlib.Core.Path.{sym, ◌∙◌}
-use Prim.Native.Nat.{◌-◌}
 use native.Mathlib.Omega.{arith}
 use Rattle.record.specs.Layout.{ledger_of}
 use Rattle.looks.proofs.Beside.{beside_none, beside_on, beside_off, beside_room, beside_done}
