@@ -1,11 +1,14 @@
 -- Mask A, then mask B.
 use native.Mathlib.Omega.{arith}
-use Rattle.inquest_lines.proofs.Laws.{laid_then}
-use Rattle.signer_lines.proofs.Laws.{a_most}
+use Rattle.inquest_lines.proofs.Laws.{spelled, laid_then, laid_as}
+use Rattle.signer_lines.proofs.Laws.{one_most, counted_a, counted_b}
 use Rattle.signer_lines.proofs.put_signer.Goals as goal
 
-pub put_b-requires : goal.put_b-requires
-put_b-requires c = omega (arith, a_most c.args.x c.args.d c.put_a-next.ensures, c.requires)
+pub put_counted-requires : goal.put_counted-requires
+put_counted-requires c = omega (arith, one_most _ _ c.put_counted-next.ensures, c.requires)
 
 pub returns : goal.returns
-returns c = laid_then c.put_a-next.ensures c.put_b.ensures
+returns c =
+    let a = c.args in
+    laid_then spelled (laid_as (counted_a a.x a.d c.vote_a.ensures) c.put_counted-next.ensures)
+    (laid_as (counted_b a.x a.d c.with_b.ensures c.vote_b.ensures) c.put_counted.ensures)
