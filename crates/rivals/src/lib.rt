@@ -116,12 +116,13 @@ fn is_led_over(rec: &[u64], s: Slot, b: u64, v: Weight, any: Weight, words: &mut
     }
 }
 
-// Likewise in a ring of more than 64 nodes.
-fn is_led_among_many(rec: &[u64], s: Slot, b: u64, v: Weight, any: Weight) -> bool
-    requires { Claimed rec.now s.0 b v.0 any.0 }
+// Likewise, over so many words of its own, a number of groups that is a power of two.
+fn is_led_with<const WORDS: usize>(rec: &[u64], s: Slot, b: u64, v: Weight, any: Weight) -> bool
+    requires claimed { Claimed rec.now s.0 b v.0 any.0 }
+    requires some { (1 ≤ WORDS) × (WORDS ≤ 2048) }
     ensures { result ≡ has_rival (ledger_of rec.now) s.0 b v.0 (ledger_of rec.now).count }
 {
-    let mut words = [0u64; MOST_NODES];
+    let mut words = [0u64; WORDS];
     is_led_over(rec, s, b, v, any, &mut words)
 }
 
@@ -131,8 +132,7 @@ pub fn is_led(rec: &[u64], s: Slot, b: u64, v: Weight, any: Weight) -> bool
     ensures { result ≡ has_rival (ledger_of rec.now) s.0 b v.0 (ledger_of rec.now).count }
 {
     if count(rec) <= FEW_NODES {
-        let mut words = [0u64; FEW_NODES];
-        return is_led_over(rec, s, b, v, any, &mut words);
+        return is_led_with::<FEW_NODES>(rec, s, b, v, any);
     }
-    is_led_among_many(rec, s, b, v, any)
+    is_led_with::<MOST_NODES>(rec, s, b, v, any)
 }

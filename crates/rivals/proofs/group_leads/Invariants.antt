@@ -1,6 +1,5 @@
 -- No block behind the loop leads, and none weighs more than its group.
 use Prim.Native.Nat.{◌-◌, ◌≤◌}
-use Rattle.rulebook.specs.declared.Who.TheVariants as who
 use Rattle.record.specs.Layout.{ledger_of}
 use Rattle.rivals.proofs.Groups.{Grouped}
 use Rattle.rivals.proofs.group_leads.Given as goal

@@ -1,12 +1,11 @@
 -- None of the blocks behind the loop is a rival, and those that are left have at most the rest.
 use mathlib.Core.Path.{◌≡◌, ◌∙◌, ap, sym}
-use mathlib.Core.Bool.{false}
-use Prim.Native.Nat.{ℕ, ◌-◌}
+use Prim.Native.Nat.{ℕ}
 use native.Mathlib.Omega.{arith}
 use Rattle.rulebook.specs.declared.Cell.{Cell}
 use Rattle.record.specs.Layout.{ledger_of}
 use Rattle.rivals.specs.Rivals.{has_rival}
-use Rattle.rivals.proofs.Rivals.{left, left_first, left_more, rival_none, rival_stop, rival_more, rival_found}
+use Rattle.rivals.proofs.Rivals.{left_first, left_more, rival_none, rival_stop, rival_more, rival_found}
 use Rattle.rivals.proofs.has_rival.Goals as goal
 
 pub overflow_sub-rest : goal.overflow_sub-rest

@@ -1,7 +1,0 @@
--- The words have nothing in them at first.
-use native.Mathlib.Omega.{arith}
-use Rattle.rivals.proofs.Groups.{groups_empty}
-use Rattle.rivals.proofs.is_led.Goals as goal
-
-pub is_led_over-requires : goal.is_led_over-requires
-is_led_over-requires c = (c.requires, groups_empty 64 (omega arith) c.requires.leading)
