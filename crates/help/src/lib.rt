@@ -9,7 +9,7 @@ ghost use Rattle.help.specs.Manual.{lines_of, screen, told, packets, shown, aske
 ghost use Rattle.help.specs.Topics.{named, opens, topic_in, topic_of, topic_line, numbered, why_line};
 
 use commands::same;
-use door::send;
+use door::{Unwritten, send};
 use lines::{put_byte, put_decimal, put_text};
 use replies::malformed;
 use texts::put_refusal;
@@ -80,7 +80,7 @@ records       1 to 5 a vote was cast, 6 a block is final, 7 a window is armed, 8
 }
 
 // help
-pub fn help(page: &mut [u8]) -> bool
+pub fn help(page: &mut [u8]) -> Result<(), Unwritten>
     ensures { page.new ≡ sets page.old 0 (lines_of screen) }
 {
     let used = put_screen(page, 0);
@@ -132,10 +132,10 @@ fn put_topic(page: &mut [u8], at: usize, word: &[u8], text: &[u8]) -> usize
     let mut next = at;
     let mut fresh = true;
     let mut on = false;
-    for i in 0..text.len() {
+    for (i, b) in text.iter().enumerate() {
         on = opens(word, &text[i..], fresh, on);
-        fresh = text[i] == b'\n';
-        next = put_told(page, next, text[i], on);
+        fresh = *b == b'\n';
+        next = put_told(page, next, *b, on);
     }
     next
 }
@@ -319,7 +319,7 @@ fn put_manual(page: &mut [u8], word: &[u8]) -> usize
 }
 
 // help COMMAND; a word of which the manual tells nothing is no command.
-pub fn topic(page: &mut [u8], word: &[u8]) -> bool
+pub fn topic(page: &mut [u8], word: &[u8]) -> Result<(), Unwritten>
     ensures { page.new ≡ sets page.old 0 (topic_line word.now) }
 {
     let used = put_manual(page, word);
@@ -343,7 +343,7 @@ fn put_number(page: &mut [u8], n: u64) -> usize
 }
 
 // why NUMBER
-pub fn why(page: &mut [u8], n: u64) -> bool
+pub fn why(page: &mut [u8], n: u64) -> Result<(), Unwritten>
     ensures { page.new ≡ sets page.old 0 (why_line n) }
 {
     let p = put_number(page, n);

@@ -1,40 +1,34 @@
-// The panel's answers: each line is built whole in the page and leaves by the door, and the contract says what stood there. Each
-// answers whether it was written.
+// The panel's answers: each line is built whole in the page and leaves by the door, and the contract says what stood there. An
+// answer that was not written is an error.
 #![tactic(auto)]
 
 ghost use Rattle.std.specs.Prelude.{◌≡◌, [], ◌∷◌};
 ghost use Rattle.std.proofs.lemmas.List.Edits.{sets};
+ghost use Rattle.replies.specs.declared.Stop.TheVariants as stop;
 ghost use Rattle.lines.specs.Answers.{number_line, step_line, tray_line, packet_line, message_line, check_line};
 
-use door::send;
+use door::{Unwritten, send};
 use lines::{check_line, message_line, number_line, packet_line, put_text, step_line, tray_line};
 use rulebook::Weight;
 
-// What a line of the script leads to: the next one, the script's end, or that no further line is answered.
-#[derive(Clone, Copy)]
-pub enum Turn {
-    On,
-    End,
+// Why no further line of a script is answered: the script said so, an answer was not written, or the script was not read.
+#[derive(Clone, Copy, Debug, PartialEq, Eq)]
+pub enum Stop {
     Quit,
     Unwritten,
     Unread,
 }
 
-// Whether the next line is answered.
-pub fn goes_on(t: Turn) -> bool {
-    match t {
-        Turn::On => true,
-        _ => false,
+impl From<Unwritten> for Stop {
+    ghost from_gives = { λ _ r. r ≡ stop.Unwritten };
+
+    fn from(_cut: Unwritten) -> Stop {
+        Stop::Unwritten
     }
 }
 
-// After the first answer that was not written, no further line is answered.
-pub fn answered(written: bool) -> Turn {
-    if written { Turn::On } else { Turn::Unwritten }
-}
-
 // A line that is no command.
-pub fn malformed(page: &mut [u8]) -> bool
+pub fn malformed(page: &mut [u8]) -> Result<(), Unwritten>
     ensures { page.new ≡ sets page.old 0 (63 ∷ 10 ∷ []) }
 {
     let used = put_text(page, 0, b"?\n");
@@ -42,7 +36,7 @@ pub fn malformed(page: &mut [u8]) -> bool
 }
 
 // A number alone.
-pub fn number(page: &mut [u8], n: u64) -> bool
+pub fn number(page: &mut [u8], n: u64) -> Result<(), Unwritten>
     ensures { page.new ≡ sets page.old 0 (number_line n) }
 {
     let used = number_line(page, n);
@@ -50,7 +44,7 @@ pub fn number(page: &mut [u8], n: u64) -> bool
 }
 
 // A step's answer: its number, or 0 with the records made.
-pub fn records(page: &mut [u8], n: u64, made: usize, outbox: &[u64]) -> bool
+pub fn records(page: &mut [u8], n: u64, made: usize, outbox: &[u64]) -> Result<(), Unwritten>
     ensures { page.new ≡ sets page.old 0 (step_line (record { number = n; values = made ∷ [] }) outbox.now) }
 {
     let used = step_line(page, n, made, outbox);
@@ -58,7 +52,13 @@ pub fn records(page: &mut [u8], n: u64, made: usize, outbox: &[u64]) -> bool
 }
 
 // A tray's answer: its number, or 0 with the records made and one number a vote.
-pub fn served(page: &mut [u8], n: u64, made: usize, outbox: &[u64], answers: &[u64]) -> bool
+pub fn served(
+    page: &mut [u8],
+    n: u64,
+    made: usize,
+    outbox: &[u64],
+    answers: &[u64],
+) -> Result<(), Unwritten>
     ensures { page.new ≡ sets page.old 0 (tray_line (record { number = n; values = made ∷ [] }) outbox.now answers.now) }
 {
     let used = tray_line(page, n, made, outbox, answers);
@@ -66,7 +66,7 @@ pub fn served(page: &mut [u8], n: u64, made: usize, outbox: &[u64], answers: &[u
 }
 
 // A writer's answer: its number, or 0 with the packet.
-pub fn packet(page: &mut [u8], n: u64, written: usize, buffer: &[u8]) -> bool
+pub fn packet(page: &mut [u8], n: u64, written: usize, buffer: &[u8]) -> Result<(), Unwritten>
     ensures { page.new ≡ sets page.old 0 (packet_line (record { number = n; values = written ∷ [] }) buffer.now) }
 {
     let used = packet_line(page, n, written, buffer);
@@ -74,7 +74,7 @@ pub fn packet(page: &mut [u8], n: u64, written: usize, buffer: &[u8]) -> bool
 }
 
 // The checker's answer: 0 with the five values, 15 with what is missing, or its number alone.
-pub fn checked(page: &mut [u8], n: u64, values: &[u64; 5], missing: Weight) -> bool
+pub fn checked(page: &mut [u8], n: u64, values: &[u64; 5], missing: Weight) -> Result<(), Unwritten>
     ensures { page.new ≡ sets page.old 0 (check_line (record { number = n; values = values.now }) missing.0) }
 {
     let used = check_line(page, n, values, missing);
@@ -82,7 +82,7 @@ pub fn checked(page: &mut [u8], n: u64, values: &[u64; 5], missing: Weight) -> b
 }
 
 // The answer to a vote message: its number, or 0 with the vote's four numbers.
-pub fn vote_read(page: &mut [u8], n: u64, values: &[u64; 4]) -> bool
+pub fn vote_read(page: &mut [u8], n: u64, values: &[u64; 4]) -> Result<(), Unwritten>
     ensures { page.new ≡ sets page.old 0 (message_line (record { number = n; values = values.now })) }
 {
     let used = message_line(page, n, values);

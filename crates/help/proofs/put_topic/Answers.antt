@@ -5,12 +5,12 @@ use Rattle.lines.proofs.Putting.{put_length}
 use Rattle.help.proofs.put_topic.Goals as goal
 
 pub loop-i-init : goal.loop-i-init
-loop-i-init c = (all_left _ _ c.args.word.now c.args.text.now, refl, refl)
+loop-i-init c = (all_left _ _ c.args.word.now c.args.text.now, refl)
 
 pub loop-i-preserved : goal.loop-i-preserved
 loop-i-preserved c =
-    (one_less c.args.word.now c.args.text.now c.loop-i.fresh c.loop-i.on c.loop-i.i _ _ (omega (arith, c.loop-i-test.true, c.loop-i.invariant.2)) (to_end c.args.text.now c.loop-i.i _ refl) c.opens-on.ensures c.put_told-next.ensures c.loop-i.invariant.0, (put_length c.put_told-next.ensures ∙ c.loop-i.invariant.1), c.loop-i.invariant.2)
+    (one_less c.args.word.now c.args.text.now c.loop-i.fresh c.loop-i.on c.loop-i.i _ _ (omega arith) (to_end c.args.text.now c.loop-i.i _ refl) c.opens-on.ensures c.put_told-next.ensures c.loop-i.invariant.0, (put_length c.put_told-next.ensures ∙ c.loop-i.invariant.1))
 
 pub returns : goal.returns
 returns c =
-    none_left c.args.word.now c.args.text.now c.loop-i.fresh c.loop-i.on c.loop-i.i (omega (arith, c.loop-i-test.false, c.loop-i.invariant.2)) c.loop-i.invariant.0
+    none_left c.args.word.now c.args.text.now c.loop-i.fresh c.loop-i.on c.loop-i.i (omega arith) c.loop-i.invariant.0
