@@ -1,25 +1,17 @@
--- The loop has joined the tests of the places behind it.
-use mathlib.Core.Path.{◌∙◌, ap, sym}
-use Prim.Native.Nat.{◌-◌}
-use native.Mathlib.Omega.{arith}
-use Rattle.rule_laws.proofs.ToolLaws.{some_none}
+-- A place is found in which the block stands.
+use mathlib.Core.Path.{◌≡◌, refl}
+use Prim.Native.Nat.{ℕ}
+use mathlib.Core.Bool.{true, false}
+use borrow.Author.Rules.{rules}
+use borrow.Author.Tests.{tests}
+use Rattle.std.proofs.lemmas.Iterator.{cases_from_any, YieldsList-from_range}
 use Rattle.rulebook.specs.Inputs.{same_block}
-use Rattle.rulebook.specs.declared.Block.{Block}
-use Rattle.verdicts.proofs.Kept.{some_step, some_joined}
+use Rattle.verdicts.proofs.Kept.{place, some_kept}
 use Rattle.verdicts.proofs.keeps.Goals as goal
-
-pub loop-n-init : goal.loop-n-init
-loop-n-init c = (omega arith, sym (some_none _))
-
-pub load_block-requires : goal.load_block-requires
-load_block-requires c = record { long = c.requires.long; slot = c.requires.slot; place = omega arith }
-
-pub loop-n-preserved : goal.loop-n-preserved
-loop-n-preserved c =
-    let a = c.args in
-    let k = c.loop-n in
-    (omega arith, some_step k.n _ _ _ k.invariant.1 (c.same_block-here.ensures ∙ ap (λ (x : Block). same_block x a.b) c.load_block.ensures))
 
 pub returns : goal.returns
 returns c =
-    some_joined c.args.rec.now c.args.s.0 c.requires.slot c.loop-n.n (omega arith) (λ k. same_block k c.args.b) _ c.loop-n.invariant.1
+    let a = c.args in
+    let p = λ (i : ℕ). same_block (place a.rec.now a.s.0 c.requires.slot i) a.b in
+    some_kept a.rec.now a.s.0 c.requires.slot (λ k. same_block k a.b) _
+    (cases_from_any _ _ _ (λ i. p i ≡ true) (λ i. p i ≡ false) c.any.ensures.ran (YieldsList-from_range 0 4 4 refl refl) (λ x q k. search (rules, tests)) (λ x q k. search (rules, tests)))

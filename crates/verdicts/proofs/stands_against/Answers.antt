@@ -1,26 +1,26 @@
--- The loop has joined two tests of the places behind it: the number stands there, nothing does.
-use mathlib.Core.Path.{ap, sym}
-use Prim.Native.Nat.{◌-◌}
-use native.Mathlib.Omega.{arith}
-use Rattle.rule_laws.proofs.ToolLaws.{some_none}
+-- A place is found with the number, and one that is free.
+use mathlib.Core.Path.{◌≡◌, refl}
+use Prim.Native.Nat.{ℕ}
+use mathlib.Core.Bool.{true, false, not, ◌||◌}
+use borrow.Author.Rules.{rules}
+use borrow.Author.Tests.{tests}
+use Rattle.std.proofs.lemmas.Iterator.{cases_from_any, YieldsList-from_range}
 use Rattle.rulebook.specs.Ledger.{is_free, has_number}
-use Rattle.rulebook.specs.declared.Block.{Block}
-use Rattle.verdicts.proofs.Kept.{some_step, stands_joined}
+use Rattle.rulebook.specs.Inputs.{stands_against}
+use Rattle.verdicts.proofs.Kept.{place, some_kept}
 use Rattle.verdicts.proofs.stands_against.Goals as goal
 
-pub loop-n-init : goal.loop-n-init
-loop-n-init c = (omega arith, sym (some_none _), sym (some_none _))
-
-pub load_block-k-requires : goal.load_block-k-requires
-load_block-k-requires c = record { long = c.requires.long; slot = c.requires.slot; place = omega arith }
-
-pub loop-n-preserved : goal.loop-n-preserved
-loop-n-preserved c =
-    let a = c.args in
-    let k = c.loop-n in
-    let e = c.load_block-k.ensures in
-    (omega arith, some_step k.n _ _ _ k.invariant.1 (ap (λ (x : Block). has_number a.b.number x) e), some_step k.n _ _ _ k.invariant.2 (ap (λ (x : Block). is_free x) e))
-
 pub returns : goal.returns
+unfolding stands_against
 returns c =
-    stands_joined c.args.rec.now c.args.s.0 c.requires.slot c.loop-n.n (omega arith) c.args.b _ _ c.loop-n.invariant.1 c.loop-n.invariant.2
+    let a = c.args in
+    let at = place a.rec.now a.s.0 c.requires.slot in
+    let n = λ (i : ℕ). has_number a.b.number (at i) in
+    let f = λ (i : ℕ). is_free (at i) in
+    let named =
+    some_kept a.rec.now a.s.0 c.requires.slot (has_number a.b.number) _
+    (cases_from_any _ _ _ (λ i. n i ≡ true) (λ i. n i ≡ false) c.any-named.ensures.ran (YieldsList-from_range 0 4 4 refl refl) (λ x q k. search (rules, tests)) (λ x q k. search (rules, tests))) in
+    let free =
+    some_kept a.rec.now a.s.0 c.requires.slot (λ k. is_free k) _
+    (cases_from_any _ _ _ (λ i. f i ≡ true) (λ i. f i ≡ false) c.any-free.ensures.ran (YieldsList-from_range 0 4 4 refl refl) (λ x q k. search (rules, tests)) (λ x q k. search (rules, tests))) in
+    λ i. named i || not (free i)
