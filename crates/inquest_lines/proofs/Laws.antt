@@ -8,11 +8,13 @@ use native.Mathlib.Omega.{arith}
 use native.Mathlib.Numerals.{add-one}
 use lib.ListN.{length, length-append}
 use lib.Dec.{leb}
-use borrow.Author.Tests.{leb-true, leb-false, eq-eqb, ne_eqb}
+use borrow.Author.Tests.{le-leb, leb-true, leb-false, eq-eqb, ne_eqb}
 use Rattle.rulebook.specs.Writers.{over}
 use Rattle.rulebook.specs.Ledger.{none}
 use Rattle.rule_laws.proofs.ToolLaws.{by_test, given_on, given_off}
-use Rattle.differences.specs.Rows.{Counted}
+use denote.Ref.{MutBor}
+use Rattle.differences.specs.Rows.{OnList, Counted}
+use Rattle.differences.specs.Rows as rows
 use Rattle.differences.proofs.Rows.{Spelled, spelled_by}
 pub use Rattle.differences.proofs.Rows.{laid_none, laid_then, laid_as, laid_length}
 use Rattle.inquest.specs.declared.Line.{Line}
@@ -21,7 +23,7 @@ use Rattle.inquest.specs.Stands.{none_or}
 use Rattle.inquest.specs.Lists.{line_of, unless, lines_to}
 use Rattle.inquest_lines.specs.declared.ListRefusal.{ListRefusal}
 use Rattle.inquest_lines.specs.declared.ListRefusal.TheVariants as why
-use Rattle.inquest_lines.specs.Lent.{spell_line, spell_lines, Told, refused_by, put_in, ToldIn, Laid}
+use Rattle.inquest_lines.specs.Lent.{spell_line, spell_lines, Told, refused_by, put_in, listed_in, ToldIn, ListsLines, Laid}
 
 -- ---- one run of lines after another
 
@@ -111,3 +113,19 @@ told_counted n ws {list} {left} {r} {q} c f g =
     told_as (put_in (length list) n ws) (refused_by (Err (why.NoRoom n)))
     (given_off (leb (5 * n) (length list)) (refused_by (Err (why.NoRoom n))) (λ _. record { answer = Ok n; words = ws }) e)
     (record { answered = g n k.0; listed = k.1 ∙ sym (over_nothing list) }))
+
+-- No line has room in every list.
+pub told_nothing : (list : List ℕ) → ToldIn list (listed_in (length list) []) (Ok 0) list
+unfolding listed_in spell_lines
+told_nothing list =
+    told_as (put_in (length list) 0 []) (record { answer = Ok 0; words = [] })
+    (given_on (leb 0 (length list)) (refused_by (Err (why.NoRoom 0))) (λ _. record { answer = Ok 0; words = [] }) (le-leb 0 (length list) (omega arith)))
+    (record { answered = refl; listed = sym (over_nothing list) })
+
+-- Lines of any kind by what puts them into whatever list it is given.
+module _ {A : Type 0} {spell : List A → List ℕ} (k : Spelled spell) (xs : List A) where
+  pub all_told : {F : Type 0} (g : OnList F) (put : F) {list left : List ℕ} {r : Result ℕ ListRefusal} → ListsLines g put list r left
+      → ((x : MutBor (List ℕ)) (m : ℕ) (y : MutBor (List ℕ)) → g.post put (x, tt) (m, (y, tt)) → rows.Laid spell x.now 0 xs y.now m)
+      → ToldIn list (put_in (length list) (length xs) (spell xs)) r left
+  all_told g put w h =
+      w (length xs) (spell xs) (k.five xs) (λ x m y e. let v = h x m y e in let n : m ≡ length xs = omega (arith, v.many) in (n, v.words))

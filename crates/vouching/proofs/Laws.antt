@@ -1,7 +1,7 @@
 -- The lines of two records by what the code has read. Assumes nothing.
-use Rattle.std.specs.Prelude.{Result, Ok, Err}
+use Rattle.std.specs.Prelude.{⊤, Result, Ok, Err}
 use mathlib.Core.Path.{◌≡◌, refl, sym, ap, ◌∙◌}
-use mathlib.Core.Bool.{true, false, not}
+use mathlib.Core.Bool.{Bool, true, false, not}
 use mathlib.Core.List.{List, [], ◌++◌}
 use Prim.Native.Nat.{ℕ, zero, suc, ◌+◌, ◌*◌, ◌≤◌, ◌<◌}
 use native.Mathlib.Omega.{arith}
@@ -22,34 +22,30 @@ use Rattle.record.specs.Layout.{ledger_of}
 use Rattle.record.proofs.Reading.{ledger_shaped}
 use Rattle.soundness.specs.Sound.{sound_words}
 use Rattle.soundness.proofs.Laws.{sound_long, sound_head, sound_placed}
+use Rattle.difference_lines.specs.declared.Side.{Side}
 use Rattle.difference_lines.specs.declared.Side.TheVariants as side
 use Rattle.difference_lines.specs.Lines.{same_tables}
+use Rattle.differences.specs.Both.{both_sound}
+use Rattle.differences.specs.Lent.{Sounds, Alike}
+use Rattle.differences.proofs.Both.{side_unsound}
 use Rattle.differences.proofs.TableLaws.{alike_count}
 use Rattle.inquest.specs.declared.Line.{Line}
 use Rattle.inquest.specs.Lists.{lines_to, cell_lacks, signer_lacks, place_lacks, kept_lacks, slot_lacks, lacking}
 use Rattle.inquest_lines.specs.declared.ListRefusal.{ListRefusal}
 use Rattle.inquest_lines.specs.declared.ListRefusal.TheVariants as why
 use Rattle.inquest_lines.specs.Lent.{Laid, Told, refused_by, listed_in, ToldIn, most_lines}
-use Rattle.inquest_lines.proofs.Laws.{laid_none, laid_then, laid_as, to_most, next_last, told_as, told_refused, back_nothing}
+use Rattle.inquest_lines.proofs.Laws.{spelled, laid_none, laid_then, laid_as, to_most, next_last, told_as, told_refused, told_nothing}
 use Rattle.signer_lines.specs.declared.Signer.{Signer}
 use Rattle.signer_lines.specs.Signers.{lacks}
 use Rattle.signer_lines.proofs.Laws.{signer_lacks_lem, signer_most, cell_most}
-use Rattle.vouching.specs.Asked.{lacking_of, of_two, Firms, Comparing}
-
-pub later_kind : (n : ℕ) → (n ≡ 0 → ⊥) → (n ≡ 1 → ⊥) → (n ≡ 2 → ⊥) → (n ≡ 3 → ⊥) → certificate.NotarFallback ≡ place_kind n
-unfolding place_kind
-later_kind zero a b c d = absurd (a refl)
-later_kind (suc zero) a b c d = absurd (b refl)
-later_kind (suc (suc zero)) a b c d = absurd (c refl)
-later_kind (suc (suc (suc zero))) a b c d = absurd (d refl)
-later_kind (suc (suc (suc (suc n)))) a b c d = refl
+use Rattle.vouching.specs.Asked.{lacking_of, of_two, comparable_on, Firms, Comparing}
 
 -- ---- a place
 
 module _ (s m : ℕ) (d : Cell) (n : ℕ) (q : Kept) {list : List ℕ} {at : ℕ} where
   pub place_none : is_kept q ≡ false → Laid list at (place_lacks s m d n q) list at
   unfolding place_lacks
-  place_none e = laid_as (sym (given_off (is_kept q) [] (λ _. signer_lacks (place_kind n) (kept_in s q) m d) e)) (laid_none list at)
+  place_none e = laid_as (sym (given_off (is_kept q) [] (λ _. signer_lacks (place_kind n) (kept_in s q) m d) e)) (laid_none spelled list at)
 
   pub place_put : {left : List ℕ} {next : ℕ} (x : Signer) → is_kept q ≡ true → x.kind ≡ place_kind n → x.slot.0 ≡ s → x.node.0 ≡ m → x.block ≡ q.block
       → x.a ≡ bit q.maska m → x.b ≡ bit q.maskb m → Laid list at (lacks x d) left next → Laid list at (place_lacks s m d n q) left next
@@ -96,7 +92,7 @@ module _ (l r : Ledger) (s : ℕ) where
   unfolding slot_lacks
   slot_put m c d em ec ed p q =
       laid_as ((λ i. cell_lacks s m (ec i) (ed i) ++ kept_lacks s m (ed i) (certificates_at l s))
-      ∙ (λ i. cell_lacks s (em i) (cell_at l s (em i)) (own_cell r s) ++ kept_lacks s (em i) (own_cell r s) (certificates_at l s))) (laid_then p q)
+      ∙ (λ i. cell_lacks s (em i) (cell_at l s (em i)) (own_cell r s) ++ kept_lacks s (em i) (own_cell r s) (certificates_at l s))) (laid_then spelled p q)
 
   pub slot_most : length (certificates_at l s) ≡ most_certificates → length (slot_lacks l r s) ≤ 33
   unfolding slot_lacks
@@ -146,40 +142,71 @@ module _ {one two : List ℕ} (f : Firms one two) where
 
 -- ---- the call
 
--- Each way out of what is told of two records.
+-- What is told of two records, by three tests, each with its refusal.
+refused_of : (a b c : Bool) (told : Unit {0} → Told) (e : ListRefusal)
+    → whenever a (λ _. whenever b (λ _. whenever c (λ _. Ok (tt {0})) (Err (why.Refused refusal.BadSizes))) (Err (why.BadRecord side.Second))) (Err (why.BadRecord side.First)) ≡ Err e
+    → whenever a (λ _. whenever b (λ _. whenever c told (refused_by (Err (why.Refused refusal.BadSizes)))) (refused_by (Err (why.BadRecord side.Second)))) (refused_by (Err (why.BadRecord side.First)))
+    ≡ refused_by (Err e)
+unfolding whenever
+refused_of true true true told e q = let z : ◌≡◌ {A = ℕ} 0 1 = cc in absurd (omega arith)
+refused_of true true false told e q = let d : why.Refused refusal.BadSizes ≡ e = cc in ap (λ (x : ListRefusal). refused_by (Err x)) d
+refused_of true false c told e q = let d : why.BadRecord side.Second ≡ e = cc in ap (λ (x : ListRefusal). refused_by (Err x)) d
+refused_of false b c told e q = let d : why.BadRecord side.First ≡ e = cc in ap (λ (x : ListRefusal). refused_by (Err x)) d
+
+fine_of : (a b c : Bool) → whenever a (λ _. whenever b (λ _. whenever c (λ _. Ok (tt {0})) (Err (why.Refused refusal.BadSizes))) (Err (why.BadRecord side.Second))) (Err (why.BadRecord side.First)) ≡ Ok (tt {0})
+    → (a ≡ true) × (b ≡ true) × (c ≡ true)
+unfolding whenever
+fine_of true true true q = (refl, refl, refl)
+fine_of true true false q = let z : ◌≡◌ {A = ℕ} 0 1 = cc in absurd (omega arith)
+fine_of true false c q = let z : ◌≡◌ {A = ℕ} 0 1 = cc in absurd (omega arith)
+fine_of false b c q = let z : ◌≡◌ {A = ℕ} 0 1 = cc in absurd (omega arith)
+
+module _ (one two : List ℕ) where
+  -- Two records that can be compared.
+  pub comparable_fine : comparable_on one two ≡ Ok tt → Alike one two
+  unfolding comparable_on
+  comparable_fine q =
+      let k = fine_of (sound_words one) (sound_words two) (same_tables (ledger_of one) (ledger_of two)) q in
+      record { sounds = record { first = k.0; second = k.1 }; same = k.2 }
+
+  -- 17 of the side that the test of both names.
+  pub comparable_side : {r : Result ⊤ Side} {q : Result ⊤ ListRefusal} → r ≡ both_sound one two → (r ≡ Ok tt → ⊥) → ((x : Side) → r ≡ Err x → q ≡ Err (why.BadRecord x)) → q ≡ comparable_on one two
+  unfolding comparable_on
+  comparable_side {r = Ok u} {q = q} e n f = absurd (n refl)
+  comparable_side {r = Err x} {q = q} e n f =
+      let rest : Unit {0} → Result ⊤ ListRefusal = λ _. whenever (same_tables (ledger_of one) (ledger_of two)) (λ _. Ok tt) (Err (why.Refused refusal.BadSizes)) in
+      f x refl
+      ∙ side_unsound one two (λ s. ◌≡◌ {A = Result ⊤ ListRefusal} (Err (why.BadRecord s)) (whenever (sound_words one) (λ _. whenever (sound_words two) rest (Err (why.BadRecord side.Second))) (Err (why.BadRecord side.First)))) x (sym e)
+      (λ d. sym (given_off (sound_words one) (Err (why.BadRecord side.First)) _ d))
+      (λ d h. sym (given_on (sound_words one) (Err (why.BadRecord side.First)) _ d ∙ given_off (sound_words two) (Err (why.BadRecord side.Second)) rest h))
+
+  module _ (k : Sounds one two) where
+    onward : comparable_on one two ≡ whenever (same_tables (ledger_of one) (ledger_of two)) (λ _. Ok tt) (Err (why.Refused refusal.BadSizes))
+    unfolding comparable_on
+    onward =
+        given_on (sound_words one) (Err (why.BadRecord side.First)) _ k.first ∙ given_on (sound_words two) (Err (why.BadRecord side.Second)) _ k.second
+
+    -- 1.
+    pub comparable_not : same_tables (ledger_of one) (ledger_of two) ≡ false → Err (why.Refused refusal.BadSizes) ≡ comparable_on one two
+    comparable_not h = sym (onward ∙ given_off (same_tables (ledger_of one) (ledger_of two)) (Err (why.Refused refusal.BadSizes)) (λ _. Ok tt) h)
+
+    pub comparable_yes : same_tables (ledger_of one) (ledger_of two) ≡ true → Ok tt ≡ comparable_on one two
+    comparable_yes h = sym (onward ∙ given_on (same_tables (ledger_of one) (ledger_of two)) (Err (why.Refused refusal.BadSizes)) (λ _. Ok tt) h)
+
+-- Each way out of what is told of them.
 module _ (one two list : List ℕ) (told : Unit {0} → Told) where
-  abbrev tables : Unit {0} → Told
-  tables _ = whenever (same_tables (ledger_of one) (ledger_of two)) told (refused_by (Err (why.Refused refusal.BadSizes)))
+  -- Their refusal is that of the question.
+  pub two_refused : (e : ListRefusal) → comparable_on one two ≡ Err e → ToldIn list (of_two one two told) (Err e) list
+  unfolding comparable_on
+  two_refused e q =
+      told_as (of_two one two told) (refused_by (Err e)) (refused_of (sound_words one) (sound_words two) (same_tables (ledger_of one) (ledger_of two)) told e q)
+      (told_refused list (Err e))
 
-  abbrev second : Unit {0} → Told
-  second _ = whenever (sound_words two) tables (refused_by (Err (why.BadRecord side.Second)))
-
-  pub first_bad : sound_words one ≡ false → ToldIn list (of_two one two told) (Err (why.BadRecord side.First)) list
-  first_bad e =
-      told_as (of_two one two told) (refused_by (Err (why.BadRecord side.First))) (given_off (sound_words one) (refused_by (Err (why.BadRecord side.First))) second e)
-      (told_refused list (Err (why.BadRecord side.First)))
-
-  module _ (a : sound_words one ≡ true) where
-    onward : of_two one two told ≡ second tt
-    onward = given_on (sound_words one) (refused_by (Err (why.BadRecord side.First))) second a
-
-    pub second_bad : sound_words two ≡ false → ToldIn list (of_two one two told) (Err (why.BadRecord side.Second)) list
-    second_bad e =
-        told_as (of_two one two told) (refused_by (Err (why.BadRecord side.Second))) (onward ∙ given_off (sound_words two) (refused_by (Err (why.BadRecord side.Second))) tables e)
-        (told_refused list (Err (why.BadRecord side.Second)))
-
-    module _ (b : sound_words two ≡ true) where
-      further : of_two one two told ≡ tables tt
-      further = onward ∙ given_on (sound_words two) (refused_by (Err (why.BadRecord side.Second))) tables b
-
-      pub tables_differ : same_tables (ledger_of one) (ledger_of two) ≡ false → ToldIn list (of_two one two told) (Err (why.Refused refusal.BadSizes)) list
-      tables_differ e =
-          told_as (of_two one two told) (refused_by (Err (why.Refused refusal.BadSizes)))
-          (further ∙ given_off (same_tables (ledger_of one) (ledger_of two)) (refused_by (Err (why.Refused refusal.BadSizes))) told e) (told_refused list (Err (why.Refused refusal.BadSizes)))
-
-      pub both_told : {r : Result ℕ ListRefusal} {left : List ℕ} → same_tables (ledger_of one) (ledger_of two) ≡ true → ToldIn list (told tt) r left → ToldIn list (of_two one two told) r left
-      both_told e w =
-          told_as (of_two one two told) (told tt) (further ∙ given_on (same_tables (ledger_of one) (ledger_of two)) (refused_by (Err (why.Refused refusal.BadSizes))) told e) w
+  pub two_told : {r : Result ℕ ListRefusal} {left : List ℕ} → Alike one two → ToldIn list (told tt) r left → ToldIn list (of_two one two told) r left
+  two_told k w =
+      told_as (of_two one two told) (told tt)
+      (given_on (sound_words one) (refused_by (Err (why.BadRecord side.First))) _ k.sounds.first ∙ given_on (sound_words two) (refused_by (Err (why.BadRecord side.Second))) _ k.sounds.second
+      ∙ given_on (same_tables (ledger_of one) (ledger_of two)) (refused_by (Err (why.Refused refusal.BadSizes))) told k.same) w
 
 -- The lines of the second's firm; a watcher has none.
 module _ (one two list : List ℕ) where
@@ -191,7 +218,7 @@ module _ (one two list : List ℕ) where
   watcher_told e =
       told_as (asked tt) (listed_in (length list) [])
       (ap (listed_in (length list)) (given_off (not (is_watcher (ledger_of two))) [] (λ _. lacking (ledger_of one) (ledger_of two)) (ap not e)))
-      (back_nothing list [] [] refl (laid_none [] 0) refl)
+      (told_nothing list)
 
   pub firm_told : {r : Result ℕ ListRefusal} {left : List ℕ} → is_watcher (ledger_of two) ≡ false → ToldIn list (listed_in (length list) (lacking (ledger_of one) (ledger_of two))) r left → ToldIn list (asked tt) r left
   unfolding lacking_of

@@ -1,5 +1,5 @@
 -- What is answered about two lent records, and the lent list afterwards.
-use Rattle.std.specs.Prelude.{◌≡◌, false, not, List, [], ℕ, ◌+◌, ◌≤◌, ◌<◌, length, Result, Err}
+use Rattle.std.specs.Prelude.{◌≡◌, false, not, List, [], ℕ, ◌+◌, ◌≤◌, ◌<◌, length, ⊤, Result, Ok, Err}
 use Rattle.rulebook.specs.declared.Refusal.TheVariants as refusal
 use Rattle.rulebook.specs.Tools.{whenever}
 use Rattle.rulebook.specs.Ledger.{Ledger, places, is_watcher}
@@ -27,6 +27,15 @@ of_two one two told =
     (λ _. whenever (same_tables (ledger_of one) (ledger_of two)) told (refused_by (Err (why.Refused refusal.BadSizes))))
     (refused_by (Err (why.BadRecord side.Second))))
     (refused_by (Err (why.BadRecord side.First)))
+
+-- The refusals alone.
+unfoldable pub comparable_on : List ℕ → List ℕ → Result ⊤ ListRefusal
+comparable_on one two =
+    whenever (sound_words one)
+    (λ _. whenever (sound_words two)
+    (λ _. whenever (same_tables (ledger_of one) (ledger_of two)) (λ _. Ok tt) (Err (why.Refused refusal.BadSizes)))
+    (Err (why.BadRecord side.Second)))
+    (Err (why.BadRecord side.First))
 
 -- The lines, or 9 with how many there are.
 unfoldable pub vouched_on : List ℕ → List ℕ → ℕ → Told

@@ -3,43 +3,18 @@
 
 ghost use Rattle.std.specs.Prelude.{◌≡◌, length};
 ghost use Rattle.rulebook.specs.Ledger.{certificates_at};
-ghost use Rattle.rulebook.specs.Pool.{place_kind};
 ghost use Rattle.record.specs.Layout.{ledger_of};
 ghost use Rattle.kept_certificates.specs.Kept.{place_at};
 ghost use Rattle.inquest.specs.Lists.{place_lacks, kept_lacks, slot_lacks, lacking};
 ghost use Rattle.inquest_lines.specs.Lent.{Laid, ToldIn, listed_in};
-ghost use Rattle.vouching.specs.Asked.{AtPlace, InPlaces, Comparing, Firms, VouchedOf};
+ghost use Rattle.vouching.specs.Asked.{AtPlace, InPlaces, Comparing, Firms, comparable_on, VouchedOf};
 
-use difference_lines::Side;
-use differences::same_tables;
-use inquest_lines::ListRefusal;
-use kept_certificates::{block_at, is_kept, mask_a, mask_b};
+use differences::{both_sound, same_tables};
+use inquest_lines::{ListRefusal, list_lines};
+use kept_certificates::{block_at, is_kept, mask_a, mask_b, place_kind};
 use record::{LAST_SLOT, MOST_CERTIFICATES, is_watcher, load_cell, own, own_cell};
-use rulebook::{Cell, CertificateKind, Node, Refusal, Slot};
+use rulebook::{Cell, Node, Refusal, Slot};
 use signer_lines::{Signer, names, put_cell, put_signer};
-use soundness::sound;
-
-// How many words a line has.
-const LINE_WORDS: usize = 5;
-
-// The kind of one of a slot's places: 1, 2, 4, 5, then 3.
-fn place_kind(n: usize) -> CertificateKind
-    ensures { result ≡ place_kind n }
-{
-    if n == 0 {
-        return CertificateKind::FastFinal;
-    }
-    if n == 1 {
-        return CertificateKind::Notar;
-    }
-    if n == 2 {
-        return CertificateKind::Skip;
-    }
-    if n == 3 {
-        return CertificateKind::Final;
-    }
-    CertificateKind::NotarFallback
-}
 
 // Puts the lines of what one of a slot's places counts firm m for and the cell lacks.
 fn put_place(list: &mut [u64], at: usize, rec: &[u64], s: Slot, n: usize, m: Node, d: Cell) -> usize
@@ -101,14 +76,18 @@ fn list_lacking(list: &mut [u64], one: &[u64], two: &[u64]) -> Result<usize, Lis
     requires { Firms one.now two.now }
     ensures { ToldIn list.old (listed_in (length list.old) (lacking (ledger_of one.now) (ledger_of two.now))) result list.new }
 {
-    let needed = put_slots(&mut list[0..0], one, two);
-    if list.len() < LINE_WORDS * needed {
-        return Err(ListRefusal::NoRoom(needed));
+    list_lines(list, |part| put_slots(part, one, two))
+}
+
+// Whether two records can be compared: 17 with the side, then 1 where the stake tables differ.
+pub fn comparable(one: &[u64], two: &[u64]) -> Result<(), ListRefusal>
+    ensures { result ≡ comparable_on one.now two.now }
+{
+    both_sound(one, two).map_err(ListRefusal::BadRecord)?;
+    if !same_tables(one, two) {
+        return Err(ListRefusal::Refused(Refusal::BadSizes));
     }
-    if needed == 0 {
-        return Ok(0);
-    }
-    Ok(put_slots(list, one, two))
+    Ok(())
 }
 
 // Which votes the first record counts in the name of the second's firm and the second record lacks, as lines from the list's front; a
@@ -117,15 +96,7 @@ fn list_lacking(list: &mut [u64], one: &[u64], two: &[u64]) -> Result<usize, Lis
 pub fn vouched(one: &[u64], two: &[u64], list: &mut [u64]) -> Result<usize, ListRefusal>
     ensures { VouchedOf one.now two.now list.old result list.new }
 {
-    if !sound(one) {
-        return Err(ListRefusal::BadRecord(Side::First));
-    }
-    if !sound(two) {
-        return Err(ListRefusal::BadRecord(Side::Second));
-    }
-    if !same_tables(one, two) {
-        return Err(ListRefusal::Refused(Refusal::BadSizes));
-    }
+    comparable(one, two)?;
     if is_watcher(two) {
         return Ok(0);
     }

@@ -1,55 +1,38 @@
--- Each way out: 17 of either side, other tables, a watcher, the lines.
-use mathlib.Core.Bool.{true}
+-- Each way out: a refusal of the two records, a watcher, the lines.
+use Rattle.std.specs.Prelude.{◌≡◌, Result, Err}
+use Rattle.std.proofs.Common.{rules, subst}
 use mathlib.Core.Path.{◌∙◌, sym}
+use Prim.Native.Nat.{ℕ}
 use Rattle.soundness.proofs.Laws.{sound_long}
-use Rattle.differences.specs.Lent.{Sounds, Alike}
-use Rattle.vouching.specs.Asked.{vouched_on}
-use Rattle.vouching.proofs.Laws.{first_bad, second_bad, tables_differ, both_told, asked, watcher_told, firm_told}
+use Rattle.inquest_lines.specs.declared.ListRefusal.{ListRefusal}
+use Rattle.vouching.specs.Asked.{vouched_on, VouchedOf}
+use Rattle.vouching.proofs.Laws.{comparable_fine, two_refused, two_told, asked, watcher_told, firm_told}
 use Rattle.vouching.proofs.vouched.Goals as goal
 
-pub returns-then-not-sound : goal.returns-then-not-sound
+pub returns-in_err-comparable : goal.returns-in_err-comparable
 unfolding vouched_on
-returns-then-not-sound c =
-    let a = c.args in first_bad a.one.now a.two.now a.list.now (asked a.one.now a.two.now a.list.now) (sym c.sound.ensures ∙ c.if-not-sound.true)
-
-pub returns-then-not-sound-2 : goal.returns-then-not-sound-2
-unfolding vouched_on
-returns-then-not-sound-2 c =
+returns-in_err-comparable c =
     let a = c.args in
-    second_bad a.one.now a.two.now a.list.now (asked a.one.now a.two.now a.list.now) ((sym c.sound.ensures ∙ c.if-not-sound.false)) (sym c.sound-2.ensures ∙ c.if-not-sound-2.true)
-
-pub same_tables-requires : goal.same_tables-requires
-same_tables-requires c =
-    (record { first = (sym c.sound.ensures ∙ c.if-not-sound.false); second = sym c.sound-2.ensures ∙ c.if-not-sound-2.false })
-
-pub returns-then-not-same_tables : goal.returns-then-not-same_tables
-unfolding vouched_on
-returns-then-not-same_tables c =
-    let a = c.args in
-    let s : Sounds c.args.one.now c.args.two.now = record { first = (sym c.sound.ensures ∙ c.if-not-sound.false); second = sym c.sound-2.ensures ∙ c.if-not-sound-2.false } in
-    tables_differ a.one.now a.two.now a.list.now (asked a.one.now a.two.now a.list.now) s.first s.second (sym c.same_tables.ensures ∙ c.if-not-same_tables.true)
+    let e : c.from_residual.result ≡ Err c.in_err-comparable.field-0.0 = search rules in
+    rw e (two_refused a.one.now a.two.now a.list.now (asked a.one.now a.two.now a.list.now) _ (sym c.comparable.ensures ∙ c.in_err-comparable.was))
 
 pub is_watcher-requires : goal.is_watcher-requires
-is_watcher-requires c =
-    let s : Alike c.args.one.now c.args.two.now = record { sounds = (record { first = (sym c.sound.ensures ∙ c.if-not-sound.false); second = sym c.sound-2.ensures ∙ c.if-not-sound-2.false }); same = sym c.same_tables.ensures ∙ c.if-not-same_tables.false } in
-    sound_long _ s.sounds.second
+is_watcher-requires c = sound_long _ (comparable_fine _ _ (sym c.comparable.ensures ∙ c.in_ok-comparable.was)).sounds.second
 
 pub returns-then-is_watcher : goal.returns-then-is_watcher
 unfolding vouched_on
 returns-then-is_watcher c =
     let a = c.args in
-    let s : Alike c.args.one.now c.args.two.now = record { sounds = (record { first = (sym c.sound.ensures ∙ c.if-not-sound.false); second = sym c.sound-2.ensures ∙ c.if-not-sound-2.false }); same = sym c.same_tables.ensures ∙ c.if-not-same_tables.false } in
-    both_told a.one.now a.two.now a.list.now (asked a.one.now a.two.now a.list.now) s.sounds.first s.sounds.second s.same
+    two_told a.one.now a.two.now a.list.now (asked a.one.now a.two.now a.list.now) (comparable_fine _ _ (sym c.comparable.ensures ∙ c.in_ok-comparable.was))
     (watcher_told a.one.now a.two.now a.list.now (sym c.is_watcher.ensures ∙ c.if-is_watcher.true))
 
 pub list_lacking-requires : goal.list_lacking-requires
 list_lacking-requires c =
-    record { alike = (record { sounds = (record { first = (sym c.sound.ensures ∙ c.if-not-sound.false); second = sym c.sound-2.ensures ∙ c.if-not-sound-2.false }); same = sym c.same_tables.ensures ∙ c.if-not-same_tables.false }); firm = sym c.is_watcher.ensures ∙ c.if-is_watcher.false }
+    record { alike = comparable_fine _ _ (sym c.comparable.ensures ∙ c.in_ok-comparable.was); firm = sym c.is_watcher.ensures ∙ c.if-is_watcher.false }
 
 pub returns : goal.returns
 unfolding vouched_on
 returns c =
     let a = c.args in
-    let s : Alike c.args.one.now c.args.two.now = record { sounds = (record { first = (sym c.sound.ensures ∙ c.if-not-sound.false); second = sym c.sound-2.ensures ∙ c.if-not-sound-2.false }); same = sym c.same_tables.ensures ∙ c.if-not-same_tables.false } in
-    both_told a.one.now a.two.now a.list.now (asked a.one.now a.two.now a.list.now) s.sounds.first s.sounds.second s.same
+    two_told a.one.now a.two.now a.list.now (asked a.one.now a.two.now a.list.now) (comparable_fine _ _ (sym c.comparable.ensures ∙ c.in_ok-comparable.was))
     (firm_told a.one.now a.two.now a.list.now (sym c.is_watcher.ensures ∙ c.if-is_watcher.false) c.list_lacking.ensures)
