@@ -1,8 +1,8 @@
 -- Reading back on a node's words and lent bytes. Assumes nothing.
 use Rattle.std.specs.Prelude.{⊤, Result, Ok, Err}
-use mathlib.Core.Path.{◌≡◌, refl, sym, ap, ◌∙◌}
-use mathlib.Core.Bool.{Bool, true, false}
-use mathlib.Core.List.{List, [], ◌++◌}
+use mathlib.Core.Path.{◌≡◌, sym, ap, ◌∙◌}
+use mathlib.Core.Bool.{true}
+use mathlib.Core.List.{List}
 use Prim.Native.Nat.{ℕ, ◌-◌, ◌^◌, ◌≤◌, ◌<◌}
 use native.Mathlib.Omega.{arith}
 use lib.ListN.{length, take, drop, length-append}
@@ -10,7 +10,6 @@ use lib.Seq.{take-append_seam}
 use Rattle.rulebook.specs.declared.Accepted.{Accepted}
 use Rattle.rulebook.specs.declared.CertificateKind.{CertificateKind}
 use Rattle.rulebook.specs.declared.Refusal.{Refusal}
-use Rattle.rulebook.specs.Ledger.{Ledger}
 use Rattle.rulebook.specs.Packets.{certificate_bytes}
 use Rattle.rulebook.specs.Checker.{check_certificate, check_proof}
 use Rattle.rulebook.specs.Writers.{Wrote, certificate_for, wrote_on, certificate_verdict, write_certificate, proof_verdict, proof_bytes, write_proof, over, Writes}

@@ -1,6 +1,7 @@
 -- What the certificate writer lays is a packet that the checker accepts.
-use mathlib.Core.Path.{sym, refl, ◌∙◌}
-use Prim.Native.Nat.{◌-◌}
+use Rattle.std.specs.Prelude.{Err}
+use Rattle.std.proofs.Common.{rules}
+use mathlib.Core.Path.{◌≡◌, sym, refl, ◌∙◌}
 use lib.ListN.{length}
 use Rattle.soundness.proofs.Laws.{sound_counted}
 use Rattle.readback.proofs.Words.{certificate_sound, certificate_inside, certificate_back, refused_back}
@@ -8,15 +9,17 @@ use Rattle.readback.proofs.certificate_read_back.Goals as goal
 
 pub stakes_of-requires : goal.stakes_of-requires
 stakes_of-requires c =
-    sound_counted c.args.rec.now (certificate_sound c.args.rec.now (length c.args.buffer.now) c.args.kind c.args.slot.0 c.args.block _ (sym c.write_certificate-w.ensures.answered ∙ c.in-Ok.is))
+    sound_counted c.args.rec.now (certificate_sound c.args.rec.now (length c.args.buffer.now) c.args.kind c.args.slot.0 c.args.block _ (sym c.write_certificate.ensures.answered ∙ c.in_ok-n.was))
 
 pub slice_bounds-check_certificate-end : goal.slice_bounds-check_certificate-end
 slice_bounds-check_certificate-end c =
-    certificate_inside c.args.rec.now c.args.buffer.now c.args.kind c.args.slot.0 c.args.block _ c.write_certificate-w.ensures c.in-Ok.is
+    certificate_inside c.args.rec.now c.args.buffer.now c.args.kind c.args.slot.0 c.args.block _ c.write_certificate.ensures c.in_ok-n.was
 
-pub returns-in-Err : goal.returns-in-Err
-returns-in-Err c = refused_back _ _ c.write_certificate-w.ensures c.in-Err.is
+pub returns-in_err-n : goal.returns-in_err-n
+returns-in_err-n c =
+    let e : c.from_residual.result ≡ Err c.in_err-n.field-0.0 = search rules in
+    rw e (refused_back _ _ c.write_certificate.ensures c.in_err-n.was)
 
-pub returns-in-Ok : goal.returns-in-Ok
-returns-in-Ok c =
-    certificate_back c.args.rec.now c.args.buffer.now c.args.kind c.args.slot.0 c.args.block _ c.ranges.block.fits c.write_certificate-w.ensures c.in-Ok.is c.stakes_of.ensures refl c.check_certificate.ensures
+pub returns : goal.returns
+returns c =
+    certificate_back c.args.rec.now c.args.buffer.now c.args.kind c.args.slot.0 c.args.block _ c.ranges.block.fits c.write_certificate.ensures c.in_ok-n.was c.stakes_of.ensures refl c.check_certificate.ensures
