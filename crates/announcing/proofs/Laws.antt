@@ -59,14 +59,6 @@ module _ (l : Ledger) (s : ℕ) (b : Block) (fine : block_verdict l s b ≡ Ok t
   unfolding may_announce
   fine_due = ap (λ (x : Bool). all_blocks is_free (blocks_at l s) || (x || fallback_weights l s b.number)) (sym fine_new)
 
--- Either way of it.
-module _ (l : Ledger) (s b : ℕ) where
-  pub due_first : all_blocks is_free (blocks_at l s) ≡ true → true ≡ (all_blocks is_free (blocks_at l s) || fallback_weights l s b)
-  due_first e = sym (ap (λ (x : Bool). x || fallback_weights l s b) e)
-
-  pub due_weights : all_blocks is_free (blocks_at l s) ≡ false → fallback_weights l s b ≡ (all_blocks is_free (blocks_at l s) || fallback_weights l s b)
-  due_weights e = sym (ap (λ (x : Bool). x || fallback_weights l s b) e)
-
 -- ---- the ways through the question
 
 module _ (ws : List ℕ) (s : ℕ) (b : Block) where

@@ -5,7 +5,7 @@ use Rattle.rulebook.specs.declared.Refusal.TheVariants as refusal
 use Rattle.rulebook.specs.Tools.{whenever, part}
 use Rattle.rulebook.specs.Ledger.{Ledger}
 use Rattle.rulebook.specs.Inputs.{block_verdict}
-use Rattle.rulebook.specs.PaperNumbers.{Panel, refusal_number, panel_of}
+use Rattle.rulebook.specs.PaperNumbers.{Panel, panel_of}
 use Rattle.record.specs.Layout.{ledger_of}
 use Rattle.soundness.specs.Sound.{sound_words}
 use Rattle.mail.specs.Policy.{may_announce}

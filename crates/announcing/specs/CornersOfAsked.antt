@@ -40,7 +40,7 @@ may_told : (ws : List ℕ) → sound_words ws ≡ true → ledger_of ws ≡ kept
     (((0 ∷ 1 ∷ []) ∷ (0 ∷ 0 ∷ []) ∷ (7 ∷ 0 ∷ []) ∷ [])
     ++ (((7 ∷ 0 ∷ []) ∷ (8 ∷ 0 ∷ []) ∷ (8 ∷ 0 ∷ []) ∷ []) ++ (((0 ∷ 1 ∷ []) ∷ (0 ∷ 0 ∷ []) ∷ []) ++ ((0 ∷ 1 ∷ []) ∷ [])))))
 unfolding rules may_announce judged announced_on announce_panel
-may_told ws sound holds = simp (sound, holds) tt
+may_told ws sound holds = rw (sound, holds, holds) tt
 
 -- 3 before 5, 5 before 11, 11 before 7 and 8.
 may_refused : (ws : List ℕ) → sound_words ws ≡ true → ledger_of ws ≡ kept

@@ -20,12 +20,7 @@ fn keeps_none(rec: &[u64], s: Slot) -> bool
     requires { InSlot rec.now s.0 }
     ensures { result ≡ all_blocks is_free (blocks_at (ledger_of rec.now) s.0) }
 {
-    let mut ok = true;
-    for n in 0..MOST_BLOCKS {
-        let k = load_block(rec, s, n);
-        ok = ok & (k.number == 0);
-    }
-    ok
+    (0..MOST_BLOCKS).all(|n| load_block(rec, s, n).number == 0)
 }
 
 // The slot's first block, or a further one with rule D's weights.
@@ -33,10 +28,7 @@ fn is_due(rec: &[u64], s: Slot, b: u64) -> bool
     requires { Carded rec.now s.0 }
     ensures { result ≡ (all_blocks is_free (blocks_at (ledger_of rec.now) s.0) || fallback_weights (ledger_of rec.now) s.0 b) }
 {
-    if keeps_none(rec, s) {
-        return true;
-    }
-    fallback_weights(rec, s, b)
+    keeps_none(rec, s) || fallback_weights(rec, s, b)
 }
 
 // Whether announcing block b in slot s is right now: 17, then 3, 5, 11, 7 and 8 as for the block itself.
@@ -46,9 +38,6 @@ pub fn may_announce(rec: &[u64], s: Slot, b: Block) -> Result<bool, Refusal>
     if !sound(rec) {
         return Err(Refusal::BadRecord);
     }
-    let verdict = block_verdict(rec, s, b);
-    match verdict {
-        Err(r) => Err(r),
-        Ok(()) => Ok(is_due(rec, s, b.number)),
-    }
+    block_verdict(rec, s, b)?;
+    Ok(is_due(rec, s, b.number))
 }
