@@ -31,10 +31,7 @@ pub fn take_in(rec: &mut [u64], outbox: &mut [u64], input: Input) -> usize
 {
     match input {
         Input::Vote(v) => {
-            let kind = v.kind;
-            let slot = v.slot;
-            let node = v.node;
-            store_vote(rec, slot, node, kind, v.block);
+            store_vote(rec, v.slot, v.node, v.kind, v.block);
             0
         }
         Input::Block(s, b) => {
