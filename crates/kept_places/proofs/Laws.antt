@@ -1,15 +1,16 @@
 -- The first place that is looked for, and what it says: of room, of a repeat, of a certificate that serves; the kinds of the places.
 -- Assumes nothing.
-use mathlib.Core.Path.{◌≡◌, refl, sym, ap, ap₂, ◌∙◌, subst}
-use mathlib.Core.Bool.{Bool, true, false, not, ◌&&◌, ◌||◌, true≢false}
+use mathlib.Core.Path.{◌≡◌, refl, sym, ap, ap₂, ◌∙◌}
+use mathlib.Core.Bool.{Bool, true, false, ◌&&◌, ◌||◌, true≢false}
 use mathlib.Core.List.{List, [], ◌∷◌}
 use mathlib.Core.Logic.{◌⊎◌, inl, inr, ⊎_elim}
 use Prim.Native.Nat.{ℕ, zero, suc, ◌+◌, ◌<◌, ◌≤◌}
 use native.Mathlib.Omega.{arith}
-use native.Mathlib.Nat.{eq-or-lt_of_le}
 use lib.ListN.{length, get_or, set}
 use lib.Seq.{set-get_or, set_out}
 use lib.Dec.{eqb, leb, ltb}
+use Rattle.std.proofs.Common.{Option, Some, None, le-ltb}
+use Rattle.std.specs.Option.{MatchOption, IfSome, is_some, unwrap_or}
 use borrow.Author.Tests.{ltb-true, ltb-false, lt-ltb, le-leb, lt-leb, ne_eqb}
 use Rattle.rulebook.specs.declared.CertificateKind.{CertificateKind}
 use Rattle.rulebook.specs.declared.CertificateKind.TheVariants as certificate
@@ -33,14 +34,6 @@ both_ways true false = refl
 both_ways false true = refl
 both_ways false false = refl
 
-not_true : (b : Bool) → not b ≡ true → b ≡ false
-not_true true e = absurd (true≢false (sym e))
-not_true false e = refl
-
-not_false : (b : Bool) → not b ≡ false → b ≡ true
-not_false true e = refl
-not_false false e = absurd (true≢false e)
-
 sought_in_turn : (t : Sought) (i : ℕ) (q : Kept) → seeks t i q ≡ (suits t i q && wants t (is_kept q))
 unfolding seeks suits wants
 sought_in_turn (sought.Room k) i q = refl
@@ -51,11 +44,11 @@ module _ (t : Sought) (i : ℕ) (q : Kept) (b : Bool) (e : b ≡ suits t i q) wh
   by_suits : (x : Bool) → b ≡ x → seeks t i q ≡ (x && wants t (is_kept q))
   by_suits x f = sought_in_turn t i q ∙ ap (λ (y : Bool). y && wants t (is_kept q)) (sym e ∙ f)
 
-  pub sought_not : not b ≡ true → false ≡ seeks t i q
-  sought_not f = sym (by_suits false (not_true b f))
+  pub sought_not : b ≡ false → b ≡ seeks t i q
+  sought_not f = f ∙ sym (by_suits false f)
 
-  pub sought_wanted : (k w : Bool) → not b ≡ false → k ≡ is_kept q → w ≡ wants t k → w ≡ seeks t i q
-  sought_wanted k w f g h = h ∙ ap (wants t) g ∙ sym (by_suits true (not_false b f))
+  pub sought_wanted : (k w : Bool) → b ≡ true → k ≡ is_kept q → w ≡ wants t k → w ≡ seeks t i q
+  sought_wanted k w f g h = h ∙ ap (wants t) g ∙ sym (by_suits true f)
 
 -- ---- the kinds of the places
 
@@ -115,13 +108,16 @@ pub other_serves : (n : ℕ) → (false) ≡ serves_as (place_kind n) certificat
 unfolding place_kind serves_as same_kind certificate_number
 other_serves = by_place (λ n. (false) ≡ serves_as (place_kind n) certificate.Other) refl refl refl refl (λ n. refl)
 
--- ---- the first place
+-- A kind but for these two is served by its own places alone.
+pub alone_serves : (n : ℕ) (k : CertificateKind) → (k ≡ certificate.Notar → ⊥) → (k ≡ certificate.NotarFallback → ⊥) → same_kind (place_kind n) k ≡ serves_as (place_kind n) k
+alone_serves n certificate.FastFinal a b = sym (fast_place n) ∙ fast_serves n
+alone_serves n certificate.Notar a b = absurd (a refl)
+alone_serves n certificate.NotarFallback a b = absurd (b refl)
+alone_serves n certificate.Skip a b = sym (skip_place n) ∙ skip_serves n
+alone_serves n certificate.Final a b = sym (final_place n) ∙ final_serves n
+alone_serves n certificate.Other a b = sym (other_place n) ∙ other_serves n
 
--- A loop that looks for a place of which a test holds: it holds of none behind it.
-pub none_more : (p : ℕ → Kept → Bool) (qs : List Kept) (n : ℕ) → ((j : ℕ) → j < n → p j (get_or qs j no_kept) ≡ false) → p n (get_or qs n no_kept) ≡ false
-    → (j : ℕ) → j < n + 1 → p j (get_or qs j no_kept) ≡ false
-none_more p qs n f e j h =
-    ⊎_elim (λ (q : j ≡ n). ap (λ (i : ℕ). p i (get_or qs i no_kept)) q ∙ e) (λ q. f j q) (eq-or-lt_of_le {n = j} {m = n} (omega arith))
+-- ---- the first place
 
 at_from : (p : ℕ → Kept → Bool) (i n : ℕ) (qs : List Kept) (t : Bool) → p (i + suc n) (get_or qs n no_kept) ≡ t → p (suc i + n) (get_or qs n no_kept) ≡ t
 at_from p i n qs t e = let m : suc i + n ≡ i + suc n = omega arith in ap (λ (k : ℕ). p k (get_or qs n no_kept)) m ∙ e
@@ -284,15 +280,6 @@ suits_outside (sought.Serving k b) n q h = rw (place_outside k n h).1 refl
 pub outside_not : (t : Sought) (n : ℕ) (q : Kept) → Outside (kind_of t) n → seeks t n q ≡ false
 outside_not t n q h = sought_in_turn t n q ∙ ap (λ (x : Bool). x && wants t (is_kept q)) (suits_outside t n q h)
 
-from_most : (k : CertificateKind) → from_place k ≤ 13
-unfolding from_place
-from_most certificate.FastFinal = omega arith
-from_most certificate.Notar = omega arith
-from_most certificate.NotarFallback = omega arith
-from_most certificate.Skip = omega arith
-from_most certificate.Final = omega arith
-from_most certificate.Other = omega arith
-
 to_most : (k : CertificateKind) → to_place k ≤ 13
 unfolding to_place
 to_most certificate.FastFinal = omega arith
@@ -302,16 +289,41 @@ to_most certificate.Skip = omega arith
 to_most certificate.Final = omega arith
 to_most certificate.Other = omega arith
 
--- The loop over them: none of the places behind it is what is looked for, and no place outside is.
-module _ (t : Sought) (k : CertificateKind) (from to : ℕ) (e : k ≡ kind_of t) (f : from ≡ from_place k) (g : to ≡ to_place k) (qs : ℕ → Kept) where
-  pub none_begun : (from ≤ 13) × ((j : ℕ) → j < from → seeks t j (qs j) ≡ false)
-  none_begun =
-      (omega (arith, from_most k), λ j h. outside_not t j (qs j) (subst (λ (x : CertificateKind). Outside x j) e (inl (omega arith))))
+-- What a search through the places from one to another finds.
+abbrev pub at_place : Sought → List Kept → ℕ → Bool
+at_place t qs j = seeks t j (get_or qs j no_kept)
 
-  pub to_within : to ≤ 13
-  to_within = omega (arith, to_most k)
+abbrev pub Found : Sought → ℕ → ℕ → List Kept → Option ℕ → Type 0
+Found t from to qs r =
+    MatchOption r ((j : ℕ) → from ≤ j → j < to → at_place t qs j ≡ false)
+    (λ n. (from ≤ n) × (n < to) × (at_place t qs n ≡ true) × ((j : ℕ) → from ≤ j → j < n → at_place t qs j ≡ false))
 
-  pub none_ended : (n : ℕ) → to ≤ n → ((j : ℕ) → j < n → seeks t j (qs j) ≡ false) → (j : ℕ) → j < 13 → seeks t j (qs j) ≡ false
-  none_ended n a h j l =
-      by_test (ltb j n) (λ x. h j (ltb-true j n x))
-      (λ x. let past = ltb-false j n x in outside_not t j (qs j) (subst (λ (y : CertificateKind). Outside y j) e (inr (omega arith, l))))
+-- No place outside them is what is looked for.
+module _ (t : Sought) (from to : ℕ) (f : from ≡ from_place (kind_of t)) (g : to ≡ to_place (kind_of t)) (qs : List Kept) (many : length qs ≡ 13) where
+  before_not : (n : ℕ) → ((j : ℕ) → from ≤ j → j < n → at_place t qs j ≡ false) → (j : ℕ) → j < n → at_place t qs j ≡ false
+  before_not n h j l =
+      by_test (ltb j from) (λ x. outside_not t j (get_or qs j no_kept) (inl (omega (arith, ltb-true j from x)))) (λ x. h j (ltb-false j from x) l)
+
+  pub first_found : (r : Option ℕ) → Found t from to qs r → unwrap_or r 13 ≡ first_place (seeks t) 0 qs
+  first_found None h =
+      sym many
+      ∙ sym (first_none (seeks t) qs (λ j l. by_test (ltb j to) (λ x. before_not to h j (ltb-true j to x))
+      (λ x. outside_not t j (get_or qs j no_kept) (inr (omega (arith, ltb-false j to x), omega (arith, many))))))
+  first_found (Some n) h = sym (first_at (seeks t) qs n (omega (arith, h.1, g, to_most (kind_of t), many)) (before_not n h.3) h.2)
+
+pub found_within : (t : Sought) (from to : ℕ) (qs : List Kept) (r : Option ℕ) → to ≤ 13 → Found t from to qs r → IfSome r (λ n. n < 13)
+found_within t from to qs None b h = tt
+found_within t from to qs (Some n) b h = omega (arith, h.1)
+
+-- Whether a place was found is told by where it is.
+pub is_found : (r : Option ℕ) (m : ℕ) → IfSome r (λ n. n < m) → is_some r ≡ ltb (unwrap_or r m) m
+is_found None m h = sym (le-ltb m m (omega arith))
+is_found (Some n) m h = sym (lt-ltb n m h)
+
+pub found_below : (r : Option ℕ) (m : ℕ) → IfSome r (λ n. n < m) → is_some r ≡ true → unwrap_or r m < m
+found_below None m h e = absurd (true≢false (sym e))
+found_below (Some n) m h e = h
+
+pub found_past : (r : Option ℕ) (m : ℕ) → is_some r ≡ false → m ≤ unwrap_or r m
+found_past None m e = omega arith
+found_past (Some n) m e = absurd (true≢false e)

@@ -16,6 +16,9 @@ use Rattle.rulebook.specs.Taking.{is_repeat}
 use Rattle.rulebook.specs.Writers.{find_kept, kept_for}
 use Rattle.rule_laws.proofs.ToolLaws.{choose_on, choose_off, and_both}
 use Rattle.kept_places.specs.declared.Sought.TheVariants as sought
+use Rattle.std.proofs.Common.{Option, Some, None}
+use Rattle.std.specs.Option.{MatchOption, IfSome, unwrap_or}
+use Rattle.std.proofs.lemmas.Option.{none-some}
 use Rattle.kept_places.specs.Seeking.{seeks, first_place}
 use Rattle.kept_places.proofs.Laws.{find_place}
 
@@ -72,3 +75,22 @@ module _ (k : CertificateKind) (b : ℕ) (qs : List Kept) (n : ℕ) (e : n ≡ f
     pub masks_fast : length qs ≤ m → (o : ℕ) → o ≡ first_place (seeks (sought.Same certificate.FastFinal b)) 0 qs → get_or qs o no_kept ≡ kept_for k b qs
     masks_fast l o g =
         place_kept certificate.FastFinal b qs o g ∙ sym (masks_other h ∙ choose_off (is_kept notar) notar fast (is_nowhere certificate.Notar b qs m f l))
+
+-- What a search for a kind finds.
+abbrev pub Sought : List Kept → ℕ → CertificateKind → Option ℕ → Type 0
+Sought qs b k r = (unwrap_or r 13 ≡ first_place (seeks (sought.Same k b)) 0 qs) × IfSome r (λ n. n < 13)
+
+-- The next kind is asked for where there is none.
+pub asked_on : (P : Type 0) (qs : List Kept) (b : ℕ) (k : CertificateKind) (r s : Option ℕ) → MatchOption r P (λ n. s ≡ Some n) → (P → Sought qs b k s) → MatchOption r (Sought qs b k s) (λ n. s ≡ Some n)
+asked_on P qs b k None s p f = f p
+asked_on P qs b k (Some n) s p f = p
+
+pub masks_in_turn : (k : CertificateKind) (b : ℕ) (qs : List Kept) → length qs ≡ 13 → (x y z : Option ℕ) → Sought qs b k x → MatchOption x (Sought qs b certificate.Notar y) (λ n. y ≡ Some n)
+    → MatchOption y (Sought qs b certificate.FastFinal z) (λ n. z ≡ Some n) → get_or qs (unwrap_or z 13) no_kept ≡ kept_for k b qs
+masks_in_turn k b qs long (Some n) None z p q r = absurd (none-some n q)
+masks_in_turn k b qs long (Some n) (Some m) z p q r =
+    ap (λ (o : Option ℕ). get_or qs (unwrap_or o 13) no_kept) (r ∙ q) ∙ masks_asked k b qs n p.0 (omega (arith, p.1, long))
+masks_in_turn k b qs long None (Some m) z p q r =
+    ap (λ (o : Option ℕ). get_or qs (unwrap_or o 13) no_kept) r ∙ masks_notar k b qs 13 p.0 (omega (arith, long)) m q.0 (omega (arith, q.1, long))
+masks_in_turn k b qs long None None z p q r =
+    masks_fast k b qs 13 p.0 (omega (arith, long)) 13 q.0 (omega (arith, long)) (unwrap_or z 13) r.0

@@ -140,13 +140,8 @@ pub fn kept_place(rec: &[u64], kind: CertificateKind, s: Slot, block: u64) -> us
     requires { InSlot rec.now s.0 }
     ensures { kept_at (ledger_of rec.now) s.0 result ≡ kept_for kind block (certificates_at (ledger_of rec.now) s.0) }
 {
-    let asked = first_place(rec, s, Sought::Same(kind, block));
-    if asked < MOST_CERTIFICATES {
-        return asked;
-    }
-    let notar = first_place(rec, s, Sought::Same(CertificateKind::Notar, block));
-    if notar < MOST_CERTIFICATES {
-        return notar;
-    }
-    first_place(rec, s, Sought::Same(CertificateKind::FastFinal, block))
+    first_place(rec, s, Sought::Same(kind, block))
+        .or_else(|| first_place(rec, s, Sought::Same(CertificateKind::Notar, block)))
+        .or_else(|| first_place(rec, s, Sought::Same(CertificateKind::FastFinal, block)))
+        .unwrap_or(MOST_CERTIFICATES)
 }

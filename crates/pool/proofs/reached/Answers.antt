@@ -14,4 +14,4 @@ returns-then-is_behind c =
 pub returns : goal.returns
 returns c =
     let a = c.args in
-    ap (λ (x : ℕ). eqb x 0) c.missing_to-missing.ensures ∙ sym (reached_missing (ledger_of a.rec.now) a.kind a.s.0 a.b)
+    ap (λ (x : ℕ). eqb x 0) c.missing_to.ensures ∙ sym (reached_missing (ledger_of a.rec.now) a.kind a.s.0 a.b)

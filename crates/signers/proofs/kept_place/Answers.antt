@@ -1,27 +1,20 @@
 -- Each place that is looked for is the first of its kind, and the next is asked for where there is none.
-use native.Mathlib.Omega.{arith}
-use Rattle.rulebook.specs.Ledger.{certificates_at}
+use mathlib.Core.Path.{◌∙◌, ap}
+use Prim.Native.Nat.{ℕ}
+use lib.ListN.{get_or}
+use Rattle.std.proofs.Common.{rules}
+use Rattle.rulebook.specs.declared.CertificateKind.TheVariants as certificate
+use Rattle.rulebook.specs.Ledger.{certificates_at, no_kept}
 use Rattle.record.specs.Layout.{ledger_of}
 use Rattle.record.proofs.Reading.{ledger_shaped}
-use Rattle.signers.proofs.KeptMasks.{masks_asked, masks_notar, masks_fast}
+use Rattle.signers.proofs.KeptMasks.{asked_on, masks_in_turn}
 use Rattle.signers.proofs.kept_place.Goals as goal
-
-pub returns-then-asked-lt-MOST_CERTIFICATES : goal.returns-then-asked-lt-MOST_CERTIFICATES
-returns-then-asked-lt-MOST_CERTIFICATES c =
-    let s = c.args.s.0 in
-    let long = (ledger_shaped c.args.rec.now).certificates s c.requires.slot in
-    masks_asked c.args.kind c.args.block (certificates_at (ledger_of c.args.rec.now) s) _ c.first_place-asked.ensures (omega (arith, long))
-
-pub returns-then-notar-lt-MOST_CERTIFICATES : goal.returns-then-notar-lt-MOST_CERTIFICATES
-returns-then-notar-lt-MOST_CERTIFICATES c =
-    let s = c.args.s.0 in
-    let long = (ledger_shaped c.args.rec.now).certificates s c.requires.slot in
-    masks_notar c.args.kind c.args.block (certificates_at (ledger_of c.args.rec.now) s) _ c.first_place-asked.ensures (omega (arith, long, c.if-asked-lt-MOST_CERTIFICATES.false))
-    _ c.first_place-notar.ensures (omega (arith, long))
 
 pub returns : goal.returns
 returns c =
-    let s = c.args.s.0 in
-    let long = (ledger_shaped c.args.rec.now).certificates s c.requires.slot in
-    masks_fast c.args.kind c.args.block (certificates_at (ledger_of c.args.rec.now) s) _ c.first_place-asked.ensures (omega (arith, long, c.if-asked-lt-MOST_CERTIFICATES.false))
-    _ c.first_place-notar.ensures (omega (arith, long, c.if-notar-lt-MOST_CERTIFICATES.false)) _ c.first_place.ensures
+    let a = c.args in
+    let qs = certificates_at (ledger_of a.rec.now) a.s.0 in
+    ap (λ (n : ℕ). get_or qs n no_kept) c.unwrap_or.ensures
+    ∙ masks_in_turn a.kind a.block qs ((ledger_shaped a.rec.now).certificates a.s.0 c.requires.slot) c.first_place.result c.or_else.result c.or_else-2.result (c.first_place.ensures.first, c.first_place.ensures.within)
+    (asked_on _ qs a.block certificate.Notar c.first_place.result c.or_else.result c.or_else.ensures (λ e. (search rules, search rules)))
+    (asked_on _ qs a.block certificate.FastFinal c.or_else.result c.or_else-2.result c.or_else-2.ensures (λ e. (search rules, search rules)))
