@@ -352,7 +352,7 @@ impl<'a> Machine<'a> {
             (B::Cond, [Value::Bool(test), one, other]) => Ok(if *test { one } else { other }.clone()),
             (B::Suc, [Value::Number(n)]) => Ok(Value::Number(n.plus(&Number::Small(1)))),
             (B::Code, [c]) => Ok(c.clone()),
-            (B::Same, [one, two]) => compared(one, two),
+            (B::Same | B::BytesEq, [one, two]) => compared(one, two),
             (_, [Value::Number(one), Value::Number(two)])
                 if builtin != B::Cons && builtin != B::Replicate =>
             {

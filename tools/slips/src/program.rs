@@ -141,6 +141,7 @@ builtins! {
     Paste "paste" 4 "{A : Type 0} → List A → ℕ → List A → ℕ → List A",
     Take "take" 2 "{A : Type 0} → ℕ → List A → List A",
     Drop "drop" 2 "{A : Type 0} → ℕ → List A → List A",
+    BytesEq "bytes_eq" 2 "List ℕ → List ℕ → Bool",
     Replicate "replicate" 2 "{A : Type 0} → ℕ → A → List A",
     Code "code" 1 "Char → ℕ",
     EmptyText "string.[]" 0 "String",
