@@ -1,4 +1,5 @@
 -- What the 17 test's loops and the stakes of a record come to. Assumes nothing.
+use Rattle.std.specs.Prelude.{Some, None}
 use mathlib.Core.Path.{◌≡◌, refl, sym, ap, ◌∙◌, subst}
 use mathlib.Core.Bool.{Bool, true, false, ◌&&◌}
 use mathlib.Core.List.{List}
@@ -20,9 +21,8 @@ use Rattle.rule_laws.proofs.ToolLaws.{given_on, given_off, given_both, and_both,
 use Rattle.rule_laws.proofs.PlaceLaws.{placed_each}
 use Rattle.recounting.proofs.Using.{same_card_lem}
 use Rattle.stakes.specs.declared.LentTable.{LentTable}
-use Rattle.stakes.specs.declared.Made.{Made}
 use Rattle.stakes.specs.Table.{table_of, made_of}
-use Rattle.stakes.proofs.Laws.{made_fits, made_table}
+use Rattle.stakes.proofs.Laws.{made_none, made_some}
 use Rattle.settling.specs.Facts.{HeadFacts, Sound}
 use Rattle.settling.proofs.FactLaws.{both_given, cell_facts, head_facts, formed, count_placed}
 use Rattle.record.specs.Layout.{Long, ledger_of, Counted}
@@ -82,20 +82,20 @@ unfolding table_of
 table_sum ws = refl
 
 -- The stakes and the total of a record, by the table that its stakes make.
-pub stakes_judged : (l : Ledger) (made : Made) (sum kept : ℕ) → l.count ≤ places l → made ≡ made_of (take l.count l.stakes)
-    → sum ≡ made.table.total.0 → kept ≡ l.total
-    → (made.fits && eqb sum kept) ≡ (stakes_fit l.stakes l.count && eqb (total_to l.stakes l.count) l.total)
-stakes_judged l made sum kept h e s k =
-    let f : made.fits ≡ stakes_fit l.stakes l.count =
-    ap (λ (x : Made). x.fits) e ∙ made_fits (take l.count l.stakes) ∙ front_fits l.stakes l.count h in
-    by_test made.fits
-    (λ t.
-    let u : (made_of (take l.count l.stakes)).fits ≡ true = ap (λ (x : Made). x.fits) (sym e) ∙ t in
-    let a : sum ≡ total_to l.stakes l.count =
-    s ∙ ap (λ (x : Made). x.table.total.0) e ∙ ap (λ (x : LentTable). x.total.0) (made_table (take l.count l.stakes) u)
-    ∙ table_sum (take l.count l.stakes) ∙ front_total l.stakes l.count h in
-    λ i. f i && eqb (a i) (k i))
-    (λ t. rw (t, sym f ∙ t))
+pub stakes_judged : (l : Ledger) (t : LentTable) (kept : ℕ) → l.count ≤ places l → Some t ≡ made_of (take l.count l.stakes) → kept ≡ l.total
+    → eqb t.total.0 kept ≡ (stakes_fit l.stakes l.count && eqb (total_to l.stakes l.count) l.total)
+stakes_judged l t kept h e k =
+    let made = made_some (take l.count l.stakes) t e in
+    let f : stakes_fit l.stakes l.count ≡ true = sym (front_fits l.stakes l.count h) ∙ made.0 in
+    let a : t.total.0 ≡ total_to l.stakes l.count =
+    ap (λ (x : LentTable). x.total.0) made.1 ∙ table_sum (take l.count l.stakes) ∙ front_total l.stakes l.count h in
+    rw (f, a, k)
+
+pub stakes_unfit : (l : Ledger) → l.count ≤ places l → None ≡ made_of (take l.count l.stakes)
+    → false ≡ (stakes_fit l.stakes l.count && eqb (total_to l.stakes l.count) l.total)
+stakes_unfit l h e =
+    let f : stakes_fit l.stakes l.count ≡ false = sym (front_fits l.stakes l.count h) ∙ made_none (take l.count l.stakes) e in
+    rw f
 
 -- More nodes than there are places.
 pub stakes_many : (l : Ledger) (b : Bool) → places l < l.count → (stakes_fit l.stakes l.count && b) ≡ false

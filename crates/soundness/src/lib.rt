@@ -208,11 +208,10 @@ fn stakes_fit(rec: &[u64]) -> bool
     if places_in(rec) < count(rec) {
         return false;
     }
-    let made = make_table(stakes_of(rec));
-    let table = made.table;
-    let sum = table.total;
-    let kept = total(rec);
-    made.fits & (sum.0 == kept.0)
+    match make_table(stakes_of(rec)) {
+        Some(table) => table.total.0 == total(rec).0,
+        None => false,
+    }
 }
 
 // The marks of the armed windows.

@@ -1,5 +1,5 @@
 -- Both starts: the fresh ledger as it is put together, the ways through the code, and what a start leaves. Assumes nothing.
-use Rattle.std.specs.Prelude.{⊤, Result, Ok, Err}
+use Rattle.std.specs.Prelude.{⊤, Result, Ok, Err, Some, None}
 use mathlib.Core.Path.{◌≡◌, refl, sym, ap, ◌∙◌}
 use mathlib.Core.Bool.{Bool, true, false, not, ◌||◌}
 use mathlib.Core.List.{List, ◌++◌}
@@ -17,9 +17,8 @@ use Rattle.rulebook.specs.Ledger.{Ledger, none, fresh}
 use Rattle.rulebook.specs.Inputs.{refuse_if, start_verdict, watch_verdict}
 use Rattle.rule_laws.proofs.ToolLaws.{or_none}
 use Rattle.stakes.specs.declared.LentTable.{LentTable}
-use Rattle.stakes.specs.declared.Made.{Made}
 use Rattle.stakes.specs.Table.{made_of}
-use Rattle.stakes.proofs.Laws.{made_fits, made_table, fit_few}
+use Rattle.stakes.proofs.Laws.{made_none, made_some, fit_few}
 use Rattle.rule_laws.proofs.RuleLaws.{refuse_fine}
 use Rattle.rule_laws.proofs.PlaceLaws.{nodes_placed}
 use Rattle.rule_laws.proofs.WordLaws.{Words}
@@ -132,28 +131,35 @@ module _ (ws stakes : List ℕ) (own : ℕ) (odd : Bool) (genesis : ℕ) where
   unfolding begun_judged refuse_if
   begun_short n e q = refused_as refusal.BadRecord (rw (ne_eqb (length ws) (record_words (places_for (length stakes))) (λ h. q (h ∙ sym e))))
 
-  module _ (n : ℕ) (e : n ≡ record_words (places_for (length stakes))) (long : length ws ≡ n) (fits : Bool) (made : fits ≡ stakes_fit stakes (length stakes)) where
-    judged : (b : Bool) → (not fits || (odd || none genesis)) ≡ b → begun_judged ws stakes odd genesis ≡ refuse_if b refusal.BadSizes (Ok tt)
+  module _ (n : ℕ) (e : n ≡ record_words (places_for (length stakes))) (long : length ws ≡ n) where
+    judged : (fits b : Bool) → stakes_fit stakes (length stakes) ≡ fits → (not fits || (odd || none genesis)) ≡ b
+        → begun_judged ws stakes odd genesis ≡ refuse_if b refusal.BadSizes (Ok tt)
     unfolding begun_judged refuse_if
-    judged b t =
+    judged fits b made t =
         rw (eq-eqb (length ws) (record_words (places_for (length stakes))) (long ∙ e))
-        (ap (λ (x : Bool). refuse_if (not x || (odd || none genesis)) refusal.BadSizes (Ok tt)) (sym made)
+        (ap (λ (x : Bool). refuse_if (not x || (odd || none genesis)) refusal.BadSizes (Ok tt)) made
         ∙ ap (λ (x : Bool). refuse_if x refusal.BadSizes (Ok tt)) t)
 
-    -- Then 1.
-    pub begun_misfit : (not fits || (odd || none genesis)) ≡ true → BegunOf ws stakes own odd genesis (Err refusal.BadSizes) ws
+    -- Then 1: for the stakes, or for what else is odd.
+    pub begun_unfit : None ≡ made_of stakes → BegunOf ws stakes own odd genesis (Err refusal.BadSizes) ws
     unfolding refuse_if
-    begun_misfit t = refused_as refusal.BadSizes (judged true t)
+    begun_unfit q = refused_as refusal.BadSizes (judged false true (made_none stakes q) refl)
 
-    -- Else the fresh ledger's words.
-    pub begun_done : (left : List ℕ) → (not fits || (odd || none genesis)) ≡ false → Words left → length left ≡ record_words (places_for (length stakes))
-        → ledger_of left ≡ fresh stakes own genesis → BegunOf ws stakes own odd genesis (Ok tt) left
-    unfolding refuse_if start_answer start_left
-    begun_done left t f h q =
-        record {
-          answered = ap start_answer (sym (judged false t));
-          words = spelled_as left (fresh stakes own genesis) (long_spelled left f (sized_long left (places_for (length stakes)) h)) q ∙ ap (λ (v : Result ⊤ Refusal). start_left v ws stakes own genesis) (sym (judged false t));
-        }
+    module _ (table : LentTable) (q : Some table ≡ made_of stakes) where
+      pub begun_odd : (odd || none genesis) ≡ true → BegunOf ws stakes own odd genesis (Err refusal.BadSizes) ws
+      unfolding refuse_if
+      begun_odd t = refused_as refusal.BadSizes (judged true true (made_some stakes table q).0 t)
+
+      -- Else the fresh ledger's words.
+      pub begun_done : (left : List ℕ) → (odd || none genesis) ≡ false → Words left → length left ≡ record_words (places_for (length stakes))
+          → ledger_of left ≡ fresh stakes own genesis → BegunOf ws stakes own odd genesis (Ok tt) left
+      unfolding refuse_if start_answer start_left
+      begun_done left t f h p =
+          let e = judged true false (made_some stakes table q).0 t in
+          record {
+            answered = ap start_answer (sym e);
+            words = spelled_as left (fresh stakes own genesis) (long_spelled left f (sized_long left (places_for (length stakes)) h)) p ∙ ap (λ (v : Result ⊤ Refusal). start_left v ws stakes own genesis) (sym e);
+          }
 
 -- A start with an own number is one whose number is odd past the table; a watcher's number never is.
 pub begun_start : (ws stakes : List ℕ) (own genesis : ℕ) (a : Result ⊤ Refusal) (l : List ℕ) → BegunOf ws stakes own (leb (length stakes) own) genesis a l
@@ -167,16 +173,11 @@ unfolding begun_judged watch_judged watch_verdict
 begun_watch ws stakes genesis a l p = record { answered = p.answered; words = p.words }
 
 -- What passed the tests may be set up.
-pub begun_ready : (ws stakes : List ℕ) (made : Made) (rest : Bool) → made ≡ made_of stakes → (not made.fits || rest) ≡ false → length ws ≡ record_words (places_for (length stakes))
-    → SetUp ws stakes made.table.total.0
-begun_ready ws stakes made rest e t long =
-    let f : (made_of stakes).fits ≡ true = ap (λ (x : Made). x.fits) (sym e) ∙ not-false made.fits (or_none (not made.fits) rest t).0 in
-    let g : stakes_fit stakes (length stakes) ≡ true = sym (made_fits stakes) ∙ f in
-    record {
-      long = long;
-      few = fit_few stakes g;
-      sum = ap (λ (x : Made). x.table.total.0) e ∙ ap (λ (x : LentTable). x.total.0) (made_table stakes f) ∙ table_sum stakes;
-    }
+pub begun_ready : (ws stakes : List ℕ) (table : LentTable) → Some table ≡ made_of stakes → length ws ≡ record_words (places_for (length stakes))
+    → SetUp ws stakes table.total.0
+begun_ready ws stakes table e long =
+    let made = made_some stakes table e in
+    record { long = long; few = fit_few stakes made.0; sum = ap (λ (x : LentTable). x.total.0) made.1 ∙ table_sum stakes }
 
 -- Two results that start allows are equal.
 pub start_one : (ws stakes : List ℕ) (own genesis : ℕ) (a a' : Result ⊤ Refusal) (l l' : List ℕ)

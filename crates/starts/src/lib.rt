@@ -30,13 +30,13 @@ fn begin(rec: &mut [u64], stakes: &[u64], own: Node, odd: bool, genesis: u64) ->
     if rec.len() != record_words(stakes.len()) {
         return Err(Refusal::BadRecord);
     }
-    let made = make_table(stakes);
-    if !made.fits | (odd | (genesis == 0)) {
+    let Some(table) = make_table(stakes) else {
+        return Err(Refusal::BadSizes);
+    };
+    if odd | (genesis == 0) {
         return Err(Refusal::BadSizes);
     }
-    let table = made.table;
-    let total = table.total;
-    set_up(rec, stakes, total, own, genesis);
+    set_up(rec, stakes, table.total, own, genesis);
     Ok(())
 }
 
