@@ -1,9 +1,9 @@
 // A node's record shown to people, slot by slot. Every function takes any words; what they show is read by `shown` and the crates over
 // it. Lines are built in a lent page and leave by the door one by one; a function takes the place that was reached in the page and
-// answers the next, which is the page's end once a line was not written.
+// answers the next. A line that was not written is an error, and ends the board.
 #![tactic(auto)]
 
-use door::end_line;
+use door::{Unwritten, end_line};
 use kinds::{is_other, slot_ok};
 use lines::{put_missing, put_named, put_share, put_text};
 use pool::signers_of;
@@ -31,6 +31,8 @@ const KEPT_BLOCKS: usize = 4;
 // So many certificates from other firms are.
 const KEPT_CERTIFICATES: usize = 13;
 
+const LAST_SLOT: usize = 16;
+
 // A weight, and its percent of the total rounded down.
 fn put_weight(page: &mut [u8], at: usize, rec: &[u64], s: Slot, who: Who) -> usize {
     let w = weight_of(rec, s, who);
@@ -46,11 +48,17 @@ fn put_if(page: &mut [u8], at: usize, there: bool, text: &[u8]) -> usize {
 }
 
 // The block in one of a slot's places for kept blocks, with its parent, where there is one.
-fn kept_line(page: &mut [u8], at: usize, rec: &[u64], s: Slot, place: usize) -> usize {
+fn kept_line(
+    page: &mut [u8],
+    at: usize,
+    rec: &[u64],
+    s: Slot,
+    place: usize,
+) -> Result<usize, Unwritten> {
     let b = kept_of(rec, s, place);
     let slot = b.parentslot;
     if b.number == 0 {
-        return at;
+        return Ok(at);
     }
     let p = put_named(page, at, b"  kept ", b.number);
     let q = put_named(page, p, b", parent ", b.parent);
@@ -59,28 +67,28 @@ fn kept_line(page: &mut [u8], at: usize, rec: &[u64], s: Slot, place: usize) -> 
 }
 
 // The kept blocks, as they were announced: first the one that the node may notarize.
-fn kept_lines(page: &mut [u8], at: usize, rec: &[u64], s: Slot) -> usize {
+fn kept_lines(page: &mut [u8], at: usize, rec: &[u64], s: Slot) -> Result<usize, Unwritten> {
     let mut next = at;
     for place in 0..KEPT_BLOCKS {
-        next = kept_line(page, next, rec, s, place);
+        next = kept_line(page, next, rec, s, place)?;
     }
-    next
+    Ok(next)
 }
 
 // The own votes.
-fn own_line(page: &mut [u8], at: usize, rec: &[u64], s: Slot) -> usize {
+fn own_line(page: &mut [u8], at: usize, rec: &[u64], s: Slot) -> Result<usize, Unwritten> {
     let c = cell_of(rec, s, own_of(rec));
     if is_blank(c) {
-        return at;
+        return Ok(at);
     }
     let p = put_text(page, at, b"  own");
     let q = own_notar(page, p, c.notar);
     let r = put_if(page, q, c.skip != 0, b" skip");
     let t = put_if(page, r, c.skipfallback != 0, b" skip-fallback");
     let u = put_if(page, t, c.finalvote != 0, b" final");
-    let v = end_line(page, u);
-    let w = own_fallback(page, v, c.fallback1);
-    let x = own_fallback(page, w, c.fallback2);
+    let v = end_line(page, u)?;
+    let w = own_fallback(page, v, c.fallback1)?;
+    let x = own_fallback(page, w, c.fallback2)?;
     own_fallback(page, x, c.fallback3)
 }
 
@@ -93,19 +101,19 @@ fn own_notar(page: &mut [u8], at: usize, b: u64) -> usize {
 }
 
 // An own notar-fallback vote, where there is one.
-fn own_fallback(page: &mut [u8], at: usize, b: u64) -> usize {
+fn own_fallback(page: &mut [u8], at: usize, b: u64) -> Result<usize, Unwritten> {
     if b == 0 {
-        return at;
+        return Ok(at);
     }
     let p = put_named(page, at, b"  own notar-fallback ", b);
     end_line(page, p)
 }
 
 // The weight of skip votes, and what is missing to the certificate, in which skip-fallback votes count too.
-fn skip_line(page: &mut [u8], at: usize, rec: &[u64], s: Slot) -> usize {
+fn skip_line(page: &mut [u8], at: usize, rec: &[u64], s: Slot) -> Result<usize, Unwritten> {
     let w = weight_of(rec, s, Who::SkipOrFallback);
     if w.0 == 0 {
-        return at;
+        return Ok(at);
     }
     let p = put_text(page, at, b"  skip");
     let q = put_weight(page, p, rec, s, Who::Skip);
@@ -115,10 +123,10 @@ fn skip_line(page: &mut [u8], at: usize, rec: &[u64], s: Slot) -> usize {
 }
 
 // The weight of final votes, and what is missing to the certificate.
-fn final_line(page: &mut [u8], at: usize, rec: &[u64], s: Slot) -> usize {
+fn final_line(page: &mut [u8], at: usize, rec: &[u64], s: Slot) -> Result<usize, Unwritten> {
     let w = weight_of(rec, s, Who::Final);
     if w.0 == 0 {
-        return at;
+        return Ok(at);
     }
     let p = put_text(page, at, b"  final");
     let q = put_weight(page, p, rec, s, Who::Final);
@@ -169,7 +177,13 @@ fn put_next(page: &mut [u8], at: usize, rec: &[u64], s: Slot, b: u64) -> usize {
 }
 
 // A block's notar weight, and what is missing to its next certificate.
-fn notar_line(page: &mut [u8], at: usize, rec: &[u64], s: Slot, b: u64) -> usize {
+fn notar_line(
+    page: &mut [u8],
+    at: usize,
+    rec: &[u64],
+    s: Slot,
+    b: u64,
+) -> Result<usize, Unwritten> {
     let p = put_named(page, at, b"  block ", b);
     let q = put_text(page, p, b" notar");
     let r = put_weight(page, q, rec, s, Who::Notar(b));
@@ -178,9 +192,9 @@ fn notar_line(page: &mut [u8], at: usize, rec: &[u64], s: Slot, b: u64) -> usize
 }
 
 // The certificates held for a block, where there is one.
-fn held_line(page: &mut [u8], at: usize, rec: &[u64], s: Slot, b: u64) -> usize {
+fn held_line(page: &mut [u8], at: usize, rec: &[u64], s: Slot, b: u64) -> Result<usize, Unwritten> {
     if !held_in(rec, s, CertificateKind::NotarFallback, b) {
-        return at;
+        return Ok(at);
     }
     let p = put_named(page, at, b"  block ", b);
     let q = put_text(page, p, b" holds");
@@ -189,15 +203,21 @@ fn held_line(page: &mut [u8], at: usize, rec: &[u64], s: Slot, b: u64) -> usize 
 }
 
 // A block that votes name.
-fn block_line(page: &mut [u8], at: usize, rec: &[u64], s: Slot, b: u64) -> usize {
-    let next = notar_line(page, at, rec, s, b);
+fn block_line(
+    page: &mut [u8],
+    at: usize,
+    rec: &[u64],
+    s: Slot,
+    b: u64,
+) -> Result<usize, Unwritten> {
+    let next = notar_line(page, at, rec, s, b)?;
     held_line(page, next, rec, s, b)
 }
 
 // Where further blocks are told, where a page did not hold them all.
-fn more_blocks(page: &mut [u8], at: usize, s: Slot, next: u64) -> usize {
+fn more_blocks(page: &mut [u8], at: usize, s: Slot, next: u64) -> Result<usize, Unwritten> {
     if next == 0 {
-        return at;
+        return Ok(at);
     }
     let p = put_named(page, at, b"  more: board ", s.0 as u64);
     let q = put_named(page, p, b" ", next);
@@ -205,42 +225,45 @@ fn more_blocks(page: &mut [u8], at: usize, s: Slot, next: u64) -> usize {
 }
 
 // The blocks that votes name from a number on, lowest first, so many of them.
-fn block_lines(page: &mut [u8], at: usize, rec: &[u64], s: Slot, from: u64, most: usize) -> usize {
+fn block_lines(
+    page: &mut [u8],
+    at: usize,
+    rec: &[u64],
+    s: Slot,
+    from: u64,
+    most: usize,
+) -> Result<usize, Unwritten> {
     let mut next = at;
     let mut b = block_from(rec, s, from);
-    let mut turns = most;
-    while turns > 0 {
+    for _ in 0..most {
         if b == 0 {
-            return next;
+            return Ok(next);
         }
-        next = block_line(page, next, rec, s, b);
+        next = block_line(page, next, rec, s, b)?;
         b = block_after(rec, s, b);
-        turns -= 1;
     }
     more_blocks(page, next, s, b)
 }
 
 // The blocks that a fifth of the stake stands behind, lowest first: a node names four at most, so there are twenty at most.
-fn heavy_lines(page: &mut [u8], at: usize, rec: &[u64], s: Slot) -> usize {
+fn heavy_lines(page: &mut [u8], at: usize, rec: &[u64], s: Slot) -> Result<usize, Unwritten> {
     let mut next = at;
     let mut b = heavy_after(rec, s, 0);
-    let mut turns = BLOCKS_ON_A_PAGE;
-    while turns > 0 {
+    for _ in 0..BLOCKS_ON_A_PAGE {
         if b == 0 {
-            return next;
+            return Ok(next);
         }
-        next = block_line(page, next, rec, s, b);
+        next = block_line(page, next, rec, s, b)?;
         b = heavy_after(rec, s, b);
-        turns -= 1;
     }
-    next
+    Ok(next)
 }
 
 // How many blocks are lighter, and how to get them, where there are any.
-fn light_line(page: &mut [u8], at: usize, rec: &[u64], s: Slot) -> usize {
+fn light_line(page: &mut [u8], at: usize, rec: &[u64], s: Slot) -> Result<usize, Unwritten> {
     let lighter = light_blocks(rec, s);
     if lighter == 0 {
-        return at;
+        return Ok(at);
     }
     let p = put_named(page, at, b"  lighter blocks ", lighter);
     let q = put_named(page, p, b": board ", s.0 as u64);
@@ -249,9 +272,9 @@ fn light_line(page: &mut [u8], at: usize, rec: &[u64], s: Slot) -> usize {
 }
 
 // The blocks that votes name, in a large ring the heavy ones alone.
-fn blocks_board(page: &mut [u8], at: usize, rec: &[u64], s: Slot) -> usize {
+fn blocks_board(page: &mut [u8], at: usize, rec: &[u64], s: Slot) -> Result<usize, Unwritten> {
     if is_large(rec) {
-        let next = heavy_lines(page, at, rec, s);
+        let next = heavy_lines(page, at, rec, s)?;
         return light_line(page, next, rec, s);
     }
     block_lines(page, at, rec, s, 1, MOST_BLOCKS)
@@ -265,19 +288,19 @@ fn certificate_line(
     s: Slot,
     kind: CertificateKind,
     name: &[u8],
-) -> usize {
+) -> Result<usize, Unwritten> {
     if !held_in(rec, s, kind, 0) {
-        return at;
+        return Ok(at);
     }
     let next = put_held(page, at, rec, s, kind, 0, name);
     end_line(page, next)
 }
 
 // The certificates held for no block.
-fn certificate_lines(page: &mut [u8], at: usize, rec: &[u64], s: Slot) -> usize {
+fn certificate_lines(page: &mut [u8], at: usize, rec: &[u64], s: Slot) -> Result<usize, Unwritten> {
     let skip = CertificateKind::Skip;
     let ended = CertificateKind::Final;
-    let p = certificate_line(page, at, rec, s, skip, b"  skip certificate");
+    let p = certificate_line(page, at, rec, s, skip, b"  skip certificate")?;
     certificate_line(page, p, rec, s, ended, b"  final certificate")
 }
 
@@ -302,12 +325,18 @@ fn put_block(page: &mut [u8], at: usize, block: u64) -> usize {
 }
 
 // The certificate in one of a slot's places, with how many signed it and their weight, where there is one.
-fn kept_certificate_line(page: &mut [u8], at: usize, rec: &[u64], s: Slot, place: usize) -> usize {
+fn kept_certificate_line(
+    page: &mut [u8],
+    at: usize,
+    rec: &[u64],
+    s: Slot,
+    place: usize,
+) -> Result<usize, Unwritten> {
     let c = kept_certificate(rec, s, place);
     let kind = c.kind;
     let weight = c.weight;
     if is_other(kind) {
-        return at;
+        return Ok(at);
     }
     let p = put_kind(page, at, kind);
     let q = put_block(page, p, c.block);
@@ -318,15 +347,20 @@ fn kept_certificate_line(page: &mut [u8], at: usize, rec: &[u64], s: Slot, place
 }
 
 // The certificates from other firms, kind 3 last.
-fn kept_certificate_lines(page: &mut [u8], at: usize, rec: &[u64], s: Slot) -> usize {
+fn kept_certificate_lines(
+    page: &mut [u8],
+    at: usize,
+    rec: &[u64],
+    s: Slot,
+) -> Result<usize, Unwritten> {
     if !has_certificates(rec, s) {
-        return at;
+        return Ok(at);
     }
     let mut next = at;
     for place in 0..KEPT_CERTIFICATES {
-        next = kept_certificate_line(page, next, rec, s, place);
+        next = kept_certificate_line(page, next, rec, s, place)?;
     }
-    next
+    Ok(next)
 }
 
 // How a block came to be final: by certificates, or as the parent of another.
@@ -342,10 +376,10 @@ fn put_cause(page: &mut [u8], at: usize, rec: &[u64], s: Slot, b: u64) -> usize 
 }
 
 // The block reported final.
-fn reported_line(page: &mut [u8], at: usize, rec: &[u64], s: Slot) -> usize {
+fn reported_line(page: &mut [u8], at: usize, rec: &[u64], s: Slot) -> Result<usize, Unwritten> {
     let f = final_of(rec, s);
     if f == 0 {
-        return at;
+        return Ok(at);
     }
     let p = put_named(page, at, b"  FINAL ", f);
     let next = put_cause(page, p, rec, s, f);
@@ -353,9 +387,9 @@ fn reported_line(page: &mut [u8], at: usize, rec: &[u64], s: Slot) -> usize {
 }
 
 // Whether another final block was reported.
-fn clash_line(page: &mut [u8], at: usize, rec: &[u64], s: Slot) -> usize {
+fn clash_line(page: &mut [u8], at: usize, rec: &[u64], s: Slot) -> Result<usize, Unwritten> {
     if !clash_in(rec, s) {
-        return at;
+        return Ok(at);
     }
     let next = put_text(
         page,
@@ -366,37 +400,37 @@ fn clash_line(page: &mut [u8], at: usize, rec: &[u64], s: Slot) -> usize {
 }
 
 // A slot's own line.
-fn slot_line(page: &mut [u8], at: usize, rec: &[u64], s: Slot) -> usize {
+fn slot_line(page: &mut [u8], at: usize, rec: &[u64], s: Slot) -> Result<usize, Unwritten> {
     let p = put_named(page, at, b"slot ", s.0 as u64);
     let q = put_if(page, p, timed_out_in(rec, s), b", timed out");
     end_line(page, q)
 }
 
 // What is kept of a slot.
-fn slot_board(page: &mut [u8], at: usize, rec: &[u64], s: Slot) -> usize {
-    let p = slot_line(page, at, rec, s);
-    let q = kept_lines(page, p, rec, s);
-    let r = own_line(page, q, rec, s);
-    let t = votes_board(page, r, rec, s);
-    let u = kept_certificate_lines(page, t, rec, s);
-    let v = reported_line(page, u, rec, s);
+fn slot_board(page: &mut [u8], at: usize, rec: &[u64], s: Slot) -> Result<usize, Unwritten> {
+    let p = slot_line(page, at, rec, s)?;
+    let q = kept_lines(page, p, rec, s)?;
+    let r = own_line(page, q, rec, s)?;
+    let t = votes_board(page, r, rec, s)?;
+    let u = kept_certificate_lines(page, t, rec, s)?;
+    let v = reported_line(page, u, rec, s)?;
     clash_line(page, v, rec, s)
 }
 
 // What the votes of a slot weigh.
-fn votes_board(page: &mut [u8], at: usize, rec: &[u64], s: Slot) -> usize {
-    let p = skip_line(page, at, rec, s);
-    let q = blocks_board(page, p, rec, s);
-    let r = final_line(page, q, rec, s);
+fn votes_board(page: &mut [u8], at: usize, rec: &[u64], s: Slot) -> Result<usize, Unwritten> {
+    let p = skip_line(page, at, rec, s)?;
+    let q = blocks_board(page, p, rec, s)?;
+    let r = final_line(page, q, rec, s)?;
     certificate_lines(page, r, rec, s)
 }
 
 // One slot, where something has touched it.
-fn touched_board(page: &mut [u8], at: usize, rec: &[u64], s: Slot) -> usize {
+fn touched_board(page: &mut [u8], at: usize, rec: &[u64], s: Slot) -> Result<usize, Unwritten> {
     if touched(rec, s) {
         return slot_board(page, at, rec, s);
     }
-    at
+    Ok(at)
 }
 
 // The own number, or that there is none.
@@ -409,7 +443,7 @@ fn put_own(page: &mut [u8], rec: &[u64]) -> usize {
 }
 
 // The node's own line.
-fn head_line(page: &mut [u8], rec: &[u64]) -> usize {
+fn head_line(page: &mut [u8], rec: &[u64]) -> Result<usize, Unwritten> {
     let all = total_of(rec);
     let p = put_own(page, rec);
     let q = put_named(page, p, b" of ", nodes_of(rec) as u64);
@@ -424,11 +458,11 @@ fn put_window(page: &mut [u8], at: usize, rec: &[u64], from: Slot, slots: &[u8])
 }
 
 // The armed windows, by their slots, where there are any.
-fn armed_line(page: &mut [u8], at: usize, rec: &[u64]) -> usize {
+fn armed_line(page: &mut [u8], at: usize, rec: &[u64]) -> Result<usize, Unwritten> {
     let first = armed_in(rec, Slot(1)) | armed_in(rec, Slot(5));
     let second = armed_in(rec, Slot(9)) | armed_in(rec, Slot(13));
     if !(first | second) {
-        return at;
+        return Ok(at);
     }
     let p = put_text(page, at, b"armed slots");
     let q = put_windows(page, p, rec);
@@ -443,39 +477,39 @@ fn put_windows(page: &mut [u8], at: usize, rec: &[u64]) -> usize {
     put_window(page, r, rec, Slot(13), b" 13-16")
 }
 
-// The node slot by slot, nothing for slots that nothing has touched; 17 where the words are no record. Answers whether every
-// line was written.
-pub fn board(page: &mut [u8], rec: &[u64]) -> bool {
+// The node slot by slot, nothing for slots that nothing has touched; 17 where the words are no record.
+pub fn board(page: &mut [u8], rec: &[u64]) -> Result<(), Unwritten> {
     if !sound(rec) {
         return number(page, 17);
     }
-    let head = head_line(page, rec);
-    let mut at = armed_line(page, head, rec);
-    for s in 1..17 {
-        at = touched_board(page, at, rec, Slot(s));
+    let head = head_line(page, rec)?;
+    let mut at = armed_line(page, head, rec)?;
+    for s in 1..=LAST_SLOT {
+        at = touched_board(page, at, rec, Slot(s))?;
     }
-    at < page.len()
+    Ok(())
 }
 
-// One slot of the board, touched or not; 17 where the words are no record, 3 where there is no such slot. Answers whether every line
-// was written.
-pub fn slot(page: &mut [u8], rec: &[u64], s: Slot) -> bool {
+// One slot of the board, touched or not; 17 where the words are no record, 3 where there is no such slot.
+pub fn slot(page: &mut [u8], rec: &[u64], s: Slot) -> Result<(), Unwritten> {
     if !sound(rec) {
         return number(page, 17);
     }
     if !slot_ok(s) {
         return number(page, 3);
     }
-    slot_board(page, 0, rec, s) < page.len()
+    slot_board(page, 0, rec, s)?;
+    Ok(())
 }
 
-// A page of a slot's blocks, from a number on; 17 and 3 likewise. Answers whether every line was written.
-pub fn slot_blocks(page: &mut [u8], rec: &[u64], s: Slot, from: u64) -> bool {
+// A page of a slot's blocks, from a number on; 17 and 3 likewise.
+pub fn slot_blocks(page: &mut [u8], rec: &[u64], s: Slot, from: u64) -> Result<(), Unwritten> {
     if !sound(rec) {
         return number(page, 17);
     }
     if !slot_ok(s) {
         return number(page, 3);
     }
-    block_lines(page, 0, rec, s, from, BLOCKS_ON_A_PAGE) < page.len()
+    block_lines(page, 0, rec, s, from, BLOCKS_ON_A_PAGE)?;
+    Ok(())
 }

@@ -1,6 +1,0 @@
--- The loop over the heavy blocks.
-use mathlib.Core.Path.{◌∙◌}
-use Rattle.board.proofs.heavy_lines.Goals as goal
-
-pub loop-turns-preserved : goal.loop-turns-preserved
-loop-turns-preserved c = c.block_line-next.auto.page ∙ c.loop-turns.invariant
