@@ -8,6 +8,7 @@ use lib.Seq.{get_or-set_same, set-set}
 use Rattle.rulebook.specs.declared.Cell.{Cell}
 use Rattle.rulebook.specs.declared.Tally.{Tally}
 use Rattle.rulebook.specs.declared.VoteKind.{VoteKind}
+use Rattle.rulebook.specs.declared.VoteKind.TheVariants as vote
 use Rattle.rulebook.specs.declared.Who.{Who}
 use Rattle.rulebook.specs.declared.Who.TheVariants as who
 use Rattle.rulebook.specs.Weights.{stake_in, total_to}
@@ -84,9 +85,9 @@ module _ (l : Ledger) (s n : ℕ) (k : VoteKind) (b : ℕ) (c : Cell) (w v : ℕ
   unfolding change_of
   change_notar g = rw (e, f, g)
 
-  pub change_other : (vote_number k ≡ 1 → ⊥) → adds c k b w v ≡ change_of l s n k b
-  unfolding change_of vote_number
-  change_other g = adds_other c k b w v (weigh l s (who.Notar b)) (λ z. g (ap vote_number z)) ∙ rw (e, f)
+  pub change_other : (k ≡ vote.Notar → ⊥) → adds c k b w v ≡ change_of l s n k b
+  unfolding change_of
+  change_other g = adds_other c k b w v (weigh l s (who.Notar b)) g ∙ rw (e, f)
 
 -- ---- the two stores
 

@@ -11,10 +11,7 @@ use cells::with_vote;
 use pool::weight_of;
 use record::{load_card, load_cell, stake, store_card, store_cell};
 use rulebook::{Node, Slot, Tally, VoteKind, Weight, Who};
-use tally::{adds, tallied};
-
-// The number of a notar vote.
-const NOTAR: u64 = 1;
+use tally::{adds, update};
 
 // What a node's vote adds to the card of its slot. Only a notar vote asks what its block weighs so far: the card tells it of the leader,
 // another block is weighed.
@@ -24,10 +21,10 @@ fn change_of(rec: &[u64], s: Slot, n: Node, k: VoteKind, b: u64) -> Tally
 {
     let c = load_cell(rec, s, n);
     let w = stake(rec, n);
-    if u64::from(k) == NOTAR {
-        return adds(c, k, b, w, weight_of(rec, s, Who::Notar(b)));
+    match k {
+        VoteKind::Notar => adds(c, k, b, w, weight_of(rec, s, Who::Notar(b))),
+        _ => adds(c, k, b, w, Weight(0)),
     }
-    adds(c, k, b, w, Weight(0))
 }
 
 // Stores a node's vote and changes the slot's card.
@@ -36,8 +33,9 @@ pub fn store_vote(rec: &mut [u64], s: Slot, n: Node, k: VoteKind, b: u64)
     ensures { ledger_of rec.new ≡ store_vote (ledger_of rec.old) s.0 n.0 k b }
 {
     let d = change_of(rec, s, n, k, b);
-    let card = load_card(rec, s);
+    let mut card = load_card(rec, s);
+    update(&mut card, d);
     let c = load_cell(rec, s, n);
     store_cell(rec, s, n, with_vote(c, k, b));
-    store_card(rec, s, tallied(card, d));
+    store_card(rec, s, card);
 }

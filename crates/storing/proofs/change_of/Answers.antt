@@ -19,15 +19,15 @@ pub adds-requires : goal.adds-requires
 adds-requires c =
     (omega (arith, c.stake-w.ensures, stake_small c.requires), omega (arith, c.weight_of.ensures, weight_small c.requires (who.Notar c.args.b)))
 
-pub returns-then-from-eq-NOTAR : goal.returns-then-from-eq-NOTAR
-returns-then-from-eq-NOTAR c =
+pub returns-in-Notar : goal.returns-in-Notar
+returns-in-Notar c =
     c.adds.ensures
     ∙ change_notar (ledger_of c.args.rec.now) c.args.s.0 c.args.n.0 c.args.k c.args.b _ _ _ c.load_cell-c.ensures c.stake-w.ensures c.weight_of.ensures
 
-pub adds-requires-2 : goal.adds-requires-2
-adds-requires-2 c = (omega (arith, c.stake-w.ensures, stake_small c.requires), omega arith)
+pub adds-requires-in_default : goal.adds-requires-in_default
+adds-requires-in_default c = (omega (arith, c.stake-w.ensures, stake_small c.requires), omega arith)
 
-pub returns : goal.returns
-returns c =
-    c.adds-2.ensures
-    ∙ change_other (ledger_of c.args.rec.now) c.args.s.0 c.args.n.0 c.args.k c.args.b _ _ _ c.load_cell-c.ensures c.stake-w.ensures (λ e. c.if-from-eq-NOTAR.false (c.from.ensures ∙ e))
+pub returns-in_default : goal.returns-in_default
+returns-in_default c =
+    c.adds-in_default.ensures
+    ∙ change_other (ledger_of c.args.rec.now) c.args.s.0 c.args.n.0 c.args.k c.args.b _ _ _ c.load_cell-c.ensures c.stake-w.ensures c.in_default.not-Notar

@@ -15,8 +15,8 @@ load_cell-c-requires c = storing_placed c.requires
 pub store_cell-requires : goal.store_cell-requires
 store_cell-requires c = storing_placed c.requires
 
-pub tallied-requires : goal.tallied-requires
-tallied-requires c =
+pub update-requires : goal.update-requires
+update-requires c =
     (rw c.load_card-card.ensures (card_light c.requires), rw c.change_of-d.ensures (change_light c.requires c.args.k c.args.b))
 
 pub store_card-requires : goal.store_card-requires
@@ -27,6 +27,6 @@ pub returns : goal.returns
 returns c =
     let l = ledger_of c.args.rec.now in
     stored_is l (ledger_of c.store_cell.new.rec) _ c.args.s.0 c.args.n.0 c.args.k c.args.b c.load_cell-c.result c.with_vote.result
-    c.load_card-card.result c.tallied.result c.change_of-d.result (omega (arith, c.requires.high, (ledger_shaped c.args.rec.now).rows))
+    c.load_card-card.result c.update.new.t c.change_of-d.result (omega (arith, c.requires.high, (ledger_shaped c.args.rec.now).rows))
     c.store_card.ensures c.store_cell.ensures c.with_vote.ensures c.load_cell-c.ensures
-    c.tallied.ensures c.load_card-card.ensures c.change_of-d.ensures
+    c.update.ensures c.load_card-card.ensures c.change_of-d.ensures
