@@ -10,6 +10,7 @@ use record::own_cell;
 use rulebook::{Cell, Slot};
 
 // C: an own notar vote, no own fallback of either kind, no own final.
+#[tactic(auto, unfolding(rulebook::specs::Rules::may_final))]
 pub fn may_final(c: Cell) -> bool
     ensures { result ≡ may_final c }
 {
@@ -17,6 +18,7 @@ pub fn may_final(c: Cell) -> bool
 }
 
 // D: no own final, notar-fallback b not cast.
+#[tactic(auto, unfolding(rulebook::specs::Rules::may_fallback))]
 pub fn may_fallback(c: Cell, b: u64) -> bool
     ensures { result ≡ may_fallback c b }
 {
@@ -25,6 +27,7 @@ pub fn may_fallback(c: Cell, b: u64) -> bool
 }
 
 // E: no own final, skip-fallback not cast.
+#[tactic(auto, unfolding(rulebook::specs::Rules::may_skip_fallback))]
 pub fn may_skip_fallback(c: Cell) -> bool
     ensures { result ≡ may_skip_fallback c }
 {
@@ -37,11 +40,8 @@ pub fn window_open(rec: &[u64], s: Slot) -> bool
     ensures { result ≡ window_open (ledger_of rec.now) s.0 }
 {
     let first = (s.0 - 1) / 4 * 4 + 1;
-    for i in 0..4 {
+    (0..4).any(|i| {
         let c = own_cell(rec, Slot(first + i));
-        if (c.notar == 0) & (c.skip == 0) {
-            return true;
-        }
-    }
-    false
+        (c.notar == 0) & (c.skip == 0)
+    })
 }

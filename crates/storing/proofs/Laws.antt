@@ -12,7 +12,6 @@ use Rattle.rulebook.specs.declared.VoteKind.TheVariants as vote
 use Rattle.rulebook.specs.declared.Who.{Who}
 use Rattle.rulebook.specs.declared.Who.TheVariants as who
 use Rattle.rulebook.specs.Weights.{stake_in, total_to}
-use Rattle.rulebook.specs.PaperNumbers.{vote_number}
 use Rattle.rulebook.specs.Ledger.{Ledger, Row, no_row, row_at, cell_at, put_cell, put_card, put_vote}
 use Rattle.rulebook.specs.Pool.{weigh}
 use Rattle.rulebook.specs.Cards.{Light, tallied, adds, change_of}
