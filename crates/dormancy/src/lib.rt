@@ -1,7 +1,7 @@
 // Whether a look that weighs nothing shows that no rule applies in a slot.
 #![tactic(auto)]
 
-ghost use Rattle.std.specs.Prelude.{◌≡◌, ◌+◌, ◌*◌, ◌≤◌, length};
+ghost use Rattle.std.specs.Prelude.{◌≡◌, ◌+◌, ◌*◌, ◌≤◌, ◌<◌, length};
 ghost use Rattle.rulebook.specs.Ledger.{most_certificates};
 ghost use Rattle.record.specs.Layout.{InSlot, ledger_of};
 ghost use Rattle.pool.specs.Weighing.{Carded};
@@ -87,31 +87,17 @@ fn is_bare(rec: &[u64], s: Slot) -> bool
     no_initial(own_cell(rec, s)) & (b.number == 0)
 }
 
-// Whether one of a slot's places for certificates names a block, where masks have one word; from is the first place's word. All are asked,
-// with no branch between them.
-fn few_name(rec: &[u64], from: usize) -> bool
-    requires { from + most_certificates * 3 ≤ length rec.now }
-    ensures { result ≡ names_from rec.now from 3 most_certificates }
+// Whether one of a slot's places for certificates names a block, where a place has so many words; from is the first place's word. All are
+// asked, with no branch between them.
+fn some_name<const WORDS: usize>(rec: &[u64], from: usize) -> bool
+    requires { 0 < WORDS × (from + most_certificates * WORDS ≤ length rec.now) }
+    ensures { result ≡ names_from rec.now from WORDS most_certificates }
 {
     let mut named = false;
-    for n in 0..MOST_CERTIFICATES {
-        let b = rec[from + SMALL_WORDS * n];
-        named = named | (b != 0);
+    for place in rec[from..from + MOST_CERTIFICATES * WORDS].chunks_exact(WORDS) {
+        named |= place[0] != 0;
     }
     named
-}
-
-// Likewise where masks have 32 words, up to the first that names one.
-fn many_name(rec: &[u64], from: usize) -> bool
-    requires { from + most_certificates * 65 ≤ length rec.now }
-    ensures { result ≡ names_from rec.now from 65 most_certificates }
-{
-    for n in 0..MOST_CERTIFICATES {
-        if rec[from + LARGE_WORDS * n] != 0 {
-            return true;
-        }
-    }
-    false
 }
 
 // Whether a kept certificate of a slot names a block. In small records and in large ones it is known how far the places are apart, so that
@@ -122,9 +108,10 @@ fn names_kept(rec: &[u64], s: Slot) -> bool
 {
     let from = kept_start(rec, s, 0);
     if mask_words(places_in(rec)) == 1 {
-        return few_name(rec, from);
+        some_name::<SMALL_WORDS>(rec, from)
+    } else {
+        some_name::<LARGE_WORDS>(rec, from)
     }
-    many_name(rec, from)
 }
 
 // Whether votes may make another block final than the slot's final one: the leader is another and reaches 60.
