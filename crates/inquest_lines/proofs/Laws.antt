@@ -12,9 +12,7 @@ use borrow.Author.Tests.{le-leb, leb-true, leb-false, eq-eqb, ne_eqb}
 use Rattle.rulebook.specs.Writers.{over}
 use Rattle.rulebook.specs.Ledger.{none}
 use Rattle.rule_laws.proofs.ToolLaws.{by_test, given_on, given_off}
-use denote.Ref.{MutBor}
-use Rattle.differences.specs.Rows.{OnList, Counted}
-use Rattle.differences.specs.Rows as rows
+use Rattle.differences.specs.Rows.{Counted}
 use Rattle.differences.proofs.Rows.{Spelled, spelled_by}
 pub use Rattle.differences.proofs.Rows.{laid_none, laid_then, laid_as, laid_length}
 use Rattle.inquest.specs.declared.Line.{Line}
@@ -23,7 +21,7 @@ use Rattle.inquest.specs.Stands.{none_or}
 use Rattle.inquest.specs.Lists.{line_of, unless, lines_to}
 use Rattle.inquest_lines.specs.declared.ListRefusal.{ListRefusal}
 use Rattle.inquest_lines.specs.declared.ListRefusal.TheVariants as why
-use Rattle.inquest_lines.specs.Lent.{spell_line, spell_lines, Told, refused_by, put_in, listed_in, ToldIn, ListsLines, Laid}
+use Rattle.inquest_lines.specs.Lent.{spell_line, spell_lines, Told, refused_by, put_in, listed_in, ToldIn, Laid}
 
 -- ---- one run of lines after another
 
@@ -121,11 +119,3 @@ told_nothing list =
     told_as (put_in (length list) 0 []) (record { answer = Ok 0; words = [] })
     (given_on (leb 0 (length list)) (refused_by (Err (why.NoRoom 0))) (λ _. record { answer = Ok 0; words = [] }) (le-leb 0 (length list) (omega arith)))
     (record { answered = refl; listed = sym (over_nothing list) })
-
--- Lines of any kind by what puts them into whatever list it is given.
-module _ {A : Type 0} {spell : List A → List ℕ} (k : Spelled spell) (xs : List A) where
-  pub all_told : {F : Type 0} (g : OnList F) (put : F) {list left : List ℕ} {r : Result ℕ ListRefusal} → ListsLines g put list r left
-      → ((x : MutBor (List ℕ)) (m : ℕ) (y : MutBor (List ℕ)) → g.post put (x, tt) (m, (y, tt)) → rows.Laid spell x.now 0 xs y.now m)
-      → ToldIn list (put_in (length list) (length xs) (spell xs)) r left
-  all_told g put w h =
-      w (length xs) (spell xs) (k.five xs) (λ x m y e. let v = h x m y e in let n : m ≡ length xs = omega (arith, v.many) in (n, v.words))

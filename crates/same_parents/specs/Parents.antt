@@ -1,6 +1,5 @@
 -- Which blocks of a slot and a number two records keep with two parents, as lines; what is answered, and the lent list afterwards.
 use Rattle.std.specs.Prelude.{◌≡◌, Bool, true, false, List, [], ◌∷◌, ◌++◌, ℕ, zero, suc, ◌+◌, ◌*◌, ◌≤◌, length, get_or, Result}
-use Rattle.std.proofs.lemmas.List.Edits.{sets}
 use Rattle.rulebook.specs.declared.Block.{Block}
 use Rattle.rulebook.specs.Tools.{whenever}
 use Rattle.rulebook.specs.Weights.{last_slot}
@@ -9,6 +8,7 @@ use Rattle.record.specs.Layout.{ledger_of, InSlot}
 use Rattle.difference_lines.specs.declared.Side.{Side}
 use Rattle.difference_lines.specs.declared.Side.TheVariants as side
 use Rattle.difference_lines.specs.Lines.{side_number}
+use Rattle.differences.specs.Rows as rows
 use Rattle.inquest.specs.Vouched.{one_block, same_parents}
 use Rattle.inquest_lines.specs.declared.ListRefusal.{ListRefusal}
 use Rattle.inquest_lines.specs.Lent.{Told, put_in, ToldIn}
@@ -76,9 +76,8 @@ NothingTwice = (l r : Ledger) → is_empty (twice l r) ≡ same_parents l r
 -- ---- the parts
 
 -- Lines put into the list behind the first `at`, as far as it reaches, every other word as it was; and how many there are then.
-pub record Laid (list : List ℕ) (at : ℕ) (xs : List ParentLine) (left : List ℕ) (next : ℕ) : Type 0 where
-  pub words : left ≡ sets list (5 * at) (spell_lines xs)
-  pub many : next ≡ at + length xs
+abbrev pub Laid : List ℕ → ℕ → List ParentLine → List ℕ → ℕ → Type 0
+Laid = rows.Laid spell_lines
 
 -- Two for each of sixteen pairs of places, in each of sixteen slots.
 abbrev pub most_lines : ℕ

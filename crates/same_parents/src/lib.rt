@@ -10,17 +10,14 @@ ghost use Rattle.inquest_lines.specs.Lent.{ToldIn};
 ghost use Rattle.same_parents.specs.Parents.{Laid, most_lines, pair_lines, place_lines, slot_lines, twice, twice_in, Beside, InBoth, ParentsOf};
 
 use difference_lines::Side;
-use differences::{put_word, same_tables, side_number};
-use inquest_lines::ListRefusal;
+use differences::{put_row, side_number};
+use inquest_lines::{ListRefusal, list_lines};
 use record::{LAST_SLOT, MOST_BLOCKS, load_block};
-use rulebook::{Block, Refusal, Slot};
-use soundness::sound;
-
-// How many words a line has.
-const LINE_WORDS: usize = 5;
+use rulebook::{Block, Slot};
+use vouching::comparable;
 
 // A block that one of two records keeps in a slot, with its parent.
-#[derive(Clone, Copy)]
+#[derive(Clone, Copy, Debug, PartialEq, Eq)]
 pub struct ParentLine {
     pub slot: Slot,
     pub block: Block,
@@ -28,13 +25,11 @@ pub struct ParentLine {
 }
 
 // Whether two places that keep a block of one number keep it with one parent.
+#[tactic(auto, unfolding(inquest::specs::Vouched::one_block, rulebook::specs::Inputs::same_block))]
 fn one_block(a: Block, b: Block) -> bool
     ensures { result ≡ one_block a b }
 {
-    let p = a.parentslot;
-    let q = b.parentslot;
-    let same = (a.number == b.number) & ((p.0 == q.0) & (a.parent == b.parent));
-    ((a.number == 0) | !(b.number == a.number)) | same
+    (a.number == 0) | (b.number != a.number) | (a == b)
 }
 
 // Puts a line behind the first `at`, as far as the list reaches, and answers how many there are then.
@@ -42,17 +37,14 @@ fn put_line(list: &mut [u64], at: usize, x: ParentLine) -> usize
     requires { at + 1 ≤ most_lines }
     ensures { Laid list.old at (x ∷ []) list.new result }
 {
-    let i = LINE_WORDS * at;
-    let slot = x.slot;
-    let block = x.block;
-    let parentslot = block.parentslot;
-    let side = x.side;
-    put_word(list, i, slot.0 as u64);
-    put_word(list, i + 1, block.number);
-    put_word(list, i + 2, parentslot.0 as u64);
-    put_word(list, i + 3, block.parent);
-    put_word(list, i + 4, side_number(side));
-    at + 1
+    let row = [
+        x.slot.0 as u64,
+        x.block.number,
+        x.block.parentslot.0 as u64,
+        x.block.parent,
+        side_number(x.side),
+    ];
+    put_row(list, at, row)
 }
 
 // Puts the two lines of a number that two places keep with two parents.
@@ -120,14 +112,7 @@ fn list_twice(list: &mut [u64], one: &[u64], two: &[u64]) -> Result<usize, ListR
     requires { Sounds one.now two.now }
     ensures { ToldIn list.old (twice_in (length list.old) (twice (ledger_of one.now) (ledger_of two.now))) result list.new }
 {
-    let needed = put_slots(&mut list[0..0], one, two);
-    if list.len() < LINE_WORDS * needed {
-        return Err(ListRefusal::NoRoom(needed));
-    }
-    if needed == 0 {
-        return Ok(0);
-    }
-    Ok(put_slots(list, one, two))
+    list_lines(list, |part| put_slots(part, one, two))
 }
 
 // Which blocks of a slot and a number two records keep with two parents, as lines from the list's front. Refused with 17 and the side,
@@ -135,14 +120,6 @@ fn list_twice(list: &mut [u64], one: &[u64], two: &[u64]) -> Result<usize, ListR
 pub fn same_parents(one: &[u64], two: &[u64], list: &mut [u64]) -> Result<usize, ListRefusal>
     ensures { ParentsOf one.now two.now list.old result list.new }
 {
-    if !sound(one) {
-        return Err(ListRefusal::BadRecord(Side::First));
-    }
-    if !sound(two) {
-        return Err(ListRefusal::BadRecord(Side::Second));
-    }
-    if !same_tables(one, two) {
-        return Err(ListRefusal::Refused(Refusal::BadSizes));
-    }
+    comparable(one, two)?;
     list_twice(list, one, two)
 }

@@ -1,20 +1,9 @@
--- Too short, none, or all of them; the empty part came back as it was.
-use native.Mathlib.Omega.{arith}
-use Rattle.same_parents.proofs.Laws.{all_most, back_cramped, back_nothing, back_whole}
+-- All lines, or 9.
+use Rattle.std.proofs.Common.{rules}
+use Rattle.same_parents.specs.Parents.{twice_in}
+use Rattle.same_parents.proofs.Laws.{spelled}
 use Rattle.same_parents.proofs.list_twice.Goals as goal
 
-pub overflow_mul-needed : goal.overflow_mul-needed
-overflow_mul-needed c = let a = c.args in omega (arith, c.put_slots-needed.ensures.many, all_most a.one.now a.two.now)
-
-pub returns-then-list-needed : goal.returns-then-list-needed
-returns-then-list-needed c =
-    let p = c.put_slots-needed in back_cramped c.args.list.now _ p.new.list p.auto.list p.ensures c.if-list-needed.true
-
-pub returns-then-needed-eq0 : goal.returns-then-needed-eq0
-returns-then-needed-eq0 c =
-    let p = c.put_slots-needed in back_nothing c.args.list.now _ p.new.list p.auto.list p.ensures c.if-needed-eq0.true
-
 pub returns : goal.returns
-returns c =
-    let p = c.put_slots-needed in
-    back_whole c.args.list.now _ p.new.list p.auto.list p.ensures c.if-list-needed.false c.put_slots.ensures
+unfolding twice_in
+returns c = c.list_lines.ensures _ _ (spelled.five _) (λ x m y e. search rules)

@@ -1,9 +1,9 @@
--- The five words one after the other.
-use mathlib.Core.Path.{refl}
-use Rattle.same_parents.proofs.Laws.{line_put}
+-- The five words of the line.
+use Rattle.std.proofs.Common.{rules}
+use Rattle.differences.proofs.Rows.{row_laid}
+use Rattle.same_parents.specs.Parents.{spell_lines}
 use Rattle.same_parents.proofs.put_line.Goals as goal
 
 pub returns : goal.returns
-returns c =
-    line_put c.args.x c.put_word.ensures c.put_word-2.ensures c.put_word-3.ensures
-    c.put_word-4.ensures c.side_number.ensures c.put_word-5.ensures refl
+unfolding spell_lines
+returns c = row_laid _ (search rules) c.put_row.ensures
