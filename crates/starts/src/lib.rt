@@ -30,9 +30,7 @@ fn begin(rec: &mut [u64], stakes: &[u64], own: Node, odd: bool, genesis: u64) ->
     if rec.len() != record_words(stakes.len()) {
         return Err(Refusal::BadRecord);
     }
-    let Some(table) = make_table(stakes) else {
-        return Err(Refusal::BadSizes);
-    };
+    let table = make_table(stakes).ok_or(Refusal::BadSizes)?;
     if odd | (genesis == 0) {
         return Err(Refusal::BadSizes);
     }
