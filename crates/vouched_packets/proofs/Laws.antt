@@ -30,7 +30,7 @@ use Rattle.inquest.specs.Lists.{signer_lacks, found_lacks, next_lacks, lacking_i
 use Rattle.inquest_lines.specs.declared.ListRefusal.{ListRefusal}
 use Rattle.inquest_lines.specs.declared.ListRefusal.TheVariants as why
 use Rattle.inquest_lines.specs.Lent.{Laid, Told, refused_by, listed_in, ToldIn}
-use Rattle.inquest_lines.proofs.Laws.{laid_none, laid_then, laid_as, told_as, told_refused, back_nothing}
+use Rattle.inquest_lines.proofs.Laws.{spelled, laid_none, laid_then, laid_as, told_as, told_refused, told_nothing}
 use Rattle.signer_lines.specs.declared.Signer.{Signer}
 use Rattle.signer_lines.specs.Signers.{lacks}
 use Rattle.signer_lines.proofs.Laws.{signer_lacks_lem, signer_most}
@@ -45,13 +45,10 @@ module _ (packet : List ℕ) (f : found.Found) (h : Result (Heading × ℕ) Unre
   unfolding found_as end_in
   end_whole x next k = sym (ap (λ (g : Result (Heading × ℕ) Unread). end_in packet (found_as g a b)) k) ∙ ap (end_in packet) e
 
-  pub end_early : h ≡ Err Early → length packet ≡ end_in packet f
+  pub end_failed : (u : Unread) → h ≡ Err u → length packet ≡ end_in packet f
   unfolding found_as end_in
-  end_early k = sym (ap (λ (g : Result (Heading × ℕ) Unread). end_in packet (found_as g a b)) k) ∙ ap (end_in packet) e
-
-  pub end_malformed : h ≡ Err Malformed → length packet ≡ end_in packet f
-  unfolding found_as end_in
-  end_malformed k = sym (ap (λ (g : Result (Heading × ℕ) Unread). end_in packet (found_as g a b)) k) ∙ ap (end_in packet) e
+  end_failed Early k = sym (ap (λ (g : Result (Heading × ℕ) Unread). end_in packet (found_as g a b)) k) ∙ ap (end_in packet) e
+  end_failed Malformed k = sym (ap (λ (g : Result (Heading × ℕ) Unread). end_in packet (found_as g a b)) k) ∙ ap (end_in packet) e
 
 -- ---- the check
 
@@ -83,13 +80,10 @@ no_votes_lem ws s h =
 -- ---- a certificate
 
 module _ (r : Ledger) (f : found.Found) (h : Result (Heading × ℕ) Unread) (a b : List ℕ) (e : found_as h a b ≡ f) {list : List ℕ} {at : ℕ} where
-  pub found_early : h ≡ Err Early → Laid list at (found_lacks r f) list at
+  pub found_failed : (u : Unread) → h ≡ Err u → Laid list at (found_lacks r f) list at
   unfolding found_as found_lacks
-  found_early k = laid_as (sym (ap (λ (g : Result (Heading × ℕ) Unread). found_lacks r (found_as g a b)) k) ∙ ap (found_lacks r) e) (laid_none list at)
-
-  pub found_malformed : h ≡ Err Malformed → Laid list at (found_lacks r f) list at
-  unfolding found_as found_lacks
-  found_malformed k = laid_as (sym (ap (λ (g : Result (Heading × ℕ) Unread). found_lacks r (found_as g a b)) k) ∙ ap (found_lacks r) e) (laid_none list at)
+  found_failed Early k = laid_as (sym (ap (λ (g : Result (Heading × ℕ) Unread). found_lacks r (found_as g a b)) k) ∙ ap (found_lacks r) e) (laid_none spelled list at)
+  found_failed Malformed k = laid_as (sym (ap (λ (g : Result (Heading × ℕ) Unread). found_lacks r (found_as g a b)) k) ∙ ap (found_lacks r) e) (laid_none spelled list at)
 
   pub found_put : (x : Heading) (p w : ℕ) {left : List ℕ} {next : ℕ} → h ≡ Ok (x, p) → w ≡ words_in x.kind
       → Laid list at (read_lacks r (certificate_of x (take w a) (take w b))) left next → Laid list at (found_lacks r f) left next
@@ -121,7 +115,7 @@ pub packet_put : (r : Ledger) (packet : List ℕ) {l m n : List ℕ} {p q e : �
     → Laid l 0 (lacking_in r packet) n q
 unfolding lacking_in
 packet_put r packet k w v =
-    laid_then w (laid_as (ap (λ (i : ℕ). found_lacks r (certificate_at packet i)) k ∙ next_is r packet (certificate_at packet 0)) v)
+    laid_then spelled w (laid_as (ap (λ (i : ℕ). found_lacks r (certificate_at packet i)) k ∙ next_is r packet (certificate_at packet 0)) v)
 
 pub packet_most : (r : Ledger) (packet : List ℕ) → length (lacking_in r packet) ≤ 4
 unfolding lacking_in
@@ -161,7 +155,7 @@ module _ (ws packet list : List ℕ) where
       unfolding packet_lacks
       watcher_told w =
           told_as (packet_on ws packet (length list)) (listed_in (length list) [])
-          (listed [] (given_off (not (is_watcher (ledger_of ws))) [] (λ _. lacking_in (ledger_of ws) packet) (ap not w))) (back_nothing list [] [] refl (laid_none [] 0) refl)
+          (listed [] (given_off (not (is_watcher (ledger_of ws))) [] (λ _. lacking_in (ledger_of ws) packet) (ap not w))) (told_nothing list)
 
       pub firm_told : {r : Result ℕ ListRefusal} {left : List ℕ} → is_watcher (ledger_of ws) ≡ false → ToldIn list (listed_in (length list) (lacking_in (ledger_of ws) packet)) r left → PacketOf ws packet list r left
       unfolding packet_lacks

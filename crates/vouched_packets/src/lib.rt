@@ -13,15 +13,12 @@ ghost use Rattle.vouched_packets.specs.Asked.{first_end, check_packet, read_lack
 
 use certificate_numbers::{MOST_WORDS, read_certificate, words_in};
 use checker::{check_certificate, check_proof};
-use inquest_lines::ListRefusal;
+use inquest_lines::{ListRefusal, list_lines};
 use kinds::kind_in;
 use record::{LAST_SLOT, count, is_watcher, own, own_cell, stakes_of};
-use rulebook::{Accepted, Unread, Cell, Heading, Refusal, Slot};
+use rulebook::{Accepted, Cell, Heading, Refusal, Slot};
 use signer_lines::{Signer, names, put_signer};
 use soundness::sound;
-
-// How many words a line has.
-const LINE_WORDS: usize = 5;
 
 // Where the packet's first certificate ends; the packet's end where there is none.
 fn first_end(packet: &[u8]) -> usize
@@ -29,11 +26,9 @@ fn first_end(packet: &[u8]) -> usize
 {
     let mut a = [0u64; MOST_WORDS];
     let mut b = [0u64; MOST_WORDS];
-    let found = read_certificate(packet, 0, &mut a, &mut b);
-    match found {
-        Err(Unread::Early) => packet.len(),
-        Err(Unread::Malformed) => packet.len(),
+    match read_certificate(packet, 0, &mut a, &mut b) {
         Ok((_, next)) => next,
+        Err(_) => packet.len(),
     }
 }
 
@@ -91,14 +86,12 @@ fn put_found(list: &mut [u64], at: usize, rec: &[u64], packet: &[u8], from: usiz
 {
     let mut a = [0u64; MOST_WORDS];
     let mut b = [0u64; MOST_WORDS];
-    let found = read_certificate(packet, from, &mut a, &mut b);
-    match found {
-        Err(Unread::Early) => at,
-        Err(Unread::Malformed) => at,
+    match read_certificate(packet, from, &mut a, &mut b) {
         Ok((c, _)) => {
             let words = words_in(c.kind);
             put_read(list, at, rec, c, &a[..words], &b[..words])
         }
+        Err(_) => at,
     }
 }
 
@@ -116,14 +109,7 @@ fn list_packet(list: &mut [u64], rec: &[u64], packet: &[u8]) -> Result<usize, Li
     requires { Long rec.now }
     ensures { ToldIn list.old (listed_in (length list.old) (lacking_in (ledger_of rec.now) packet.now)) result list.new }
 {
-    let needed = put_packet(&mut list[0..0], rec, packet);
-    if list.len() < LINE_WORDS * needed {
-        return Err(ListRefusal::NoRoom(needed));
-    }
-    if needed == 0 {
-        return Ok(0);
-    }
-    Ok(put_packet(list, rec, packet))
+    list_lines(list, |part| put_packet(part, rec, packet))
 }
 
 // Which votes a packet counts the record's firm for and the record lacks, as lines from the list's front; a watcher has no firm's votes.
@@ -135,16 +121,11 @@ pub fn vouched_packet(rec: &[u64], packet: &[u8], list: &mut [u64]) -> Result<us
     if !sound(rec) {
         return Err(ListRefusal::Refused(Refusal::BadRecord));
     }
-    let checked = check_packet(stakes_of(rec), packet);
-    match checked {
-        Err(r) => Err(ListRefusal::Refused(r)),
-        Ok(_) => {
-            if is_watcher(rec) {
-                return Ok(0);
-            }
-            list_packet(list, rec, packet)
-        }
+    check_packet(stakes_of(rec), packet)?;
+    if is_watcher(rec) {
+        return Ok(0);
     }
+    list_packet(list, rec, packet)
 }
 
 // Where a finality proof falls into its certificates, each of which a node takes by itself: the bytes of the first, all of them where it is
@@ -155,9 +136,6 @@ pub fn split_proof(rec: &[u64], packet: &[u8]) -> Result<usize, Refusal>
     if !sound(rec) {
         return Err(Refusal::BadRecord);
     }
-    let checked = check_proof(stakes_of(rec), packet);
-    match checked {
-        Err(r) => Err(r),
-        Ok(_) => Ok(first_end(packet)),
-    }
+    check_proof(stakes_of(rec), packet)?;
+    Ok(first_end(packet))
 }

@@ -1,4 +1,6 @@
 -- 17, what the proof checker says, or where the first certificate ends.
+use Rattle.std.specs.Prelude.{◌≡◌, Err}
+use Rattle.std.proofs.Common.{rules}
 use mathlib.Core.Path.{◌∙◌, ap, sym}
 use mathlib.Core.Bool.{true}
 use mathlib.Core.List.{List}
@@ -15,12 +17,14 @@ returns-then-not-sound c =
 pub stakes_of-requires : goal.stakes_of-requires
 stakes_of-requires c = sound_counted _ ((sym c.sound.ensures ∙ c.if-not-sound.false))
 
-pub returns-in-Err : goal.returns-in-Err
-returns-in-Err c =
+pub returns-in_err-check_proof : goal.returns-in_err-check_proof
+returns-in_err-check_proof c =
     let a = c.args in
-    split_refused a.rec.now a.packet.now ((sym c.sound.ensures ∙ c.if-not-sound.false)) _ (sym c.in-Err.is ∙ (c.check_proof-checked.ensures ∙ ap (λ (ws : List ℕ). check_proof ws c.args.packet.now) c.stakes_of.ensures))
+    let e : c.from_residual.result ≡ Err c.in_err-check_proof.field-0.0 = search rules in
+    e ∙ split_refused a.rec.now a.packet.now (sym c.sound.ensures ∙ c.if-not-sound.false) _
+    (sym c.in_err-check_proof.was ∙ (c.check_proof.ensures ∙ ap (λ (ws : List ℕ). check_proof ws c.args.packet.now) c.stakes_of.ensures))
 
-pub returns-in-Ok : goal.returns-in-Ok
-returns-in-Ok c =
+pub returns : goal.returns
+returns c =
     let a = c.args in
-    split_there a.rec.now a.packet.now ((sym c.sound.ensures ∙ c.if-not-sound.false)) _ (sym c.in-Ok.is ∙ (c.check_proof-checked.ensures ∙ ap (λ (ws : List ℕ). check_proof ws c.args.packet.now) c.stakes_of.ensures)) _ c.first_end.ensures
+    split_there a.rec.now a.packet.now ((sym c.sound.ensures ∙ c.if-not-sound.false)) _ (sym c.in_ok-check_proof.was ∙ (c.check_proof.ensures ∙ ap (λ (ws : List ℕ). check_proof ws c.args.packet.now) c.stakes_of.ensures)) _ c.first_end.ensures

@@ -1,9 +1,12 @@
 -- 17, what the checker says, a watcher, or the lines.
+use Rattle.std.specs.Prelude.{◌≡◌, Err}
+use Rattle.std.proofs.Common.{rules}
 use mathlib.Core.Path.{◌∙◌, ap, sym}
 use mathlib.Core.Bool.{true}
 use Prim.Native.Nat.{ℕ}
 use mathlib.Core.List.{List}
 use Rattle.soundness.proofs.Laws.{sound_long, sound_counted}
+use Rattle.inquest_lines.specs.declared.ListRefusal.TheVariants as why
 use Rattle.vouched_packets.specs.Asked.{check_packet}
 use Rattle.vouched_packets.proofs.Laws.{bad_told, refused_told, watcher_told, firm_told}
 use Rattle.vouched_packets.proofs.vouched_packet.Goals as goal
@@ -21,17 +24,18 @@ is_watcher-requires c = sound_long _ ((sym c.sound.ensures ∙ c.if-not-sound.fa
 pub returns-then-is_watcher : goal.returns-then-is_watcher
 returns-then-is_watcher c =
     let a = c.args in
-    watcher_told a.rec.now a.packet.now a.list.now ((sym c.sound.ensures ∙ c.if-not-sound.false)) ((c.check_packet-checked.ensures ∙ ap (λ (ws : List ℕ). check_packet ws c.args.packet.now) c.stakes_of.ensures)) _ c.in-Ok.is (sym c.is_watcher.ensures ∙ c.if-is_watcher.true)
+    watcher_told a.rec.now a.packet.now a.list.now ((sym c.sound.ensures ∙ c.if-not-sound.false)) ((c.check_packet.ensures ∙ ap (λ (ws : List ℕ). check_packet ws c.args.packet.now) c.stakes_of.ensures)) _ c.in_ok-check_packet.was (sym c.is_watcher.ensures ∙ c.if-is_watcher.true)
 
 pub list_packet-requires : goal.list_packet-requires
 list_packet-requires c = sound_long _ ((sym c.sound.ensures ∙ c.if-not-sound.false))
 
-pub returns-in-Err : goal.returns-in-Err
-returns-in-Err c =
+pub returns-in_err-check_packet : goal.returns-in_err-check_packet
+returns-in_err-check_packet c =
     let a = c.args in
-    refused_told a.rec.now a.packet.now a.list.now ((sym c.sound.ensures ∙ c.if-not-sound.false)) ((c.check_packet-checked.ensures ∙ ap (λ (ws : List ℕ). check_packet ws c.args.packet.now) c.stakes_of.ensures)) _ c.in-Err.is
+    let e : c.from_residual.result ≡ Err (why.Refused c.in_err-check_packet.field-0.0) = search rules in
+    rw e (refused_told a.rec.now a.packet.now a.list.now (sym c.sound.ensures ∙ c.if-not-sound.false) (c.check_packet.ensures ∙ ap (λ (ws : List ℕ). check_packet ws c.args.packet.now) c.stakes_of.ensures) _ c.in_err-check_packet.was)
 
-pub returns-else-is_watcher : goal.returns-else-is_watcher
-returns-else-is_watcher c =
+pub returns : goal.returns
+returns c =
     let a = c.args in
-    firm_told a.rec.now a.packet.now a.list.now ((sym c.sound.ensures ∙ c.if-not-sound.false)) ((c.check_packet-checked.ensures ∙ ap (λ (ws : List ℕ). check_packet ws c.args.packet.now) c.stakes_of.ensures)) _ c.in-Ok.is (sym c.is_watcher.ensures ∙ c.if-is_watcher.false) c.list_packet.ensures
+    firm_told a.rec.now a.packet.now a.list.now ((sym c.sound.ensures ∙ c.if-not-sound.false)) ((c.check_packet.ensures ∙ ap (λ (ws : List ℕ). check_packet ws c.args.packet.now) c.stakes_of.ensures)) _ c.in_ok-check_packet.was (sym c.is_watcher.ensures ∙ c.if-is_watcher.false) c.list_packet.ensures
