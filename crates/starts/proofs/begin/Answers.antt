@@ -1,5 +1,7 @@
 -- The length, then the sizes, else the fresh ledger's words.
-use mathlib.Core.Path.{◌∙◌, sym}
+use Rattle.std.specs.Prelude.{Result, Some, Err}
+use borrow.Author.Rules.{rules}
+use mathlib.Core.Path.{◌≡◌, sym, ◌∙◌}
 use native.Mathlib.Omega.{arith}
 use Rattle.rulebook.specs.declared.Refusal.{Refusal}
 use Rattle.rulebook.specs.declared.Refusal.TheVariants as refusal
@@ -22,11 +24,11 @@ returns-in_err-table c =
     rw (q, b)
     (begun_unfit a.rec.now a.stakes.now a.own.0 a.odd a.genesis _ c.record_words.ensures c.if-rec-record_words.false (sym c.in_err-table.ensures.ok_part ∙ c.make_table.ensures))
 
-pub returns-then-odd : goal.returns-then-odd
-returns-then-odd c =
+pub returns-then-odd-genesis : goal.returns-then-odd-genesis
+returns-then-odd-genesis c =
     let a = c.args in
     let e : Some c.in_ok-table.table ≡ made_of a.stakes.now = sym c.in_ok-table.ensures.ok_part ∙ c.make_table.ensures in
-    begun_odd a.rec.now a.stakes.now a.own.0 a.odd a.genesis _ c.record_words.ensures c.if-rec-record_words.false _ e c.if-odd.true
+    begun_odd a.rec.now a.stakes.now a.own.0 a.odd a.genesis _ c.record_words.ensures c.if-rec-record_words.false _ e c.if-odd-genesis.true
 
 pub set_up-requires : goal.set_up-requires
 set_up-requires c =
@@ -38,5 +40,5 @@ pub returns : goal.returns
 returns c =
     let a = c.args in
     let e : Some c.in_ok-table.table ≡ made_of a.stakes.now = sym c.in_ok-table.ensures.ok_part ∙ c.make_table.ensures in
-    begun_done a.rec.now a.stakes.now a.own.0 a.odd a.genesis _ c.record_words.ensures c.if-rec-record_words.false _ e _ c.if-odd.false (λ n. (c.type_inv.rec n).fits)
+    begun_done a.rec.now a.stakes.now a.own.0 a.odd a.genesis _ c.record_words.ensures c.if-rec-record_words.false _ e _ c.if-odd-genesis.false (λ n. (c.type_inv.rec n).fits)
     (omega (arith, c.set_up.auto.rec, c.if-rec-record_words.false, c.record_words.ensures)) c.set_up.ensures
