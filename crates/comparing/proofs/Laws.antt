@@ -1,8 +1,8 @@
 -- Laws of a node set aside, of a comparison's line and of a record's bytes. Assumes nothing.
-use mathlib.Core.Path.{◌≡◌, sym, ap, ◌∙◌}
+use mathlib.Core.Path.{◌≡◌, refl, sym, ap, ◌∙◌}
 use mathlib.Core.Bool.{true, false}
-use mathlib.Core.List.{List, [], ◌∷◌, ◌++◌}
-use Prim.Native.Nat.{ℕ, suc, ◌+◌, ◌-◌, ◌/◌, ◌%◌, ◌≤◌, ◌<◌, min}
+use mathlib.Core.List.{List}
+use Prim.Native.Nat.{ℕ, ◌+◌, ◌/◌, min}
 use native.Mathlib.Omega.{arith}
 use native.Mathlib.Numerals.{add-one}
 use lib.ListN.{length, get_or}
@@ -11,6 +11,8 @@ use Rattle.rule_laws.proofs.ToolLaws.{choose_on, choose_off}
 use Rattle.soundness.specs.Sound.{sound_words}
 use Rattle.lines.specs.Put.{Put}
 use Rattle.lines.proofs.Putting.{as_text, and_then, put_nothing}
+use mir.Syntax.{w64}
+use Rattle.std.specs.Int.{to_le_bytes}
 use Rattle.comparing.specs.Compared.{SetAside, parts_to, line_text, lines_text, bytes_of, word_bytes, words_bytes}
 
 -- ---- a node set aside
@@ -52,17 +54,14 @@ module _ {l l' : List ℕ} {at p : ℕ} where
   unfolding words_bytes
   last_word words i e w = as_text (ap (parts_to (bytes_at words)) e) w
 
-  -- With the bytes before the present one put, what is left of a word makes the whole.
-  pub next_byte : {l'' : List ℕ} {q : ℕ} (i w b : ℕ) → i < 8 → b ≡ w % 256 → Put l at (b ∷ []) l' p → Put l' p (bytes_of (8 - (i + 1)) (w / 256)) l'' q
-      → Put l at (bytes_of (8 - i) w) l'' q
-  unfolding bytes_of
-  next_byte {l''} {q} i w b h e v u =
-      let n : 8 - i ≡ suc (8 - (i + 1)) = omega arith in
-      as_text (ap (λ (x : ℕ). (x ∷ []) ++ bytes_of (8 - (i + 1)) (w / 256)) e ∙ ap (λ (k : ℕ). bytes_of k w) (sym n)) (and_then v u)
-
--- No byte is left.
-pub no_byte : (l : List ℕ) (at i w : ℕ) → 8 ≤ i → Put l at (bytes_of (8 - i) w) l at
-unfolding bytes_of
-no_byte l at i w h =
-    let n : 8 - i ≡ 0 = omega arith in
-    as_text (ap (λ (k : ℕ). bytes_of k w) (sym n)) (put_nothing l at)
+-- A word's bytes, as the library gives them.
+pub word_is : (w : ℕ) → to_le_bytes w64 w ≡ word_bytes w
+unfolding word_bytes bytes_of
+word_is w =
+    let e2 : w / 256 / 256 ≡ w / 65536 = omega arith in
+    let e3 : w / 65536 / 256 ≡ w / 16777216 = omega arith in
+    let e4 : w / 16777216 / 256 ≡ w / 4294967296 = omega arith in
+    let e5 : w / 4294967296 / 256 ≡ w / 1099511627776 = omega arith in
+    let e6 : w / 1099511627776 / 256 ≡ w / 281474976710656 = omega arith in
+    let e7 : w / 281474976710656 / 256 ≡ w / 72057594037927936 = omega arith in
+    rw (e2, e3, e4, e5, e6, e7) refl

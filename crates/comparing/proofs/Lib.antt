@@ -1,2 +1,3 @@
 -- Laws of what stands aside and of a comparison's line.
 pub mod Laws
+pub mod Lines

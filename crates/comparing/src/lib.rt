@@ -5,20 +5,20 @@
 ghost use Rattle.std.specs.Prelude.{◌≡◌, ◌+◌, ◌*◌, ◌%◌, ◌≤◌, eqb, length};
 ghost use Rattle.rulebook.specs.Tools.{choose};
 ghost use Rattle.lines.specs.Put.{Put};
-ghost use Rattle.comparing.specs.Compared.{line_text, lines_text, differ_line, word_bytes, words_bytes, SetAside};
+ghost use Rattle.comparing.specs.Compared.{line_text, lines_text, differ_line, words_bytes, SetAside};
 
-use door::{fail, file_name, send, send_into};
+use door::{Unwritten, fail, file_name, send, send_into};
 use hex_bytes::read_hex;
 use lines::{put_byte, put_decimal, put_named, put_text};
 use quointrowel::{
     qr_differ, qr_kept_certificates, qr_same_parents, qr_stands, qr_vouched, qr_vouched_packet,
 };
 use replies::{malformed, number};
-use script::{read_numbers, word_at};
-use slices::{copy_words, least};
+use script::{Word, numbers, word_at};
+use slices::copy_words;
 use soundness::sound;
 use std::fs::File;
-use std::io::{Error, ErrorKind, Result};
+use std::io::{Error, ErrorKind};
 use telling::node_words;
 
 // The words of 15,360 lines: more than two nodes of a ring of 64 can have.
@@ -42,9 +42,6 @@ const TWICE_WORDS: usize = 2560;
 // So many words of a record are written at a time: their bytes have room in a page.
 const PIECE_WORDS: usize = 8192;
 
-// How many bytes a word has.
-const WORD_BYTES: usize = 8;
-
 // ---- the node aside
 
 // Sets a record aside; words that are none leave what was set aside before.
@@ -58,34 +55,40 @@ fn set_aside(rec: &[u64], kept: &mut [u64]) -> u64
     0
 }
 
-// aside
-pub fn aside(page: &mut [u8], rec: &[u64], kept: &mut [u64]) -> bool {
+// As many of the words as are the node's.
+fn node_of(rec: &[u64]) -> &[u64] {
     let words = node_words(rec);
-    number(page, set_aside(&rec[0..words], kept))
+    &rec[..words]
+}
+
+// aside
+pub fn aside(page: &mut [u8], rec: &[u64], kept: &mut [u64]) -> Result<(), Unwritten> {
+    number(page, set_aside(node_of(rec), kept))
 }
 
 // ---- which votes differ
 
-// Puts line number i of a list.
-fn put_line(page: &mut [u8], at: usize, list: &[u64], i: usize) -> usize
-    requires { 5 * i + 5 ≤ length list.now }
-    ensures { Put page.old at (line_text list.now i) page.new result }
+// Puts a line of a list.
+fn put_line(page: &mut [u8], at: usize, line: &[u64; 5]) -> usize
+    ensures { Put page.old at (line_text line.now 0) page.new result }
 {
-    let p = put_named(page, at, b" ", list[5 * i]);
-    let q = put_named(page, p, b",", list[5 * i + 1]);
-    let r = put_named(page, q, b",", list[5 * i + 2]);
-    let s = put_named(page, r, b",", list[5 * i + 3]);
-    put_named(page, s, b",", list[5 * i + 4])
+    let [slot, node, kind, block, side] = *line;
+    let p = put_named(page, at, b" ", slot);
+    let q = put_named(page, p, b",", node);
+    let r = put_named(page, q, b",", kind);
+    let s = put_named(page, r, b",", block);
+    put_named(page, s, b",", side)
 }
 
 // Puts the first lines of a list, as many of them as it has.
 fn put_lines(page: &mut [u8], at: usize, list: &[u64], lines: usize) -> usize
     ensures { Put page.old at (lines_text list.now lines) page.new result }
 {
-    let many = least(lines, list.len() / 5);
+    let (all, _) = list.as_chunks::<5>();
+    let many = lines.min(all.len());
     let mut next = at;
-    for i in 0..many {
-        next = put_line(page, next, list, i);
+    for line in &all[..many] {
+        next = put_line(page, next, line);
     }
     next
 }
@@ -108,140 +111,119 @@ fn differ_line(page: &mut [u8], n: u64, beside: usize, list: &[u64]) -> usize
     put_byte(page, r, b'\n')
 }
 
-// differ
-pub fn differ(page: &mut [u8], kept: &[u64], rec: &[u64]) -> bool {
-    let mut list = [0u64; LIST_WORDS];
+// Answers a question by its number, the value beside it, and the list that it fills.
+fn tell_list<F: FnOnce(&mut [u64], &mut usize) -> u64>(
+    page: &mut [u8],
+    list: &mut [u64],
+    ask: F,
+) -> Result<(), Unwritten>
+    requires { F.IsAlwaysCallable ask }
+{
     let mut beside = 0;
-    let first = node_words(kept);
-    let second = node_words(rec);
-    let n = qr_differ(&kept[0..first], &rec[0..second], &mut list, &mut beside);
-    let used = differ_line(page, n, beside, &list);
+    let n = ask(list, &mut beside);
+    let used = differ_line(page, n, beside, list);
     send(page, used)
+}
+
+// differ
+pub fn differ(page: &mut [u8], kept: &[u64], rec: &[u64]) -> Result<(), Unwritten> {
+    let first = node_of(kept);
+    let second = node_of(rec);
+    tell_list(
+        page,
+        &mut [0; LIST_WORDS],
+        |list, beside| qr_differ(first, second, list, beside),
+    )
 }
 
 // ---- which own votes do not stand
 
 // stands
-pub fn stands(page: &mut [u8], rec: &[u64]) -> bool {
-    let mut list = [0u64; FALLEN_WORDS];
-    let mut beside = 0;
-    let words = node_words(rec);
-    let n = qr_stands(&rec[0..words], &mut list, &mut beside);
-    let used = differ_line(page, n, beside, &list);
-    send(page, used)
+pub fn stands(page: &mut [u8], rec: &[u64]) -> Result<(), Unwritten> {
+    let node = node_of(rec);
+    tell_list(
+        page,
+        &mut [0; FALLEN_WORDS],
+        |list, beside| qr_stands(node, list, beside),
+    )
 }
 
 // ---- which certificates a slot keeps
 
 // certificates SLOT
-pub fn certificates(page: &mut [u8], line: &[u8], at: usize, rec: &[u64]) -> bool {
-    let mut args = [0u64; 1];
-    read_numbers(line, at, &mut args);
-    let mut list = [0u64; KEPT_WORDS];
-    let mut beside = 0;
-    let words = node_words(rec);
-    let n = qr_kept_certificates(&rec[0..words], args[0] as usize, &mut list, &mut beside);
-    let used = differ_line(page, n, beside, &list);
-    send(page, used)
+pub fn certificates(page: &mut [u8], line: &[u8], at: usize, rec: &[u64]) -> Result<(), Unwritten> {
+    let [slot] = numbers::<1>(line, at);
+    let node = node_of(rec);
+    tell_list(page, &mut [0; KEPT_WORDS], |list, beside| {
+        qr_kept_certificates(node, slot as usize, list, beside)
+    })
 }
 
 // ---- which votes the node lacks
 
-// The node aside counts them in its name.
-fn vouched_aside(page: &mut [u8], kept: &[u64], rec: &[u64]) -> bool {
-    let mut list = [0u64; LACKED_WORDS];
-    let mut beside = 0;
-    let first = node_words(kept);
-    let second = node_words(rec);
-    let n = qr_vouched(&kept[0..first], &rec[0..second], &mut list, &mut beside);
-    let used = differ_line(page, n, beside, &list);
-    send(page, used)
-}
-
-// A packet does.
-fn vouched_packet(page: &mut [u8], packet: &[u8], rec: &[u64]) -> bool {
-    let mut list = [0u64; SHOWN_WORDS];
-    let mut beside = 0;
-    let words = node_words(rec);
-    let n = qr_vouched_packet(&rec[0..words], packet, &mut list, &mut beside);
-    let used = differ_line(page, n, beside, &list);
-    send(page, used)
-}
-
-// vouched, vouched HEX; a line has no room for more than 32,768 bytes of packet.
-pub fn vouched(page: &mut [u8], line: &[u8], at: usize, kept: &[u64], rec: &[u64]) -> bool {
-    let w = word_at(line, at);
-    let from = w.from;
-    let to = w.to;
+// vouched, vouched HEX: the node aside counts them in its name, or a packet does; a line has no room for more than 32,768 bytes of packet.
+pub fn vouched(
+    page: &mut [u8],
+    line: &[u8],
+    at: usize,
+    kept: &[u64],
+    rec: &[u64],
+) -> Result<(), Unwritten> {
+    let node = node_of(rec);
+    let Word { from, to } = word_at(line, at);
     if to <= from {
-        return vouched_aside(page, kept, rec);
+        let first = node_of(kept);
+        return tell_list(page, &mut [0; LACKED_WORDS], |list, beside| {
+            qr_vouched(first, node, list, beside)
+        });
     }
     let mut bytes = [0u8; 32768];
-    let hex = read_hex(&line[from..to], &mut bytes);
-    let length = hex.size;
-    vouched_packet(page, &bytes[0..length], rec)
+    let Some(size) = read_hex(&line[from..to], &mut bytes) else {
+        return malformed(page);
+    };
+    let packet = &bytes[..size];
+    tell_list(page, &mut [0; SHOWN_WORDS], |list, beside| {
+        qr_vouched_packet(node, packet, list, beside)
+    })
 }
 
 // ---- which blocks have two parents
 
 // parents
-pub fn parents(page: &mut [u8], kept: &[u64], rec: &[u64]) -> bool {
-    let mut list = [0u64; TWICE_WORDS];
-    let mut beside = 0;
-    let first = node_words(kept);
-    let second = node_words(rec);
-    let n = qr_same_parents(&kept[0..first], &rec[0..second], &mut list, &mut beside);
-    let used = differ_line(page, n, beside, &list);
-    send(page, used)
+pub fn parents(page: &mut [u8], kept: &[u64], rec: &[u64]) -> Result<(), Unwritten> {
+    let first = node_of(kept);
+    let second = node_of(rec);
+    tell_list(
+        page,
+        &mut [0; TWICE_WORDS],
+        |list, beside| qr_same_parents(first, second, list, beside),
+    )
 }
 
 // ---- a record saved
 
-// The lowest byte of a word.
-fn low_byte(w: u64) -> u8
-    ensures { result ≡ w % 256 }
-{
-    (w % 256) as u8
-}
-
-// Puts a word's eight bytes, lowest first.
-fn put_bytes(page: &mut [u8], at: usize, w: u64) -> usize
-    ensures { Put page.old at (word_bytes w) page.new result }
-{
-    let mut next = at;
-    let mut rest = w;
-    for i in 0..WORD_BYTES {
-        next = put_byte(page, next, low_byte(rest));
-        rest = rest / 256;
-    }
-    next
-}
-
-// Puts the bytes of words, one after another.
+// Puts the bytes of words, one after another: eight a word, lowest first.
 fn put_words(page: &mut [u8], words: &[u64]) -> usize
     ensures { Put page.old 0 (words_bytes words.now) page.new result }
 {
     let mut next = 0;
-    for i in 0..words.len() {
-        next = put_bytes(page, next, words[i]);
+    for w in words {
+        next = put_text(page, next, &w.to_le_bytes());
     }
     next
 }
 
 // Writes a record into an open file.
-fn write_record(page: &mut [u8], file: &mut File, rec: &[u64]) -> Result<()> {
-    let mut from = 0;
-    while from < rec.len() {
-        let to = least(from + PIECE_WORDS, rec.len());
-        let used = put_words(page, &rec[from..to]);
+fn write_record(page: &mut [u8], file: &mut File, rec: &[u64]) -> std::io::Result<()> {
+    for piece in rec.chunks(PIECE_WORDS) {
+        let used = put_words(page, piece);
         send_into(file, page, used)?;
-        from = to;
     }
     Ok(())
 }
 
 // Has the system write what it still holds, as closing a file tells no error; what lies on no disk has nothing to be written.
-fn settle(file: &File) -> Result<()> {
+fn settle(file: &File) -> std::io::Result<()> {
     match file.sync_all() {
         Err(e) if e.kind() != ErrorKind::InvalidInput => Err(e),
         _ => Ok(()),
@@ -249,7 +231,7 @@ fn settle(file: &File) -> Result<()> {
 }
 
 // Writes a record into the file of that name, which is made, or emptied first.
-fn write_file(rt: &HostRuntime, page: &mut [u8], rec: &[u64], path: &[u8]) -> Result<()> {
+fn write_file(rt: &HostRuntime, page: &mut [u8], rec: &[u64], path: &[u8]) -> std::io::Result<()> {
     let mut file = File::create(rt, file_name(path)?)?;
     write_record(page, &mut file, rec)?;
     settle(&file)
@@ -259,12 +241,12 @@ fn write_file(rt: &HostRuntime, page: &mut [u8], rec: &[u64], path: &[u8]) -> Re
 fn blame(page: &mut [u8], path: &[u8], error: Error) {
     let p = put_text(page, 0, b"panel: not saved: ");
     let q = put_text(page, p, path);
-    let used = least(q, page.len());
-    fail(&page[0..used], error);
+    let used = q.min(page.len());
+    fail(&page[..used], error);
 }
 
 // Writes a record into the file of that name; no file is made for words that are none.
-fn save_as(rt: &HostRuntime, page: &mut [u8], rec: &[u64], path: &[u8]) -> bool {
+fn save_as(rt: &HostRuntime, page: &mut [u8], rec: &[u64], path: &[u8]) -> Result<(), Unwritten> {
     if !sound(rec) {
         return number(page, 17);
     }
@@ -278,10 +260,13 @@ fn save_as(rt: &HostRuntime, page: &mut [u8], rec: &[u64], path: &[u8]) -> bool 
 }
 
 // save FILE
-pub fn save(rt: &HostRuntime, page: &mut [u8], line: &[u8], at: usize, rec: &[u64]) -> bool {
-    let w = word_at(line, at);
-    let from = w.from;
-    let to = w.to;
-    let words = node_words(rec);
-    save_as(rt, page, &rec[0..words], &line[from..to])
+pub fn save(
+    rt: &HostRuntime,
+    page: &mut [u8],
+    line: &[u8],
+    at: usize,
+    rec: &[u64],
+) -> Result<(), Unwritten> {
+    let Word { from, to } = word_at(line, at);
+    save_as(rt, page, node_of(rec), &line[from..to])
 }

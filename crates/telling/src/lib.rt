@@ -65,7 +65,13 @@ pub fn watch(page: &mut [u8], line: &[u8], at: usize, rec: &mut [u64]) -> Result
 }
 
 // vote KIND NODE SLOT BLOCK
-pub fn vote(page: &mut [u8], line: &[u8], at: usize, rec: &mut [u64], outbox: &mut [u64]) -> Result<(), Unwritten> {
+pub fn vote(
+    page: &mut [u8],
+    line: &[u8],
+    at: usize,
+    rec: &mut [u64],
+    outbox: &mut [u64],
+) -> Result<(), Unwritten> {
     let [kind, node, slot, block] = numbers::<4>(line, at);
     let mut made = 0;
     let words = node_words(rec);
@@ -82,7 +88,13 @@ pub fn vote(page: &mut [u8], line: &[u8], at: usize, rec: &mut [u64], outbox: &m
 }
 
 // block SLOT NUMBER PARENTSLOT PARENT
-pub fn block(page: &mut [u8], line: &[u8], at: usize, rec: &mut [u64], outbox: &mut [u64]) -> Result<(), Unwritten> {
+pub fn block(
+    page: &mut [u8],
+    line: &[u8],
+    at: usize,
+    rec: &mut [u64],
+    outbox: &mut [u64],
+) -> Result<(), Unwritten> {
     let [slot, block, parentslot, parent] = numbers::<4>(line, at);
     let mut made = 0;
     let words = node_words(rec);

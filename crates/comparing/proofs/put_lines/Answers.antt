@@ -1,19 +1,17 @@
 -- The loop over the lines: those before the present one are put.
-use native.Mathlib.Omega.{arith}
+use Rattle.lines.proofs.Putting.{as_text}
 use Rattle.comparing.specs.Compared.{line_text}
 use Rattle.comparing.proofs.Laws.{no_part, next_part, last_line}
+use Rattle.comparing.proofs.Lines.{line_alone, last_alone}
 use Rattle.comparing.proofs.put_lines.Goals as goal
 
-pub loop-i-init : goal.loop-i-init
-loop-i-init c = (no_part _ _ (line_text c.args.list.now), omega arith, c.least-many.ensures.value)
+pub loop-line-init : goal.loop-line-init
+loop-line-init c = no_part _ _ (line_text c.args.list.now)
 
-pub put_line-next-requires : goal.put_line-next-requires
-put_line-next-requires c = omega (arith, c.loop-i-test.true, c.loop-i.invariant.2)
-
-pub loop-i-preserved : goal.loop-i-preserved
-loop-i-preserved c =
-    (next_part (line_text c.args.list.now) _ c.loop-i.invariant.0 c.put_line-next.ensures, omega (arith, c.loop-i-test.true), c.loop-i.invariant.2)
+pub loop-line-preserved : goal.loop-line-preserved
+loop-line-preserved c =
+    next_part (line_text c.args.list.now) _ c.loop-line.invariant (as_text (line_alone _ _ _ c.loop-line.line-index c.as_chunks.ensures.front c.as_chunks.ensures.front_len c.loop-line-test.true) c.put_line-next.ensures)
 
 pub returns : goal.returns
 returns c =
-    last_line c.args.list.now _ c.loop-i.i (omega (arith, c.loop-i-test.false, c.loop-i.invariant.1, c.loop-i.invariant.2)) c.loop-i.invariant.0
+    last_line c.args.list.now _ c.loop-line.line-index (last_alone _ _ _ _ _ c.min-many.ensures c.as_chunks.ensures.front_len c.loop-line-test.false c.loop-line.auto.line-index-end) c.loop-line.invariant
