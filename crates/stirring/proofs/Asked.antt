@@ -4,8 +4,12 @@ use mathlib.Core.Bool.{Bool, true, false, not, ◌&&◌, ◌||◌}
 use mathlib.Core.List.{List}
 use Prim.Native.Nat.{ℕ, ◌+◌, ◌-◌, ◌≤◌, ◌<◌}
 use native.Mathlib.Omega.{arith}
+use lib.ListN.{length}
 use lib.Dec.{eqb}
 use borrow.Author.Tests.{eq-eqb, ne_eqb, not-false, eqb-true, eqb-false}
+use Rattle.std.specs.Bool.{MatchBool}
+use Rattle.std.specs.List.{range_with_len, HoldsAt, AllWithin}
+use Rattle.std.proofs.lemmas.List.FromFn.{length-range_with_len, get_or-range_with_len}
 use Rattle.rulebook.specs.declared.Block.{Block}
 use Rattle.rulebook.specs.declared.Cell.{Cell}
 use Rattle.rulebook.specs.declared.Tally.{Tally}
@@ -61,9 +65,13 @@ module _ (l : Ledger) (t : ℕ) (c : Cell) (own : c ≡ own_cell l t) where
 
 -- ---- the slots behind one
 
-pub unwaited_more : (l : Ledger) (s t : ℕ) → ((q : ℕ) → s < q → q < t → Unwaiting l q) → Unwaiting l t → (q : ℕ) → s < q → q < t + 1 → Unwaiting l q
-unwaited_more l s t f u q a b =
-    by_test (eqb q t) (λ e. subst (Unwaiting l) (sym (eqb-true q t e)) u) (λ e. let ne = eqb-false q t e in f q a (omega arith))
+-- What holds of every number from a on, n of them, where a test found none.
+pub none_found : (Yes No : ℕ → Type 0) (a n : ℕ) (r : Bool)
+    → MatchBool r ((k : ℕ) × (k < length (range_with_len a n)) × HoldsAt Yes (range_with_len a n) k) (AllWithin No (range_with_len a n) 0 (length (range_with_len a n)))
+    → r ≡ false → (t : ℕ) → a ≤ t → t < a + n → No t
+none_found Yes No a n true h e = λ t b d. absurd (true_not_false true refl e)
+none_found Yes No a n false h e =
+    λ t b d. subst No (get_or-range_with_len a n (t - a) 0 (omega arith) ∙ omega arith) (h (t - a) 0 (omega arith) (omega (arith, length-range_with_len a n)))
 
 -- ---- a block that may be opened
 

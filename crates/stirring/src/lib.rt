@@ -60,13 +60,7 @@ fn is_awaited(rec: &[u64], s: Slot) -> bool
     requires { Standing rec.now × (s.0 ≤ last_slot) }
     ensures { result ≡ false → Unawaited (ledger_of rec.now) s.0 }
 {
-    let from = s.0 + 1;
-    for t in from..17 {
-        if is_waiting(rec, Slot(t)) {
-            return true;
-        }
-    }
-    false
+    (s.0 + 1..17).any(|t| is_waiting(rec, Slot(t)))
 }
 
 // Whether kind 3 for a block may be reached by one vote more.
@@ -85,17 +79,15 @@ fn opens_block(rec: &[u64], looks: &[u64], s: Slot, b: u64) -> bool
 }
 
 // Whether a vote may bring its slot a certificate that parents are asked for. Asked before it is stored, and once it is noted.
+#[tactic(auto, unfolding(crate::specs::Stirring::opens))]
 pub fn opens(rec: &[u64], looks: &[u64], s: Slot, k: VoteKind, b: u64) -> bool
     requires { Carded rec.now s.0 }
     ensures { result ≡ opens (ledger_of rec.now) looks.now s.0 k b }
 {
     match k {
-        VoteKind::Notar => opens_block(rec, looks, s, b),
-        VoteKind::NotarFallback => opens_block(rec, looks, s, b),
-        VoteKind::Skip => !held(rec, CertificateKind::Skip, s, 0),
-        VoteKind::SkipFallback => !held(rec, CertificateKind::Skip, s, 0),
-        VoteKind::Final => false,
-        VoteKind::Other => false,
+        VoteKind::Notar | VoteKind::NotarFallback => opens_block(rec, looks, s, b),
+        VoteKind::Skip | VoteKind::SkipFallback => !held(rec, CertificateKind::Skip, s, 0),
+        VoteKind::Final | VoteKind::Other => false,
     }
 }
 

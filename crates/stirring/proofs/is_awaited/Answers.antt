@@ -1,29 +1,25 @@
--- Every slot so far waits for nothing.
-use Prim.Native.Nat.{◌-◌}
-use native.Mathlib.Omega.{arith}
-use Rattle.rule_laws.proofs.ToolLaws.{true_not_false}
+-- The slots behind wait for nothing where none is found.
+use Prim.Native.Nat.{◌+◌, ◌-◌}
 use mathlib.Core.Path.{refl}
-use mathlib.Core.Bool.{true}
+use native.Mathlib.Omega.{arith}
+use borrow.Author.Rules.{rules}
+use borrow.Author.Tests.{tests}
+use Rattle.std.specs.Bool.{⊤}
+use Rattle.std.proofs.iter.Serving.{serving}
+use Rattle.std.proofs.lemmas.Iterator.{cases_from_any, serves_from_Range, YieldsList-from_range}
+use Rattle.candidates.specs.Judging.{Judging}
 use Rattle.record.specs.Layout.{ledger_of}
-use Rattle.stirring.proofs.Asked.{unwaited_more}
+use Rattle.stirring.specs.Stirring.{Unwaiting}
+use Rattle.stirring.proofs.Asked.{none_found}
 use Rattle.stirring.proofs.is_awaited.Goals as goal
 
-pub loop-t-init : goal.loop-t-init
-loop-t-init c = (omega arith, omega (arith, c.requires.1), λ q a b. absurd (omega arith))
-
-pub is_waiting-requires : goal.is_waiting-requires
-is_waiting-requires c = c.requires.0.each _ (omega (arith, c.loop-t.invariant.0)) (omega arith)
-
-pub returns-then-is_waiting : goal.returns-then-is_waiting
-returns-then-is_waiting c = λ e. true_not_false true refl e
-
-pub loop-t-smaller : goal.loop-t-smaller
-loop-t-smaller c = omega arith
-
-pub loop-t-preserved : goal.loop-t-preserved
-loop-t-preserved c =
-    let h = c.loop-t.invariant in
-    (omega (arith, h.0), omega arith, λ q a b. unwaited_more (ledger_of c.args.rec.now) c.args.s.0 _ (λ i x y. h.2 i (omega arith) y) (c.is_waiting.ensures c.if-is_waiting.false) q (omega arith) b)
+pub any-requires-clause-callable : goal.any-requires-clause-callable
+any-requires-clause-callable c =
+    serves_from_Range (λ x q k. search rules) (λ x a b. let h : Judging c.args.rec.now x = c.requires.0.each x (omega arith) (omega arith) in grind (serving, h))
 
 pub returns : goal.returns
-returns c = λ _ t a b. c.loop-t.invariant.2 t (omega arith) (omega arith)
+returns c =
+    λ e t b d.
+    let a = c.args in
+    let n = a.s.0 + 1 in
+    none_found (λ i. ⊤) (λ i. Unwaiting (ledger_of a.rec.now) i) n (17 - n) _ (cases_from_any _ _ _ (λ i. ⊤) (λ i. Unwaiting (ledger_of a.rec.now) i) c.any.ensures.ran (YieldsList-from_range n 17 _ refl refl) (λ x q k. tt) (λ x q k. search (rules, tests))) e t (omega arith) (omega (arith, c.requires.1))
