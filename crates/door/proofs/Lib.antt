@@ -1,2 +1,2 @@
--- Laws of lines that are sent.
+-- Laws of the door.
 pub mod Laws

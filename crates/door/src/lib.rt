@@ -6,7 +6,7 @@ ghost use Rattle.std.specs.Prelude.{◌≡◌, ◌≤◌, IsErr, MatchResult, le
 ghost use Rattle.std.specs.Str.{IsUtf8};
 ghost use Rattle.door.specs.Sent.{NextLine, Whole};
 
-use lines::{put_byte, put_text};
+use lines::Page;
 use std::io::{Error, ErrorKind, Write};
 
 const OUT: i32 = 1;
@@ -17,48 +17,49 @@ const ERR: i32 = 2;
 #[derive(Clone, Copy, Debug, PartialEq, Eq)]
 pub struct Unwritten;
 
-// Writes the text at a page's front to an open file, all of it. A page that is full may hold less.
-pub fn send_to(fd: i32, page: &[u8], used: usize) -> Result<(), Unwritten>
-    ensures { Whole (length page.now) used result }
+// Writes a page's text to an open file, all of it. A page that is full may hold less.
+pub fn send_to(fd: i32, page: &Page) -> Result<(), Unwritten>
+    ensures { Whole (length page.now.bytes.now) page.now.at result }
 {
-    if used < page.len() && io::write_all(fd, &page[..used]) {
+    if !page.is_full() && io::write_all(fd, page.written()) {
         return Ok(());
     }
     Err(Unwritten)
 }
 
 // The same to standard output.
-pub fn send(page: &[u8], used: usize) -> Result<(), Unwritten>
-    ensures { Whole (length page.now) used result }
+pub fn send(page: &Page) -> Result<(), Unwritten>
+    ensures { Whole (length page.now.bytes.now) page.now.at result }
 {
-    send_to(OUT, page, used)
+    send_to(OUT, page)
 }
 
 // The same into a writer, with the error where not all of it was taken.
-pub fn send_into<W: Write>(out: &mut W, page: &[u8], used: usize) -> std::io::Result<()>
-    ensures { length page.now ≤ used → IsErr result }
+pub fn send_into<W: Write>(out: &mut W, page: &Page) -> std::io::Result<()>
+    ensures { length page.now.bytes.now ≤ page.now.at → IsErr result }
 {
-    if page.len() <= used {
+    if page.is_full() {
         return Err(Error::from(ErrorKind::WriteZero));
     }
-    out.write_all(&page[..used])
+    out.write_all(page.written())
 }
 
-// Ends the line that stands in a page up to a place and sends it. Answers the place where the next line begins, the page's front.
-pub fn end_line(page: &mut [u8], at: usize) -> Result<usize, Unwritten>
-    ensures { NextLine (length page.old) at result }
+// Ends the line that stands on a page and sends it; the next line begins at the page's front.
+pub fn end_line(page: &mut Page) -> Result<(), Unwritten>
+    ensures { NextLine page.old page.new result }
 {
-    let used = put_byte(page, at, b'\n');
-    send(page, used)?;
-    Ok(0)
+    page.byte(b'\n');
+    send(page)?;
+    page.rewind();
+    Ok(())
 }
 
 // A text as a line of its own, after those that were sent.
-pub fn tell_line(page: &mut [u8], at: usize, text: &[u8]) -> Result<usize, Unwritten>
-    ensures { NextLine (length page.old) at result }
+pub fn tell_line(page: &mut Page, text: &[u8]) -> Result<(), Unwritten>
+    ensures { NextLine page.old page.new result }
 {
-    let next = put_text(page, at, text);
-    end_line(page, next)
+    page.text(text);
+    end_line(page)
 }
 
 // Where an error's text ends: before the number that the library puts behind it, in brackets.

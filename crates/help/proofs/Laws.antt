@@ -13,8 +13,10 @@ use Rattle.rulebook.specs.Tools.{choose}
 use Rattle.rule_laws.proofs.ToolLaws.{choose_on, choose_off, given_on, given_off}
 use Rattle.commands.specs.Commands.{same_text}
 use Rattle.lines.specs.Text.{decimal}
+use Rattle.lines.specs.declared.Page.{Page}
 use Rattle.lines.specs.Put.{reach, Put}
-use Rattle.lines.proofs.Putting.{and_then, as_text, put_nothing}
+use Rattle.lines.specs.Page.{Wrote}
+use Rattle.lines.proofs.Paging.{and_then, as_text, put_nothing}
 use Rattle.help.specs.Topics.{named, opens, topic_from, topic_in, topic_of, topic_line, numbered}
 
 -- ---- whether a line is told
@@ -53,20 +55,19 @@ module _ (w rest : List ℕ) (on : Bool) where
 -- ---- a text, byte by byte
 
 -- What is still told of a text from a place on is put behind what was put.
-abbrev pub Left : List ℕ → ℕ → List ℕ → List ℕ → Bool → Bool → ℕ → List ℕ → ℕ → Type 0
-Left page₀ at w text fresh on i page next =
-    (left : List ℕ) (k : ℕ) → Put page next (topic_from w (drop i text) fresh on) left k → Put page₀ at (topic_in w text) left k
+abbrev pub Left : Page → List ℕ → List ℕ → Bool → Bool → ℕ → Page → Type 0
+Left before w text fresh on i page =
+    (after : Page) → Wrote page (topic_from w (drop i text) fresh on) after → Wrote before (topic_in w text) after
 
-pub all_left : (page : List ℕ) (at : ℕ) (w text : List ℕ) → Left page at w text true false 0 page at
+pub all_left : (page : Page) (w text : List ℕ) → Left page w text true false 0 page
 unfolding topic_in
-all_left page at w text left k v = v
+all_left page w text after v = v
 
-pub none_left : {page₀ page : List ℕ} {at next : ℕ} (w text : List ℕ) (fresh on : Bool) (i : ℕ) → length text ≤ i → Left page₀ at w text fresh on i page next
-    → Put page₀ at (topic_in w text) page next
+pub none_left : {before page : Page} (w text : List ℕ) (fresh on : Bool) (i : ℕ) → length text ≤ i → Left before w text fresh on i page
+    → Wrote before (topic_in w text) page
 unfolding topic_from
-none_left {page = page} {next = next} w text fresh on i h left =
-    left page next
-    (as_text (ap (λ (r : List ℕ). topic_from w r fresh on) (sym (drop_of_length-le text h))) (put_nothing page next))
+none_left {page = page} w text fresh on i h left =
+    left page (as_text (ap (λ (r : List ℕ). topic_from w r fresh on) (sym (drop_of_length-le text h))) (put_nothing page))
 
 -- A byte more: whether it is told, and what is left behind it.
 told_here : (w text : List ℕ) (fresh on : Bool) (i : ℕ) (now : Bool) → i < length text → now ≡ opens w (drop i text) fresh on
@@ -80,12 +81,11 @@ pub to_end : (text : List ℕ) (i n : ℕ) → n ≡ length text → take (n - i
 to_end text i n e =
     ap (λ (k : ℕ). take k (drop i text)) (ap (λ (m : ℕ). m - i) e ∙ sym (length-drop i text)) ∙ take-length (drop i text)
 
-pub one_less : {page₀ page page' : List ℕ} {at next next' : ℕ} (w text : List ℕ) (fresh on : Bool) (i : ℕ) (now : Bool) (rest : List ℕ) → i < length text
-    → rest ≡ drop i text → now ≡ opens w rest fresh on → Put page next (choose now (get_or text i 0 ∷ []) []) page' next' → Left page₀ at w text fresh on i page next
-    → Left page₀ at w text (eqb (get_or text i 0) 10) now (i + 1) page' next'
-one_less w text fresh on i now rest h q e v more left k after =
-    more left k
-    (as_text (sym (told_here w text fresh on i now h (e ∙ ap (λ (r : List ℕ). opens w r fresh on) q))) (and_then v after))
+pub one_less : {before page page' : Page} (w text : List ℕ) (fresh on : Bool) (i : ℕ) (now : Bool) (rest : List ℕ) → i < length text
+    → rest ≡ drop i text → now ≡ opens w rest fresh on → Wrote page (choose now (get_or text i 0 ∷ []) []) page' → Left before w text fresh on i page
+    → Left before w text (eqb (get_or text i 0) 10) now (i + 1) page'
+one_less w text fresh on i now rest h q e v more after u =
+    more after (as_text (sym (told_here w text fresh on i now h (e ∙ ap (λ (r : List ℕ). opens w r fresh on) q))) (and_then v u))
 
 -- ---- the answers
 
@@ -112,10 +112,10 @@ module _ (page w : List ℕ) (used : ℕ) where
       let k = p.place in
       p.bytes ∙ ap (sets page 0) (sym (choose_off (eqb (length (topic_of w)) 0) _ _ (ne_eqb (length (topic_of w)) 0 (λ z. n (omega arith)))))
 
-pub no_number : (l : List ℕ) (n : ℕ) → 18 < n → Put l 0 (numbered n) l 0
+pub no_number : (p : Page) (n : ℕ) → 18 < n → Wrote p (numbered n) p
 unfolding numbered
-no_number l n h = as_text (sym (choose_on (ltb 18 n) [] _ (lt-ltb 18 n h))) (put_nothing l 0)
+no_number p n h = as_text (sym (choose_on (ltb 18 n) [] _ (lt-ltb 18 n h))) (put_nothing p)
 
-pub a_number : {l l' l'' : List ℕ} {p q : ℕ} (n : ℕ) → n ≤ 18 → Put l 0 (decimal n) l' p → Put l' p (58 ∷ 32 ∷ []) l'' q → Put l 0 (numbered n) l'' q
+pub a_number : {p q r : Page} (n : ℕ) → n ≤ 18 → Wrote p (decimal n) q → Wrote q (58 ∷ 32 ∷ []) r → Wrote p (numbered n) r
 unfolding numbered
 a_number n h w v = as_text (sym (choose_off (ltb 18 n) [] _ (le-ltb 18 n h))) (and_then w v)

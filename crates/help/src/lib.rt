@@ -4,13 +4,13 @@
 ghost use Rattle.std.specs.Prelude.{◌≡◌, [], ◌∷◌, ◌<◌, length};
 ghost use Rattle.std.proofs.lemmas.List.Edits.{sets};
 ghost use Rattle.rulebook.specs.Tools.{choose};
-ghost use Rattle.lines.specs.Put.{Put};
+ghost use Rattle.lines.specs.Page.{Wrote};
 ghost use Rattle.help.specs.Manual.{lines_of, screen, told, packets, shown, asked, compared};
 ghost use Rattle.help.specs.Topics.{named, opens, topic_in, topic_of, topic_line, numbered, why_line};
 
 use commands::same;
 use door::{Unwritten, send};
-use lines::{put_byte, put_decimal, put_text};
+use lines::Page;
 use replies::malformed;
 use texts::put_refusal;
 
@@ -20,12 +20,10 @@ const LAST_REFUSAL: u64 = 18;
 // ---- the page
 
 // Puts the page of the commands, kinds and refusals.
-fn put_screen(page: &mut [u8], at: usize) -> usize
-    ensures { Put page.old at (lines_of screen) page.new result }
+fn put_screen(page: &mut Page)
+    ensures { Wrote page.old (lines_of screen) page.new }
 {
-    put_text(
-        page,
-        at,
+    page.text(
         b"start OWN GENESIS STAKE..            0
 watch GENESIS STAKE..                0; a node that never votes
 vote KIND NODE SLOT BLOCK            0 N kind,slot,block ..
@@ -83,8 +81,9 @@ records       1 to 5 a vote was cast, 6 a block is final, 7 a window is armed, 8
 pub fn help(page: &mut [u8]) -> Result<(), Unwritten>
     ensures { page.new ≡ sets page.old 0 (lines_of screen) }
 {
-    let used = put_screen(page, 0);
-    send(page, used)
+    let mut screen = Page::new(page);
+    put_screen(&mut screen);
+    send(&screen)
 }
 
 // ---- one command
@@ -116,37 +115,33 @@ fn opens(word: &[u8], rest: &[u8], fresh: bool, on: bool) -> bool
 }
 
 // Puts a byte where it is told.
-fn put_told(page: &mut [u8], at: usize, b: u8, on: bool) -> usize
-    ensures { Put page.old at (choose on (b ∷ []) []) page.new result }
+fn put_told(page: &mut Page, b: u8, on: bool)
+    ensures { Wrote page.old (choose on (b ∷ []) []) page.new }
 {
     if on {
-        return put_byte(page, at, b);
+        page.byte(b);
     }
-    at
 }
 
 // Puts what a text tells of a word.
-fn put_topic(page: &mut [u8], at: usize, word: &[u8], text: &[u8]) -> usize
-    ensures { Put page.old at (topic_in word.now text.now) page.new result }
+fn put_topic(page: &mut Page, word: &[u8], text: &[u8])
+    ensures { Wrote page.old (topic_in word.now text.now) page.new }
 {
-    let mut next = at;
     let mut fresh = true;
     let mut on = false;
     for (i, b) in text.iter().enumerate() {
         on = opens(word, &text[i..], fresh, on);
         fresh = *b == b'\n';
-        next = put_told(page, next, *b, on);
+        put_told(page, *b, on);
     }
-    next
 }
 
 // The commands of a node, and those that tell it something.
-fn put_told_commands(page: &mut [u8], at: usize, word: &[u8]) -> usize
-    ensures { Put page.old at (topic_in word.now (lines_of told)) page.new result }
+fn put_told_commands(page: &mut Page, word: &[u8])
+    ensures { Wrote page.old (topic_in word.now (lines_of told)) page.new }
 {
     put_topic(
         page,
-        at,
         word,
         b"start OWN GENESIS STAKE..
   A fresh node with this own number, genesis, and the stake of each node.
@@ -177,12 +172,11 @@ take HEX
 }
 
 // The commands of packets and messages.
-fn put_packets(page: &mut [u8], at: usize, word: &[u8]) -> usize
-    ensures { Put page.old at (topic_in word.now (lines_of packets)) page.new result }
+fn put_packets(page: &mut Page, word: &[u8])
+    ensures { Wrote page.old (topic_in word.now (lines_of packets)) page.new }
 {
     put_topic(
         page,
-        at,
         word,
         b"cert KIND SLOT BLOCK
   Writes a certificate; its block is 0 with kinds 4, 5, 14 and 15.
@@ -213,12 +207,11 @@ unpack COUNT HEX
 }
 
 // The commands for people.
-fn put_shown(page: &mut [u8], at: usize, word: &[u8]) -> usize
-    ensures { Put page.old at (topic_in word.now (lines_of shown)) page.new result }
+fn put_shown(page: &mut Page, word: &[u8])
+    ensures { Wrote page.old (topic_in word.now (lines_of shown)) page.new }
 {
     put_topic(
         page,
-        at,
         word,
         b"board
 board SLOT
@@ -245,12 +238,11 @@ quit
 }
 
 // The commands that ask the node.
-fn put_asked(page: &mut [u8], at: usize, word: &[u8]) -> usize
-    ensures { Put page.old at (topic_in word.now (lines_of asked)) page.new result }
+fn put_asked(page: &mut Page, word: &[u8])
+    ensures { Wrote page.old (topic_in word.now (lines_of asked)) page.new }
 {
     put_topic(
         page,
-        at,
         word,
         b"card SLOT
   What the slot's votes weigh, and the leading notar block with its weight.
@@ -275,12 +267,11 @@ weights SLOT BLOCK
 }
 
 // The commands by which nodes are compared.
-fn put_compared(page: &mut [u8], at: usize, word: &[u8]) -> usize
-    ensures { Put page.old at (topic_in word.now (lines_of compared)) page.new result }
+fn put_compared(page: &mut Page, word: &[u8])
+    ensures { Wrote page.old (topic_in word.now (lines_of compared)) page.new }
 {
     put_topic(
         page,
-        at,
         word,
         b"aside
   Copies the node aside, in the place of the one that stood there.
@@ -308,46 +299,47 @@ save FILE
 }
 
 // What the manual tells of a word.
-fn put_manual(page: &mut [u8], word: &[u8]) -> usize
-    ensures { Put page.old 0 (topic_of word.now) page.new result }
+fn put_manual(page: &mut Page, word: &[u8])
+    ensures { Wrote page.old (topic_of word.now) page.new }
 {
-    let p = put_told_commands(page, 0, word);
-    let q = put_packets(page, p, word);
-    let r = put_shown(page, q, word);
-    let s = put_asked(page, r, word);
-    put_compared(page, s, word)
+    put_told_commands(page, word);
+    put_packets(page, word);
+    put_shown(page, word);
+    put_asked(page, word);
+    put_compared(page, word);
 }
 
 // help COMMAND; a word of which the manual tells nothing is no command.
 pub fn topic(page: &mut [u8], word: &[u8]) -> Result<(), Unwritten>
     ensures { page.new ≡ sets page.old 0 (topic_line word.now) }
 {
-    let used = put_manual(page, word);
-    if used == 0 {
+    let mut lines = Page::new(page);
+    put_manual(&mut lines, word);
+    if lines.used() == 0 {
         return malformed(page);
     }
-    send(page, used)
+    send(&lines)
 }
 
 // ---- a number
 
 // Puts a refusal's number before its text; a number that is none has no place there.
-fn put_number(page: &mut [u8], n: u64) -> usize
-    ensures { Put page.old 0 (numbered n) page.new result }
+fn put_number(page: &mut Page, n: u64)
+    ensures { Wrote page.old (numbered n) page.new }
 {
-    if n > LAST_REFUSAL {
-        return 0;
+    if n <= LAST_REFUSAL {
+        page.decimal(n);
+        page.text(b": ");
     }
-    let p = put_decimal(page, 0, n);
-    put_text(page, p, b": ")
 }
 
 // why NUMBER
 pub fn why(page: &mut [u8], n: u64) -> Result<(), Unwritten>
     ensures { page.new ≡ sets page.old 0 (why_line n) }
 {
-    let p = put_number(page, n);
-    let q = put_refusal(page, p, n);
-    let used = put_byte(page, q, b'\n');
-    send(page, used)
+    let mut line = Page::new(page);
+    put_number(&mut line, n);
+    put_refusal(&mut line, n);
+    line.byte(b'\n');
+    send(&line)
 }

@@ -10,97 +10,98 @@ use borrow.Author.Tests.{eq-eqb, ne_eqb}
 use Rattle.rulebook.specs.PaperNumbers.{Panel}
 use Rattle.rule_laws.proofs.ToolLaws.{choose_on, choose_off, given_on, given_off}
 use Rattle.lines.specs.Text.{glyph, decimal, hex_pair, hex_pairs, hex_text, record_text, records_to, records_text}
-use Rattle.lines.specs.Put.{Put}
+use Rattle.lines.specs.Page.{Wrote}
 use Rattle.lines.specs.Answers.{number_line, answer_line, spaced, votes_to, votes_text, missing_line, five_values, check_line}
 use Rattle.lines.specs.Figures.{more_for, missing_text}
-use Rattle.lines.proofs.Putting.{as_text, and_then, put_nothing}
+use Rattle.lines.specs.declared.Page.{Page}
+use Rattle.lines.proofs.Paging.{as_text, and_then, put_nothing}
 use Rattle.lines.proofs.Digits.{decimal_small, decimal_more}
 
 abbrev one : ℕ → List ℕ
 one b = b ∷ []
 
-module _ {l l' : List ℕ} {at p : ℕ} where
+module _ {a p : Page} where
   -- ---- decimal
 
-  pub last_digit : (n x : ℕ) → n < 10 → x ≡ glyph n → Put l at (x ∷ []) l' p → Put l at (decimal n) l' p
+  pub last_digit : (n x : ℕ) → n < 10 → x ≡ glyph n → Wrote a (x ∷ []) p → Wrote a (decimal n) p
   last_digit n x h e w = as_text (ap one e ∙ decimal_small n h) w
 
-  pub next_digit : {l'' : List ℕ} {q : ℕ} (n x : ℕ) → 10 ≤ n → x ≡ glyph (n % 10) → Put l at (decimal (n / 10)) l' p → Put l' p (x ∷ []) l'' q → Put l at (decimal n) l'' q
+  pub next_digit : {q : Page} (n x : ℕ) → 10 ≤ n → x ≡ glyph (n % 10) → Wrote a (decimal (n / 10)) p → Wrote p (x ∷ []) q → Wrote a (decimal n) q
   next_digit n x h e w v = as_text (decimal_more n h) (and_then w (as_text (ap one e) v))
 
   -- ---- hex
 
-  pub both_digits : {l'' : List ℕ} {q : ℕ} (b x y : ℕ) → x ≡ glyph (b / 16) → y ≡ glyph (b % 16) → Put l at (x ∷ []) l' p → Put l' p (y ∷ []) l'' q → Put l at (hex_pair b) l'' q
+  pub both_digits : {q : Page} (b x y : ℕ) → x ≡ glyph (b / 16) → y ≡ glyph (b % 16) → Wrote a (x ∷ []) p → Wrote p (y ∷ []) q → Wrote a (hex_pair b) q
   unfolding hex_pair
   both_digits b x y e f w v = and_then (as_text (ap one e) w) (as_text (ap one f) v)
 
-  pub dash : (bytes : List ℕ) → length bytes ≡ 0 → Put l at (45 ∷ []) l' p → Put l at (hex_text bytes) l' p
+  pub dash : (bytes : List ℕ) → length bytes ≡ 0 → Wrote a (45 ∷ []) p → Wrote a (hex_text bytes) p
   unfolding hex_text
   dash bytes h w = as_text (sym (choose_on (eqb (length bytes) 0) _ _ (eq-eqb (length bytes) 0 h))) w
 
-  pub next_pair : {l'' : List ℕ} {q : ℕ} (bytes : List ℕ) (i b : ℕ) → b ≡ get_or bytes i 0 → Put l at (hex_pairs bytes i) l' p → Put l' p (hex_pair b) l'' q
-      → Put l at (hex_pairs bytes (i + 1)) l'' q
+  pub next_pair : {q : Page} (bytes : List ℕ) (i b : ℕ) → b ≡ get_or bytes i 0 → Wrote a (hex_pairs bytes i) p → Wrote p (hex_pair b) q
+      → Wrote a (hex_pairs bytes (i + 1)) q
   unfolding hex_pairs
   next_pair bytes i b e w v = as_text (rw (add-one, e)) (and_then w v)
 
-  pub last_pair : (bytes : List ℕ) (i : ℕ) → (length bytes ≡ 0 → ⊥) → i ≡ length bytes → Put l at (hex_pairs bytes i) l' p → Put l at (hex_text bytes) l' p
+  pub last_pair : (bytes : List ℕ) (i : ℕ) → (length bytes ≡ 0 → ⊥) → i ≡ length bytes → Wrote a (hex_pairs bytes i) p → Wrote a (hex_text bytes) p
   unfolding hex_text
   last_pair bytes i n e w =
       as_text (ap (hex_pairs bytes) e ∙ sym (choose_off (eqb (length bytes) 0) _ _ (ne_eqb (length bytes) 0 n))) w
 
   -- ---- text
 
-  pub next_byte : {l'' : List ℕ} {q : ℕ} (text : List ℕ) (i b : ℕ) → i < length text → b ≡ get_or text i 0 → Put l at (take i text) l' p → Put l' p (b ∷ []) l'' q
-      → Put l at (take (i + 1) text) l'' q
+  pub next_byte : {q : Page} (text : List ℕ) (i b : ℕ) → i < length text → b ≡ get_or text i 0 → Wrote a (take i text) p → Wrote p (b ∷ []) q
+      → Wrote a (take (i + 1) text) q
   next_byte text i b h e w v = as_text (rw (add-one, e, take-suc text i 0 h)) (and_then w v)
 
-  pub last_byte : (text : List ℕ) (i : ℕ) → i ≡ length text → Put l at (take i text) l' p → Put l at text l' p
+  pub last_byte : (text : List ℕ) (i : ℕ) → i ≡ length text → Wrote a (take i text) p → Wrote a text p
   last_byte text i e w = as_text (ap (λ (k : ℕ). take k text) e ∙ take-length text) w
 
   -- ---- records
 
-  pub next_record : {l'' : List ℕ} {q : ℕ} (outbox : List ℕ) (i : ℕ) → Put l at (records_to outbox i) l' p → Put l' p (record_text outbox i) l'' q
-      → Put l at (records_to outbox (i + 1)) l'' q
+  pub next_record : {q : Page} (outbox : List ℕ) (i : ℕ) → Wrote a (records_to outbox i) p → Wrote p (record_text outbox i) q
+      → Wrote a (records_to outbox (i + 1)) q
   unfolding records_to
   next_record outbox i w v = as_text (rw add-one) (and_then w v)
 
-  pub last_record : (outbox : List ℕ) (n i : ℕ) → i ≡ min n (length outbox / 3) → Put l at (records_to outbox i) l' p → Put l at (records_text outbox n) l' p
+  pub last_record : (outbox : List ℕ) (n i : ℕ) → i ≡ min n (length outbox / 3) → Wrote a (records_to outbox i) p → Wrote a (records_text outbox n) p
   unfolding records_text
   last_record outbox n i e w = as_text (ap (records_to outbox) e) w
 
 -- Nothing is put before the first byte, pair and record.
-pub no_byte : (l : List ℕ) (at : ℕ) (text : List ℕ) → Put l at (take 0 text) l at
-no_byte l at text = put_nothing l at
+pub no_byte : (a : Page) (text : List ℕ) → Wrote a (take 0 text) a
+no_byte a text = put_nothing a
 
-pub no_pair : (l : List ℕ) (at : ℕ) (bytes : List ℕ) → Put l at (hex_pairs bytes 0) l at
+pub no_pair : (a : Page) (bytes : List ℕ) → Wrote a (hex_pairs bytes 0) a
 unfolding hex_pairs
-no_pair l at bytes = put_nothing l at
+no_pair a bytes = put_nothing a
 
-pub no_record : (l : List ℕ) (at : ℕ) (outbox : List ℕ) → Put l at (records_to outbox 0) l at
+pub no_record : (a : Page) (outbox : List ℕ) → Wrote a (records_to outbox 0) a
 unfolding records_to
-no_record l at outbox = put_nothing l at
+no_record a outbox = put_nothing a
 
 -- ---- the numbers of a tray's votes
 
-module _ {l : List ℕ} {at : ℕ} (answers : List ℕ) where
-  pub no_votes_lem : length answers ≡ 0 → Put l at (votes_text answers) l at
+module _ {a : Page} (answers : List ℕ) where
+  pub no_votes_lem : length answers ≡ 0 → Wrote a (votes_text answers) a
   unfolding votes_text
-  no_votes_lem h = as_text (sym (choose_on (eqb (length answers) 0) _ _ (eq-eqb (length answers) 0 h))) (put_nothing l at)
+  no_votes_lem h = as_text (sym (choose_on (eqb (length answers) 0) _ _ (eq-eqb (length answers) 0 h))) (put_nothing a)
 
-  pub first_vote : Put l at (votes_to answers 0) l at
+  pub first_vote : Wrote a (votes_to answers 0) a
   unfolding votes_to
-  first_vote = put_nothing l at
+  first_vote = put_nothing a
 
-  pub next_vote : {l' l'' : List ℕ} {p q : ℕ} (i b : ℕ) → b ≡ get_or answers i 0 → Put l at (votes_to answers i) l' p → Put l' p (spaced b) l'' q
-      → Put l at (votes_to answers (i + 1)) l'' q
+  pub next_vote : {p q : Page} (i b : ℕ) → b ≡ get_or answers i 0 → Wrote a (votes_to answers i) p → Wrote p (spaced b) q
+      → Wrote a (votes_to answers (i + 1)) q
   unfolding votes_to
   next_vote i b e w v = as_text (rw (add-one, e)) (and_then w v)
 
-  pub all_votes : {l' : List ℕ} {p : ℕ} (i : ℕ) → i ≡ length answers → Put l at (votes_to answers i) l' p → Put l at (votes_to answers (length answers)) l' p
+  pub all_votes : {p : Page} (i : ℕ) → i ≡ length answers → Wrote a (votes_to answers i) p → Wrote a (votes_to answers (length answers)) p
   all_votes i e w = as_text (ap (votes_to answers) e) w
 
-  pub some_votes : {l' l'' : List ℕ} {p q : ℕ} → (length answers ≡ 0 → ⊥) → Put l at (32 ∷ 58 ∷ []) l' p → Put l' p (votes_to answers (length answers)) l'' q
-      → Put l at (votes_text answers) l'' q
+  pub some_votes : {p q : Page} → (length answers ≡ 0 → ⊥) → Wrote a (32 ∷ 58 ∷ []) p → Wrote p (votes_to answers (length answers)) q
+      → Wrote a (votes_text answers) q
   unfolding votes_text
   some_votes n w v = as_text (sym (choose_off (eqb (length answers) 0) _ _ (ne_eqb (length answers) 0 n))) (and_then w v)
 
@@ -120,12 +121,12 @@ module _ (n : ℕ) (values more : List ℕ) where
   abbrev panel : Panel
   panel = record { number = n; values = values }
 
-  pub refused : {l l' : List ℕ} {p : ℕ} → (n ≡ 0 → ⊥) → Put l 0 (number_line n) l' p → Put l 0 (answer_line panel more) l' p
+  pub refused : {a p : Page} → (n ≡ 0 → ⊥) → Wrote a (number_line n) p → Wrote a (answer_line panel more) p
   unfolding answer_line
   refused h w = as_text (sym (given_off (eqb n 0) (number_line n) _ (ne_eqb n 0 h))) w
 
-  pub answered : {l l' l'' m : List ℕ} {p q r : ℕ} → n ≡ 0 → Put l 0 (48 ∷ []) l' p → Put l' p more l'' q → Put l'' q (10 ∷ []) m r
-      → Put l 0 (answer_line panel more) m r
+  pub answered : {a p q r : Page} → n ≡ 0 → Wrote a (48 ∷ []) p → Wrote p more q → Wrote q (10 ∷ []) r
+      → Wrote a (answer_line panel more) r
   unfolding answer_line
   answered h w v u = as_text (sym (given_on (eqb n 0) (number_line n) _ (eq-eqb n 0 h))) (and_then w (and_then v u))
 
@@ -133,22 +134,22 @@ module _ (n : ℕ) (values : List ℕ) where
   abbrev answer : Panel
   answer = record { number = n; values = values }
 
-  pub lacking : {l l' : List ℕ} {p : ℕ} (missing : ℕ) → n ≡ 15 → Put l 0 (missing_line missing) l' p → Put l 0 (check_line answer missing) l' p
+  pub lacking : {a p : Page} (missing : ℕ) → n ≡ 15 → Wrote a (missing_line missing) p → Wrote a (check_line answer missing) p
   unfolding check_line
   lacking missing h w = as_text (sym (choose_on (eqb n 15) _ _ (eq-eqb n 15 h))) w
 
-  pub not_lacking : {l l' : List ℕ} {p : ℕ} (missing : ℕ) → (n ≡ 15 → ⊥) → Put l 0 (answer_line answer (five_values answer)) l' p → Put l 0 (check_line answer missing) l' p
+  pub not_lacking : {a p : Page} (missing : ℕ) → (n ≡ 15 → ⊥) → Wrote a (answer_line answer (five_values answer)) p → Wrote a (check_line answer missing) p
   unfolding check_line
   not_lacking missing h w = as_text (sym (choose_off (eqb n 15) _ _ (ne_eqb n 15 h))) w
 
 -- ---- what is missing to a certificate
 
-module _ {l : List ℕ} {at : ℕ} (missing : ℕ) (name : List ℕ) where
-  pub nothing_missing_lem : missing ≡ 0 → Put l at (missing_text missing name) l at
+module _ {a : Page} (missing : ℕ) (name : List ℕ) where
+  pub nothing_missing_lem : missing ≡ 0 → Wrote a (missing_text missing name) a
   unfolding missing_text
-  nothing_missing_lem h = as_text (sym (choose_on (eqb missing 0) _ _ (eq-eqb missing 0 h))) (put_nothing l at)
+  nothing_missing_lem h = as_text (sym (choose_on (eqb missing 0) _ _ (eq-eqb missing 0 h))) (put_nothing a)
 
-  pub some_missing : {l' : List ℕ} {p : ℕ} → (missing ≡ 0 → ⊥) → Put l at (((44 ∷ 32 ∷ []) ++ decimal missing) ++ (more_for ++ name)) l' p
-      → Put l at (missing_text missing name) l' p
+  pub some_missing : {p : Page} → (missing ≡ 0 → ⊥) → Wrote a (((44 ∷ 32 ∷ []) ++ decimal missing) ++ (more_for ++ name)) p
+      → Wrote a (missing_text missing name) p
   unfolding missing_text
   some_missing h w = as_text (sym (choose_off (eqb missing 0) _ _ (ne_eqb missing 0 h))) w

@@ -8,7 +8,7 @@ ghost use Rattle.replies.specs.declared.Stop.TheVariants as stop;
 ghost use Rattle.lines.specs.Answers.{number_line, step_line, tray_line, packet_line, message_line, check_line};
 
 use door::{Unwritten, send};
-use lines::{check_line, message_line, number_line, packet_line, put_text, step_line, tray_line};
+use lines::Page;
 use rulebook::Weight;
 
 // Why no further line of a script is answered: the script said so, an answer was not written, or the script was not read.
@@ -31,24 +31,27 @@ impl From<Unwritten> for Stop {
 pub fn malformed(page: &mut [u8]) -> Result<(), Unwritten>
     ensures { page.new ≡ sets page.old 0 (63 ∷ 10 ∷ []) }
 {
-    let used = put_text(page, 0, b"?\n");
-    send(page, used)
+    let mut line = Page::new(page);
+    line.text(b"?\n");
+    send(&line)
 }
 
 // A number alone.
 pub fn number(page: &mut [u8], n: u64) -> Result<(), Unwritten>
     ensures { page.new ≡ sets page.old 0 (number_line n) }
 {
-    let used = number_line(page, n);
-    send(page, used)
+    let mut line = Page::new(page);
+    line.number_line(n);
+    send(&line)
 }
 
 // A step's answer: its number, or 0 with the records made.
 pub fn records(page: &mut [u8], n: u64, made: usize, outbox: &[u64]) -> Result<(), Unwritten>
     ensures { page.new ≡ sets page.old 0 (step_line (record { number = n; values = made ∷ [] }) outbox.now) }
 {
-    let used = step_line(page, n, made, outbox);
-    send(page, used)
+    let mut line = Page::new(page);
+    line.step_line(n, made, outbox);
+    send(&line)
 }
 
 // A tray's answer: its number, or 0 with the records made and one number a vote.
@@ -61,30 +64,34 @@ pub fn served(
 ) -> Result<(), Unwritten>
     ensures { page.new ≡ sets page.old 0 (tray_line (record { number = n; values = made ∷ [] }) outbox.now answers.now) }
 {
-    let used = tray_line(page, n, made, outbox, answers);
-    send(page, used)
+    let mut line = Page::new(page);
+    line.tray_line(n, made, outbox, answers);
+    send(&line)
 }
 
 // A writer's answer: its number, or 0 with the packet.
 pub fn packet(page: &mut [u8], n: u64, written: usize, buffer: &[u8]) -> Result<(), Unwritten>
     ensures { page.new ≡ sets page.old 0 (packet_line (record { number = n; values = written ∷ [] }) buffer.now) }
 {
-    let used = packet_line(page, n, written, buffer);
-    send(page, used)
+    let mut line = Page::new(page);
+    line.packet_line(n, written, buffer);
+    send(&line)
 }
 
 // The checker's answer: 0 with the five values, 15 with what is missing, or its number alone.
 pub fn checked(page: &mut [u8], n: u64, values: &[u64; 5], missing: Weight) -> Result<(), Unwritten>
     ensures { page.new ≡ sets page.old 0 (check_line (record { number = n; values = values.now }) missing.0) }
 {
-    let used = check_line(page, n, values, missing);
-    send(page, used)
+    let mut line = Page::new(page);
+    line.check_line(n, values, missing);
+    send(&line)
 }
 
 // The answer to a vote message: its number, or 0 with the vote's four numbers.
 pub fn vote_read(page: &mut [u8], n: u64, values: &[u64; 4]) -> Result<(), Unwritten>
     ensures { page.new ≡ sets page.old 0 (message_line (record { number = n; values = values.now })) }
 {
-    let used = message_line(page, n, values);
-    send(page, used)
+    let mut line = Page::new(page);
+    line.message_line(n, values);
+    send(&line)
 }

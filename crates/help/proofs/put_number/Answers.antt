@@ -1,8 +1,8 @@
 use Rattle.help.proofs.Laws.{no_number, a_number}
 use Rattle.help.proofs.put_number.Goals as goal
 
-pub returns-then-n-gt-LAST_REFUSAL : goal.returns-then-n-gt-LAST_REFUSAL
-returns-then-n-gt-LAST_REFUSAL c = no_number _ _ c.if-n-gt-LAST_REFUSAL.true
+pub returns-then-n-le-LAST_REFUSAL : goal.returns-then-n-le-LAST_REFUSAL
+returns-then-n-le-LAST_REFUSAL c = a_number _ c.if-n-le-LAST_REFUSAL.true c.decimal.ensures c.text.ensures
 
-pub returns : goal.returns
-returns c = a_number _ c.if-n-gt-LAST_REFUSAL.false c.put_decimal-p.ensures c.put_text.ensures
+pub returns-else-n-le-LAST_REFUSAL : goal.returns-else-n-le-LAST_REFUSAL
+returns-else-n-le-LAST_REFUSAL c = no_number _ _ c.if-n-le-LAST_REFUSAL.false

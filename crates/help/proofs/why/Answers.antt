@@ -1,8 +1,9 @@
-use Rattle.lines.proofs.Putting.{and_then}
+use Rattle.std.proofs.Common.{rules, refl}
+use Rattle.lines.proofs.Paging.{and_then, ended}
 use Rattle.help.specs.Topics.{why_line}
 use Rattle.help.proofs.why.Goals as goal
 
 pub returns : goal.returns
 unfolding why_line
 returns c =
-    (and_then c.put_number-p.ensures (and_then c.put_refusal-q.ensures c.put_byte-used.ensures)).bytes
+    (ended (and_then c.put_number.ensures (and_then c.put_refusal.ensures c.byte.ensures)) c.new-line.ensures.same c.new-line.ensures.front refl (search rules)).bytes

@@ -1,5 +1,0 @@
--- Each call is for a number with a digit less.
-use Rattle.lines.proofs.+put_decimal.Given as goal
-
-abbrev pub decreases-put_decimal : goal.decreases-put_decimal
-decreases-put_decimal l = l.n
