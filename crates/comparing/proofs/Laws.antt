@@ -9,8 +9,9 @@ use lib.ListN.{length, get_or}
 use lib.Seq.{sets}
 use Rattle.rule_laws.proofs.ToolLaws.{choose_on, choose_off}
 use Rattle.soundness.specs.Sound.{sound_words}
-use Rattle.lines.specs.Put.{Put}
-use Rattle.lines.proofs.Putting.{as_text, and_then, put_nothing}
+use Rattle.lines.specs.declared.Page.{Page}
+use Rattle.lines.specs.Page.{Wrote}
+use Rattle.lines.proofs.Paging.{as_text, and_then, put_nothing}
 use mir.Syntax.{w64}
 use Rattle.std.specs.Int.{to_le_bytes}
 use Rattle.comparing.specs.Compared.{SetAside, parts_to, line_text, lines_text, bytes_of, word_bytes, words_bytes}
@@ -28,18 +29,18 @@ module _ (rec kept : List ℕ) where
 
 -- ---- part after part
 
-pub no_part : (l : List ℕ) (at : ℕ) (part : ℕ → List ℕ) → Put l at (parts_to part 0) l at
+pub no_part : (a : Page) (part : ℕ → List ℕ) → Wrote a (parts_to part 0) a
 unfolding parts_to
-no_part l at part = put_nothing l at
+no_part a part = put_nothing a
 
-module _ {l l' : List ℕ} {at p : ℕ} where
-  pub next_part : {l'' : List ℕ} {q : ℕ} (part : ℕ → List ℕ) (i : ℕ) → Put l at (parts_to part i) l' p → Put l' p (part i) l'' q
-      → Put l at (parts_to part (i + 1)) l'' q
+module _ {a p : Page} where
+  pub next_part : {q : Page} (part : ℕ → List ℕ) (i : ℕ) → Wrote a (parts_to part i) p → Wrote p (part i) q
+      → Wrote a (parts_to part (i + 1)) q
   unfolding parts_to
   next_part part i w v = as_text (rw add-one) (and_then w v)
 
-  pub last_line : (list : List ℕ) (n i : ℕ) → i ≡ min n (length list / 5) → Put l at (parts_to (line_text list) i) l' p
-      → Put l at (lines_text list n) l' p
+  pub last_line : (list : List ℕ) (n i : ℕ) → i ≡ min n (length list / 5) → Wrote a (parts_to (line_text list) i) p
+      → Wrote a (lines_text list n) p
   unfolding lines_text
   last_line list n i e w = as_text (ap (parts_to (line_text list)) e) w
 
@@ -49,8 +50,8 @@ module _ {l l' : List ℕ} {at p : ℕ} where
 abbrev pub bytes_at : List ℕ → ℕ → List ℕ
 bytes_at words i = word_bytes (get_or words i 0)
 
-module _ {l l' : List ℕ} {at p : ℕ} where
-  pub last_word : (words : List ℕ) (i : ℕ) → i ≡ length words → Put l at (parts_to (bytes_at words) i) l' p → Put l at (words_bytes words) l' p
+module _ {a p : Page} where
+  pub last_word : (words : List ℕ) (i : ℕ) → i ≡ length words → Wrote a (parts_to (bytes_at words) i) p → Wrote a (words_bytes words) p
   unfolding words_bytes
   last_word words i e w = as_text (ap (parts_to (bytes_at words)) e) w
 

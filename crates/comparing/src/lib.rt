@@ -4,12 +4,12 @@
 
 ghost use Rattle.std.specs.Prelude.{◌≡◌, ◌+◌, ◌*◌, ◌%◌, ◌≤◌, eqb, length};
 ghost use Rattle.rulebook.specs.Tools.{choose};
-ghost use Rattle.lines.specs.Put.{Put};
+ghost use Rattle.lines.specs.Page.{Wrote};
 ghost use Rattle.comparing.specs.Compared.{line_text, lines_text, differ_line, words_bytes, SetAside};
 
 use door::{Unwritten, fail, file_name, send, send_into};
 use hex_bytes::read_hex;
-use lines::{put_byte, put_decimal, put_named, put_text};
+use lines::Page;
 use quointrowel::{
     qr_differ, qr_kept_certificates, qr_same_parents, qr_stands, qr_vouched, qr_vouched_packet,
 };
@@ -69,28 +69,26 @@ pub fn aside(page: &mut [u8], rec: &[u64], kept: &mut [u64]) -> Result<(), Unwri
 // ---- which votes differ
 
 // Puts a line of a list.
-fn put_line(page: &mut [u8], at: usize, line: &[u64; 5]) -> usize
-    ensures { Put page.old at (line_text line.now 0) page.new result }
+fn put_line(page: &mut Page, line: &[u64; 5])
+    ensures { Wrote page.old (line_text line.now 0) page.new }
 {
     let [slot, node, kind, block, side] = *line;
-    let p = put_named(page, at, b" ", slot);
-    let q = put_named(page, p, b",", node);
-    let r = put_named(page, q, b",", kind);
-    let s = put_named(page, r, b",", block);
-    put_named(page, s, b",", side)
+    page.named(b" ", slot);
+    page.named(b",", node);
+    page.named(b",", kind);
+    page.named(b",", block);
+    page.named(b",", side);
 }
 
 // Puts the first lines of a list, as many of them as it has.
-fn put_lines(page: &mut [u8], at: usize, list: &[u64], lines: usize) -> usize
-    ensures { Put page.old at (lines_text list.now lines) page.new result }
+fn put_lines(page: &mut Page, list: &[u64], lines: usize)
+    ensures { Wrote page.old (lines_text list.now lines) page.new }
 {
     let (all, _) = list.as_chunks::<5>();
     let many = lines.min(all.len());
-    let mut next = at;
     for line in &all[..many] {
-        next = put_line(page, next, line);
+        put_line(page, line);
     }
-    next
 }
 
 // How many lines follow: none beside a refusal.
@@ -101,14 +99,13 @@ fn listed(n: u64, beside: usize) -> usize
 }
 
 // The number, the value beside it, and the lines.
-fn differ_line(page: &mut [u8], n: u64, beside: usize, list: &[u64]) -> usize
-    ensures { Put page.old 0 (differ_line n beside list.now) page.new result }
+fn differ_line(page: &mut Page, n: u64, beside: usize, list: &[u64])
+    ensures { Wrote page.old (differ_line n beside list.now) page.new }
 {
-    let lines = listed(n, beside);
-    let p = put_decimal(page, 0, n);
-    let q = put_named(page, p, b" ", beside as u64);
-    let r = put_lines(page, q, list, lines);
-    put_byte(page, r, b'\n')
+    page.decimal(n);
+    page.named(b" ", beside as u64);
+    put_lines(page, list, listed(n, beside));
+    page.byte(b'\n');
 }
 
 // Answers a question by its number, the value beside it, and the list that it fills.
@@ -121,8 +118,9 @@ fn tell_list<F: FnOnce(&mut [u64], &mut usize) -> u64>(
 {
     let mut beside = 0;
     let n = ask(list, &mut beside);
-    let used = differ_line(page, n, beside, list);
-    send(page, used)
+    let mut line = Page::new(page);
+    differ_line(&mut line, n, beside, list);
+    send(&line)
 }
 
 // differ
@@ -203,21 +201,20 @@ pub fn parents(page: &mut [u8], kept: &[u64], rec: &[u64]) -> Result<(), Unwritt
 // ---- a record saved
 
 // Puts the bytes of words, one after another: eight a word, lowest first.
-fn put_words(page: &mut [u8], words: &[u64]) -> usize
-    ensures { Put page.old 0 (words_bytes words.now) page.new result }
+fn put_words(page: &mut Page, words: &[u64])
+    ensures { Wrote page.old (words_bytes words.now) page.new }
 {
-    let mut next = 0;
     for w in words {
-        next = put_text(page, next, &w.to_le_bytes());
+        page.text(&w.to_le_bytes());
     }
-    next
 }
 
 // Writes a record into an open file.
 fn write_record(page: &mut [u8], file: &mut File, rec: &[u64]) -> std::io::Result<()> {
-    for piece in rec.chunks(PIECE_WORDS) {
-        let used = put_words(page, piece);
-        send_into(file, page, used)?;
+    for words in rec.chunks(PIECE_WORDS) {
+        let mut piece = Page::new(page);
+        put_words(&mut piece, words);
+        send_into(file, &piece)?;
     }
     Ok(())
 }
@@ -239,10 +236,10 @@ fn write_file(rt: &HostRuntime, page: &mut [u8], rec: &[u64], path: &[u8]) -> st
 
 // Says on standard error that a file was not written, and why.
 fn blame(page: &mut [u8], path: &[u8], error: Error) {
-    let p = put_text(page, 0, b"panel: not saved: ");
-    let q = put_text(page, p, path);
-    let used = q.min(page.len());
-    fail(&page[..used], error);
+    let mut what = Page::new(page);
+    what.text(b"panel: not saved: ");
+    what.text(path);
+    fail(what.written(), error);
 }
 
 // Writes a record into the file of that name; no file is made for words that are none.

@@ -5,9 +5,9 @@ ghost use Rattle.std.specs.Prelude.{◌≤◌, length};
 
 use answers::{differ_number, differ_value};
 use differences::differ;
-use door::{end_line, file_name, send_to, tell_line};
-use lines::{put_byte, put_decimal, put_text};
-use rulebook::{Node, Slot};
+use door::{Unwritten, end_line, file_name, send_to, tell_line};
+use lines::Page;
+use rulebook::VoteKind;
 use std::env::{Env, FillError};
 use std::fs::File;
 use std::os::fd::AsRawFd;
@@ -15,9 +15,7 @@ use std::os::fd::AsRawFd;
 // No record has more words: a file that holds more is none.
 const RECORD_ROOM: usize = 270336;
 
-// So many lines are listed at most.
-const MOST_LINES: usize = 40000;
-
+// The words of 40,000 lines: so many are listed at most.
 const LIST_WORDS: usize = 200000;
 
 const LINE_WORDS: usize = 5;
@@ -25,9 +23,9 @@ const LINE_WORDS: usize = 5;
 const PAGE_ROOM: usize = 8192;
 
 // A file is read in pieces of 8,192 words, 34 of them at most.
-const PIECE_WORDS: usize = 8192;
-
 const PIECES: usize = 34;
+
+const UNREAD: &[u8] = b": this cannot be read, or its size is no record's";
 
 const ERR: i32 = 2;
 
@@ -43,33 +41,6 @@ const SIDE_COLUMN: usize = 50;
 // As much of a file's name as the last column shows.
 const NAME_ROOM: usize = 28;
 
-// What a file holds: so many words, and whether that is all of it.
-#[derive(Clone, Copy)]
-struct Loaded {
-    words: usize,
-    whole: bool,
-}
-
-// A byte as a word.
-fn wide(x: u8) -> u64 {
-    x as u64
-}
-
-// The word of eight bytes from a place on, lowest first; 0 where they are not there.
-fn word_from(bytes: &[u8], i: usize) -> u64 {
-    if bytes.len() < 8 {
-        return 0;
-    }
-    if bytes.len() - 8 < i {
-        return 0;
-    }
-    let low = wide(bytes[i]) | (wide(bytes[i + 1]) << 8);
-    let second = (wide(bytes[i + 2]) << 16) | (wide(bytes[i + 3]) << 24);
-    let third = (wide(bytes[i + 4]) << 32) | (wide(bytes[i + 5]) << 40);
-    let high = (wide(bytes[i + 6]) << 48) | (wide(bytes[i + 7]) << 56);
-    (low | second) | (third | high)
-}
-
 // Keeps a word where there is room, and answers how many are kept.
 fn keep(words: &mut [u64], used: usize, w: u64) -> usize {
     if used < words.len() {
@@ -79,44 +50,28 @@ fn keep(words: &mut [u64], used: usize, w: u64) -> usize {
     used
 }
 
-// Keeps word number i of a piece of a file, where the piece has it.
-fn take_word(words: &mut [u64], used: usize, bytes: &[u8], i: usize) -> usize {
-    if i >= PIECE_WORDS {
-        return used;
-    }
-    if bytes.len() < 8 * i + 8 {
-        return used;
-    }
-    keep(words, used, word_from(bytes, 8 * i))
-}
-
-// Keeps the words of a piece of a file.
+// Keeps the words of a piece of a file, eight bytes each, lowest first.
 fn take_piece(words: &mut [u64], used: usize, bytes: &[u8]) -> usize {
+    let (whole, _) = bytes.as_chunks::<8>();
     let mut next = used;
-    for i in 0..PIECE_WORDS {
-        next = take_word(words, next, bytes, i);
+    for b in whole {
+        next = keep(words, next, u64::from_le_bytes(*b));
     }
     next
 }
 
-// Reads a whole file; words that have no room, and bytes that are no whole word, show.
-fn load(fd: i32, words: &mut [u64]) -> Loaded {
+// Reads a file, and answers how many words are kept of it; none of a file that goes on, or that ends within a word.
+fn load(fd: i32, words: &mut [u64]) -> Option<usize> {
     let mut used = 0;
-    for i in 0..PIECES {
+    for _ in 0..PIECES {
         let mut buffer = io::large_buffer();
         let n = io::read_full(fd, &mut buffer);
-        used = take_piece(words, used, &buffer[0..n]);
-        if n < 65536 {
-            return Loaded {
-                words: used,
-                whole: n % 8 == 0,
-            };
+        used = take_piece(words, used, &buffer[..n]);
+        if n < buffer.len() {
+            return (n % 8 == 0).then_some(used);
         }
     }
-    Loaded {
-        words: used,
-        whole: false,
-    }
+    None
 }
 
 // Puts the name that an argument is at a buffer's front, and answers its length: 0 where it is missing or has no room.
@@ -135,190 +90,118 @@ fn open(rt: &HostRuntime, path: &[u8]) -> std::io::Result<File> {
 }
 
 // Opens the file that an argument names and reads it.
-fn load_arg(rt: &HostRuntime, i: usize, words: &mut [u64]) -> Loaded {
+fn load_arg(rt: &HostRuntime, i: usize, words: &mut [u64]) -> Option<usize> {
     let mut path = io::buffer();
     let length = arg(rt, i, &mut path);
-    match open(rt, &path[..length]) {
-        Ok(file) => load(file.as_raw_fd(), words),
-        Err(_) => Loaded {
-            words: 0,
-            whole: false,
-        },
-    }
-}
-
-// A space, where one is wanted.
-fn space(page: &mut [u8], at: usize, wanted: bool) -> usize {
-    if wanted {
-        return put_byte(page, at, b' ');
-    }
-    at
+    let file = open(rt, &path[..length]).ok()?;
+    load(file.as_raw_fd(), words)
 }
 
 // Spaces up to a column.
-fn fill(page: &mut [u8], at: usize, column: usize) -> usize {
-    let mut next = at;
-    for i in 0..SIDE_COLUMN {
-        next = space(page, next, (at <= i) & (i < column));
+fn fill(page: &mut Page, column: usize) {
+    for _ in page.used()..column {
+        page.byte(b' ');
     }
-    next
 }
 
 // A kind of vote in words.
-fn put_kind(page: &mut [u8], at: usize, kind: u64) -> usize {
-    if kind == 1 {
-        return put_text(page, at, b"notar");
+fn put_kind(page: &mut Page, kind: VoteKind) {
+    match kind {
+        VoteKind::Notar => page.text(b"notar"),
+        VoteKind::NotarFallback => page.text(b"notar-fallback"),
+        VoteKind::Skip => page.text(b"skip"),
+        VoteKind::SkipFallback => page.text(b"skip-fallback"),
+        _ => page.text(b"final"),
     }
-    if kind == 2 {
-        return put_text(page, at, b"notar-fallback");
-    }
-    if kind == 3 {
-        return put_text(page, at, b"skip");
-    }
-    if kind == 4 {
-        return put_text(page, at, b"skip-fallback");
-    }
-    put_text(page, at, b"final")
 }
 
 // A block's number, a dash where the kind carries none.
-fn put_block(page: &mut [u8], at: usize, block: u64) -> usize {
+fn put_block(page: &mut Page, block: u64) {
     if block == 0 {
-        return put_byte(page, at, b'-');
+        return page.byte(b'-');
     }
-    put_decimal(page, at, block)
+    page.decimal(block);
 }
 
 // The end of a name, as much of it as a line has room for.
-fn put_name(page: &mut [u8], at: usize, name: &[u8]) -> usize {
+fn put_name(page: &mut Page, name: &[u8]) {
     if name.len() <= NAME_ROOM {
-        return put_text(page, at, name);
+        return page.text(name);
     }
     let from = name.len() - NAME_ROOM;
-    put_text(page, at, &name[from..])
+    page.text(&name[from..]);
 }
 
 // The file that an argument names.
-fn put_file(rt: &HostRuntime, page: &mut [u8], at: usize, i: usize) -> usize {
+fn put_file(rt: &HostRuntime, page: &mut Page, i: usize) {
     let mut path = io::buffer();
     let length = arg(rt, i, &mut path);
-    put_name(page, at, &path[..length])
+    put_name(page, &path[..length]);
 }
 
-// Slot, node and kind of a vote, in columns.
-fn put_front(page: &mut [u8], at: usize, slot: Slot, node: Node, kind: u64) -> usize {
-    let a = put_decimal(page, at, slot.0 as u64);
-    let b = fill(page, a, NODE_COLUMN);
-    let c = put_decimal(page, b, node.0 as u64);
-    let d = fill(page, c, KIND_COLUMN);
-    let e = put_kind(page, d, kind);
-    fill(page, e, BLOCK_COLUMN)
-}
-
-// Its block, and the file that has it.
-fn put_rest(rt: &HostRuntime, page: &mut [u8], at: usize, block: u64, side: u64) -> usize {
-    let a = put_block(page, at, block);
-    let b = fill(page, a, SIDE_COLUMN);
-    let c = put_decimal(page, b, side);
-    let d = put_byte(page, c, b' ');
-    put_file(rt, page, d, side as usize)
-}
-
-// One vote, in columns.
-fn vote_line(
-    rt: &HostRuntime,
-    page: &mut [u8],
-    at: usize,
-    slot: Slot,
-    node: Node,
-    kind: u64,
-    block: u64,
-    side: u64,
-) -> usize {
-    let next = put_front(page, at, slot, node, kind);
-    let end = put_rest(rt, page, next, block, side);
-    end_line(page, end)
+// One vote, in columns: its slot, node, kind and block, and the file that has it.
+fn vote_line(rt: &HostRuntime, page: &mut Page, line: &[u64; LINE_WORDS]) -> Result<(), Unwritten> {
+    let [slot, node, kind, block, side] = *line;
+    page.decimal(slot);
+    fill(page, NODE_COLUMN);
+    page.decimal(node);
+    fill(page, KIND_COLUMN);
+    put_kind(page, VoteKind::from(kind));
+    fill(page, BLOCK_COLUMN);
+    put_block(page, block);
+    fill(page, SIDE_COLUMN);
+    page.decimal(side);
+    page.byte(b' ');
+    put_file(rt, page, side as usize);
+    end_line(page)
 }
 
 // The last line: how many votes differ.
-fn count_line(page: &mut [u8], at: usize, lines: usize) -> usize {
+fn count_line(page: &mut Page, lines: usize) -> Result<(), Unwritten> {
     if lines == 0 {
-        return tell_line(page, at, b"equal: both have the same stored votes");
+        return tell_line(page, b"equal: both have the same stored votes");
     }
-    let p = put_text(page, at, b"differ: ");
-    let q = put_decimal(page, p, lines as u64);
-    let text = put_text(page, q, b" stored vote");
-    if lines == 1 {
-        return end_line(page, text);
+    page.text(b"differ: ");
+    page.decimal(lines as u64);
+    page.text(b" stored vote");
+    if lines != 1 {
+        page.byte(b's');
     }
-    let end = put_byte(page, text, b's');
-    end_line(page, end)
+    end_line(page)
 }
 
 // The columns' names, where there is a line under them.
-fn heading(page: &mut [u8], lines: usize) -> usize {
+fn heading(page: &mut Page, lines: usize) -> Result<(), Unwritten> {
     if lines == 0 {
-        return 0;
+        return Ok(());
     }
     tell_line(
         page,
-        0,
         b"slot  node  kind            block                 only in",
     )
 }
 
-// The vote whose five words begin at a place of the list, where they are there.
-fn listed_line(rt: &HostRuntime, page: &mut [u8], at: usize, list: &[u64], i: usize) -> usize {
-    if list.len() < LINE_WORDS {
-        return at;
-    }
-    if list.len() - LINE_WORDS < i {
-        return at;
-    }
-    let slot = Slot(list[i] as usize);
-    let node = Node(list[i + 1] as usize);
-    let kind = list[i + 2];
-    let block = list[i + 3];
-    let side = list[i + 4];
-    vote_line(rt, page, at, slot, node, kind, block, side)
-}
-
-// Line number i of so many.
-fn next_line(
-    rt: &HostRuntime,
-    page: &mut [u8],
-    at: usize,
-    list: &[u64],
-    lines: usize,
-    i: usize,
-) -> usize {
-    if lines <= i {
-        return at;
-    }
-    if MOST_LINES <= i {
-        return at;
-    }
-    listed_line(rt, page, at, list, LINE_WORDS * i)
-}
-
 // All lines of the list, and their number.
-fn tell(rt: &HostRuntime, page: &mut [u8], list: &[u64], lines: usize) -> usize {
-    let mut at = heading(page, lines);
-    for i in 0..MOST_LINES {
-        at = next_line(rt, page, at, list, lines, i);
+fn tell(rt: &HostRuntime, page: &mut Page, list: &[u64], lines: usize) -> Result<(), Unwritten> {
+    heading(page, lines)?;
+    let (all, _) = list.as_chunks::<LINE_WORDS>();
+    let listed = lines.min(all.len());
+    for line in &all[..listed] {
+        vote_line(rt, page, line)?;
     }
-    count_line(page, at, lines)
+    count_line(page, lines)
 }
 
 // What stands on standard error where nothing is compared: the file, and why.
 fn blame(rt: &HostRuntime, page: &mut [u8], i: usize, why: &[u8]) {
     let mut path = io::buffer();
     let length = arg(rt, i, &mut path);
-    let p = put_text(page, 0, b"differ: ");
-    let q = put_text(page, p, &path[..length]);
-    let r = put_text(page, q, why);
-    let s = put_byte(page, r, b'\n');
-    send_to(ERR, page, s);
+    let mut line = Page::new(page);
+    line.text(b"differ: ");
+    line.text(&path[..length]);
+    line.text(why);
+    line.byte(b'\n');
+    let _ = send_to(ERR, &line);
 }
 
 // A number that is not 0: the side's record is bad, or there are more lines than there is room for.
@@ -327,14 +210,11 @@ fn refuse(rt: &HostRuntime, page: &mut [u8], number: u64, beside: usize) {
         blame(rt, page, beside, b": this is no node's record");
         return;
     }
-    let p = put_text(page, 0, b"differ: ");
-    let q = put_decimal(page, p, beside as u64);
-    let r = put_text(
-        page,
-        q,
-        b" stored votes differ, and 40000 lines are the most that are listed\n",
-    );
-    send_to(ERR, page, r);
+    let mut line = Page::new(page);
+    line.text(b"differ: ");
+    line.decimal(beside as u64);
+    line.text(b" stored votes differ, and 40000 lines are the most that are listed\n");
+    let _ = send_to(ERR, &line);
 }
 
 // Compares two records.
@@ -347,91 +227,56 @@ fn compare(rt: &HostRuntime, page: &mut [u8], first: &[u64], second: &[u64]) {
         refuse(rt, page, number, lines);
         return;
     }
+    let mut columns = Page::new(page);
     if (lines == 1) & (list[4] == 0) {
-        tell_line(
-            page,
-            0,
+        let _ = tell_line(
+            &mut columns,
             b"differ: the stake tables, and so no vote was compared",
         );
         return;
     }
-    let end = tell(rt, page, &list, lines);
-    if page.len() <= end {
+    if tell(rt, &mut columns, &list, lines).is_err() {
         io::write_all(ERR, b"differ: a line was not written, and none follows\n");
-    }
-}
-
-// The words of the second file, as many as it has.
-fn compare_front(rt: &HostRuntime, page: &mut [u8], first: &[u64], words: &[u64], many: usize) {
-    if many < words.len() {
-        compare(rt, page, first, &words[0..many]);
-    } else {
-        compare(rt, page, first, words);
     }
 }
 
 // Reads the second file and compares.
 fn with_second(rt: &HostRuntime, page: &mut [u8], first: &[u64]) {
     let mut words = [0u64; RECORD_ROOM];
-    let second = load_arg(rt, 2, &mut words);
-    let many = second.words;
-    if second.whole {
-        compare_front(rt, page, first, &words, many);
-    } else {
-        blame(
-            rt,
-            page,
-            2,
-            b": this cannot be read, or its size is no record's",
-        );
-    }
-}
-
-// The words of the first file, as many as it has.
-fn first_front(rt: &HostRuntime, page: &mut [u8], words: &[u64], many: usize) {
-    if many < words.len() {
-        with_second(rt, page, &words[0..many]);
-    } else {
-        with_second(rt, page, words);
-    }
+    let Some(many) = load_arg(rt, 2, &mut words) else {
+        return blame(rt, page, 2, UNREAD);
+    };
+    let kept = many.min(words.len());
+    compare(rt, page, first, &words[..kept]);
 }
 
 // Reads the first file, then the second.
 fn with_first(rt: &HostRuntime, page: &mut [u8]) {
     let mut words = [0u64; RECORD_ROOM];
-    let first = load_arg(rt, 1, &mut words);
-    let many = first.words;
-    if first.whole {
-        first_front(rt, page, &words, many);
-    } else {
-        blame(
-            rt,
-            page,
-            1,
-            b": this cannot be read, or its size is no record's",
-        );
-    }
+    let Some(many) = load_arg(rt, 1, &mut words) else {
+        return blame(rt, page, 1, UNREAD);
+    };
+    let kept = many.min(words.len());
+    with_second(rt, page, &words[..kept]);
 }
 
 // What the program says of itself.
-fn help(page: &mut [u8]) {
-    let a = tell_line(page, 0, b"usage: differ FILE FILE");
-    let b = tell_line(
-        page,
-        a,
+fn help(page: &mut [u8]) -> Result<(), Unwritten> {
+    let mut lines = Page::new(page);
+    tell_line(&mut lines, b"usage: differ FILE FILE")?;
+    tell_line(
+        &mut lines,
         b"Lists the stored votes in which two saved records differ: slot, node, kind,",
-    );
-    let c = tell_line(
-        page,
-        b,
+    )?;
+    tell_line(
+        &mut lines,
         b"block (- where the kind carries none), and which of the two has the vote.",
-    );
-    let d = tell_line(
-        page,
-        c,
+    )?;
+    tell_line(
+        &mut lines,
         b"The last line begins with `equal` or `differ`. A file is a record's words,",
-    );
-    tell_line(page, d, b"8 bytes each, lowest byte first.");
+    )?;
+    tell_line(&mut lines, b"8 bytes each, lowest byte first.")
 }
 
 // Whether the program has an argument of that number.
@@ -446,7 +291,7 @@ fn has_arg(rt: &HostRuntime, i: usize) -> bool {
 fn main(rt: HostRuntime) {
     let mut page = [0u8; PAGE_ROOM];
     if !has_arg(&rt, 2) {
-        help(&mut page);
+        let _ = help(&mut page);
         return;
     }
     with_first(&rt, &mut page);

@@ -7,7 +7,7 @@ ghost use Rattle.piecing.specs.Answer.{piece_line};
 
 use door::{Unwritten, send};
 use hex_bytes::read_hex;
-use lines::put_text;
+use lines::Page;
 use quointrowel::{qr_end, qr_piece};
 use replies::{checked, malformed, number};
 use rulebook::Weight;
@@ -20,8 +20,9 @@ fn taken(page: &mut [u8], n: u64) -> Result<(), Unwritten>
     if n != 0 {
         return number(page, n);
     }
-    let used = put_text(page, 0, b"more\n");
-    send(page, used)
+    let mut line = Page::new(page);
+    line.text(b"more\n");
+    send(&line)
 }
 
 // piece HEX STAKE..; a line has no room for more than 32,768 bytes of packet, and 2,049 stakes are kept, which are too many already.

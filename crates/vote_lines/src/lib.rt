@@ -1,11 +1,10 @@
-// The list of stored votes, as people read it. Every function takes any words. Lines are built in a lent page and leave by the door one
-// by one; a function takes the place that was reached in the page and answers the next. A line that was not written is an error, and
-// ends the list.
+// The list of stored votes, as people read it. Every function takes any words. Lines are built on a page and leave by the door one by one.
+// A line that was not written is an error, and ends the list.
 #![tactic(auto)]
 
 use door::{Unwritten, end_line};
 use kinds::slot_ok;
-use lines::{put_named, put_share, put_text, put_vote};
+use lines::Page;
 use replies::number;
 use rulebook::{Cell, Node, Slot, VoteKind, Weight};
 use shown::{cell_of, is_large, nodes_of, total_of};
@@ -24,46 +23,38 @@ const LAST_SLOT: usize = 16;
 
 // One stored vote, where there is one.
 fn vote_line(
-    page: &mut [u8],
-    at: usize,
+    page: &mut Page,
     there: bool,
     s: Slot,
     n: Node,
     kind: VoteKind,
     block: u64,
-) -> Result<usize, Unwritten> {
+) -> Result<(), Unwritten> {
     if !there {
-        return Ok(at);
+        return Ok(());
     }
-    let next = put_vote(page, at, s, n, u64::from(kind), block);
-    end_line(page, next)
+    page.vote(s, n, u64::from(kind), block);
+    end_line(page)
 }
 
 // The notar-fallback votes of a cell, lowest block first: three at most.
-fn fallback_lines(
-    page: &mut [u8],
-    at: usize,
-    c: Cell,
-    s: Slot,
-    n: Node,
-) -> Result<usize, Unwritten> {
-    let mut next = at;
+fn fallback_lines(page: &mut Page, c: Cell, s: Slot, n: Node) -> Result<(), Unwritten> {
     let mut block = fallback_after(c, 0);
     for _ in 0..MOST_FALLBACKS {
         if block == 0 {
-            return Ok(next);
+            return Ok(());
         }
-        next = vote_line(page, next, true, s, n, VoteKind::NotarFallback, block)?;
+        vote_line(page, true, s, n, VoteKind::NotarFallback, block)?;
         block = fallback_after(c, block);
     }
-    Ok(next)
+    Ok(())
 }
 
 // The votes of a node in a slot, by kind.
-fn cell_lines(page: &mut [u8], at: usize, c: Cell, s: Slot, n: Node) -> Result<usize, Unwritten> {
-    let p = vote_line(page, at, c.notar != 0, s, n, VoteKind::Notar, c.notar)?;
-    let q = fallback_lines(page, p, c, s, n)?;
-    let r = vote_line(page, q, c.skip != 0, s, n, VoteKind::Skip, 0)?;
+fn cell_lines(page: &mut Page, c: Cell, s: Slot, n: Node) -> Result<(), Unwritten> {
+    vote_line(page, c.notar != 0, s, n, VoteKind::Notar, c.notar)?;
+    fallback_lines(page, c, s, n)?;
+    vote_line(page, c.skip != 0, s, n, VoteKind::Skip, 0)?;
     let t = vote_line(
         page,
         r,
@@ -73,73 +64,60 @@ fn cell_lines(page: &mut [u8], at: usize, c: Cell, s: Slot, n: Node) -> Result<u
         VoteKind::SkipFallback,
         0,
     )?;
-    vote_line(page, t, c.finalvote != 0, s, n, VoteKind::Final, 0)
+    vote_line(page, c.finalvote != 0, s, n, VoteKind::Final, 0)
 }
 
 // Where further nodes' votes are told, where a page did not hold them all.
-fn more_votes(
-    page: &mut [u8],
-    at: usize,
-    rec: &[u64],
-    s: Slot,
-    next: Node,
-) -> Result<usize, Unwritten> {
+fn more_votes(page: &mut Page, rec: &[u64], s: Slot, next: Node) -> Result<(), Unwritten> {
     if next.0 >= nodes_of(rec) {
-        return Ok(at);
+        return Ok(());
     }
-    let p = put_named(page, at, b"more: votes ", s.0 as u64);
-    let q = put_named(page, p, b" ", next.0 as u64);
-    end_line(page, q)
+    page.named(b"more: votes ", s.0 as u64);
+    page.named(b" ", next.0 as u64);
+    end_line(page)
 }
 
 // The votes of a slot, by node: a page of the nodes from one on that have some.
-fn voter_lines(
-    page: &mut [u8],
-    at: usize,
-    rec: &[u64],
-    s: Slot,
-    from: Node,
-) -> Result<usize, Unwritten> {
+fn voter_lines(page: &mut Page, rec: &[u64], s: Slot, from: Node) -> Result<(), Unwritten> {
     let nodes = nodes_of(rec);
-    let mut next = at;
     let mut n = voter_from(rec, s, from);
     for _ in 0..VOTERS_ON_A_PAGE {
         if n.0 >= nodes {
-            return Ok(next);
+            return Ok(());
         }
-        next = cell_lines(page, next, cell_of(rec, s, n), s, n)?;
+        cell_lines(page, cell_of(rec, s, n), s, n)?;
         n = voter_from(rec, s, Node(n.0 + 1));
     }
-    more_votes(page, next, rec, s, n)
+    more_votes(page, rec, s, n)
 }
 
 // How many votes of a slot are stored, by how many nodes, what these weigh, and how to get the votes, where there are any.
-fn stored_line(page: &mut [u8], at: usize, rec: &[u64], s: Slot) -> Result<usize, Unwritten> {
+fn stored_line(page: &mut Page, rec: &[u64], s: Slot) -> Result<(), Unwritten> {
     let stored = stored_in(rec, s);
     if stored.nodes == 0 {
-        return Ok(at);
+        return Ok(());
     }
-    let p = put_named(page, at, b"slot ", s.0 as u64);
-    let q = put_named(page, p, b" votes ", stored.votes);
-    let r = put_named(page, q, b" nodes ", stored.nodes);
-    let t = stored_weight(page, r, rec, stored.weight);
-    let u = put_named(page, t, b": votes ", s.0 as u64);
-    let v = put_text(page, u, b" 0");
-    end_line(page, v)
+    page.named(b"slot ", s.0 as u64);
+    page.named(b" votes ", stored.votes);
+    page.named(b" nodes ", stored.nodes);
+    stored_weight(page, rec, stored.weight);
+    page.named(b": votes ", s.0 as u64);
+    page.text(b" 0");
+    end_line(page)
 }
 
 // The weight of the nodes whose votes are stored.
-fn stored_weight(page: &mut [u8], at: usize, rec: &[u64], w: Weight) -> usize {
-    let p = put_text(page, at, b" weight");
-    put_share(page, p, w, percent(w, total_of(rec)))
+fn stored_weight(page: &mut Page, rec: &[u64], w: Weight) {
+    page.text(b" weight");
+    page.share(w, percent(w, total_of(rec)));
 }
 
 // The votes of a slot, or in a large ring what they are in sum.
-fn slot_lines(page: &mut [u8], at: usize, rec: &[u64], s: Slot) -> Result<usize, Unwritten> {
+fn slot_lines(page: &mut Page, rec: &[u64], s: Slot) -> Result<(), Unwritten> {
     if is_large(rec) {
-        return stored_line(page, at, rec, s);
+        return stored_line(page, rec, s);
     }
-    voter_lines(page, at, rec, s, Node(0))
+    voter_lines(page, rec, s, Node(0))
 }
 
 // Every stored vote, in the order of slot, node, kind and block, in a large ring a line a slot; 17 where the words are no record.
@@ -147,9 +125,9 @@ pub fn votes(page: &mut [u8], rec: &[u64]) -> Result<(), Unwritten> {
     if !sound(rec) {
         return number(page, 17);
     }
-    let mut at = 0;
+    let mut lines = Page::new(page);
     for s in 1..=LAST_SLOT {
-        at = slot_lines(page, at, rec, Slot(s))?;
+        slot_lines(&mut lines, rec, Slot(s))?;
     }
     Ok(())
 }
@@ -166,6 +144,6 @@ pub fn slot_votes(page: &mut [u8], rec: &[u64], s: Slot, from: Node) -> Result<(
     if from.0 >= nodes_of(rec) {
         return number(page, 2);
     }
-    voter_lines(page, 0, rec, s, from)?;
-    Ok(())
+    let mut lines = Page::new(page);
+    voter_lines(&mut lines, rec, s, from)
 }

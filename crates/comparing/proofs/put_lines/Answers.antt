@@ -1,16 +1,16 @@
 -- The loop over the lines: those before the present one are put.
-use Rattle.lines.proofs.Putting.{as_text}
+use Rattle.lines.proofs.Paging.{as_text}
 use Rattle.comparing.specs.Compared.{line_text}
 use Rattle.comparing.proofs.Laws.{no_part, next_part, last_line}
 use Rattle.comparing.proofs.Lines.{line_alone, last_alone}
 use Rattle.comparing.proofs.put_lines.Goals as goal
 
 pub loop-line-init : goal.loop-line-init
-loop-line-init c = no_part _ _ (line_text c.args.list.now)
+loop-line-init c = no_part _ (line_text c.args.list.now)
 
 pub loop-line-preserved : goal.loop-line-preserved
 loop-line-preserved c =
-    next_part (line_text c.args.list.now) _ c.loop-line.invariant (as_text (line_alone _ _ _ c.loop-line.line-index c.as_chunks.ensures.front c.as_chunks.ensures.front_len c.loop-line-test.true) c.put_line-next.ensures)
+    next_part (line_text c.args.list.now) _ c.loop-line.invariant (as_text (line_alone _ _ _ c.loop-line.line-index c.as_chunks.ensures.front c.as_chunks.ensures.front_len c.loop-line-test.true) c.put_line.ensures)
 
 pub returns : goal.returns
 returns c =

@@ -5,6 +5,8 @@ use Rattle.piecing.specs.Answer.{piece_line}
 use Rattle.rule_laws.proofs.ToolLaws.{choose_on, choose_off}
 use borrow.Author.Tests.{eq-eqb, ne_eqb}
 use mathlib.Core.Path.{◌∙◌, ap, sym}
+use Rattle.std.proofs.Common.{rules, refl}
+use Rattle.lines.proofs.Paging.{ended}
 use Rattle.piecing.proofs.taken.Goals as goal
 
 pub returns-then-n-ne0 : goal.returns-then-n-ne0
@@ -15,4 +17,4 @@ returns-then-n-ne0 c =
 pub returns : goal.returns
 unfolding piece_line
 returns c =
-    c.put_text-used.ensures.bytes ∙ ap (sets c.args.page.now 0) (sym (choose_on (eqb c.args.n 0) _ _ (eq-eqb c.args.n 0 c.if-n-ne0.false)))
+    (ended c.text.ensures c.new-line.ensures.same c.new-line.ensures.front refl (search rules)).bytes ∙ ap (sets c.args.page.now 0) (sym (choose_on (eqb c.args.n 0) _ _ (eq-eqb c.args.n 0 c.if-n-ne0.false)))
