@@ -36,8 +36,6 @@ pub fn step(rec: &mut [u64], outbox: &mut [u64], input: Input) -> Result<usize, 
     if outbox.len() < OUTBOX_WORDS {
         return Err(Refusal::NoRoom);
     }
-    match judge_input(rec, input) {
-        Err(r) => Err(r),
-        Ok(()) => Ok(act(rec, outbox, input)),
-    }
+    judge_input(rec, input)?;
+    Ok(act(rec, outbox, input))
 }

@@ -1,5 +1,6 @@
 -- Each way out of a step: 17, 9, the input's own refusal, done.
 use mathlib.Core.Path.{◌∙◌, sym}
+use Rattle.std.proofs.lemmas.Result.{err_from_is_err_and}
 use Rattle.soundness.proofs.Laws.{sound_counted}
 use Rattle.node.proofs.StepLaws.{step_unsound, step_cramped, step_refused, step_done}
 use Rattle.node.proofs.step.Goals as goal
@@ -17,12 +18,15 @@ judge_input-requires c = sound_counted c.args.rec.now (sym c.sound.ensures ∙ c
 
 pub act-requires : goal.act-requires
 act-requires c =
-    record { sound = sym c.sound.ensures ∙ c.if-not-sound.false; room = c.if-outbox-lt-OUTBOX_WORDS.false; fine = sym c.judge_input.ensures ∙ c.in-Ok.is }
+    record { sound = sym c.sound.ensures ∙ c.if-not-sound.false; room = c.if-outbox-lt-OUTBOX_WORDS.false; fine = sym (c.in_ok-judge_input.ensures) }
 
-pub returns-in-Err : goal.returns-in-Err
-returns-in-Err c =
-    let a = c.args in step_refused a.rec.now a.outbox.now a.input (sym c.sound.ensures ∙ c.if-not-sound.false) c.if-outbox-lt-OUTBOX_WORDS.false _ (sym c.judge_input.ensures ∙ c.in-Err.is)
+pub returns-in_err-judge_input : goal.returns-in_err-judge_input
+returns-in_err-judge_input c =
+    let a = c.args in
+    let p = err_from_is_err_and c.from_residual.result c.from_residual.ensures.1 in
+    rw (p.1, p.2)
+    (step_refused a.rec.now a.outbox.now a.input (sym c.sound.ensures ∙ c.if-not-sound.false) c.if-outbox-lt-OUTBOX_WORDS.false _ (sym (c.in_err-judge_input.ensures)))
 
-pub returns-in-Ok : goal.returns-in-Ok
-returns-in-Ok c =
-    let a = c.args in let q = c.act in step_done a.rec.now a.outbox.now a.input (sym c.sound.ensures ∙ c.if-not-sound.false) c.if-outbox-lt-OUTBOX_WORDS.false (sym c.judge_input.ensures ∙ c.in-Ok.is) (λ n. (c.slice_known-in-Ok-1.given n).fits) q.auto.outbox q.ensures
+pub returns : goal.returns
+returns c =
+    let a = c.args in let q = c.act in step_done a.rec.now a.outbox.now a.input (sym c.sound.ensures ∙ c.if-not-sound.false) c.if-outbox-lt-OUTBOX_WORDS.false (sym (c.in_ok-judge_input.ensures)) (λ n. (c.slice_known-3-1.given n).fits) q.auto.outbox q.ensures
