@@ -43,12 +43,9 @@ pub vote_none : (x : ℕ) (f : Unit {0} → Bool) (y : Line) {list : List ℕ} {
 unfolding none_or
 vote_none x f y e = passes_none y (none_or x f) (given_off (not (none x)) true f (ap not (eq-eqb x 0 e)))
 
-pub vote_put : (x : ℕ) (f : Unit {0} → Bool) (s n m : ℕ) (v : Ballot) (w : ℕ) {t : Bool} {list left : List ℕ} {at next : ℕ} → (x ≡ 0 → ⊥) → t ≡ f tt → m ≡ n
-    → Laid list at (unless t (line_of s m v w)) left next → Laid list at (unless (none_or x f) (line_of s n v w)) left next
+pub some_or : (x : ℕ) (f : Unit {0} → Bool) → (x ≡ 0 → ⊥) → none_or x f ≡ f tt
 unfolding none_or
-vote_put x f s n m v w h e k d =
-    let g = e ∙ sym (given_on (not (none x)) true f (ap not (ne_eqb x 0 h))) in
-    laid_as (ap₂ (λ (b : Bool) (j : ℕ). unless b (line_of s j v w)) g k) d
+some_or x f h = given_on (not (none x)) true f (ap not (ne_eqb x 0 h))
 
 -- ---- how many lines
 

@@ -31,7 +31,7 @@ use Rattle.inquest.specs.Lists.{unless, lines_to, notar_line, fallback_line, lat
 use Rattle.inquest_lines.specs.declared.ListRefusal.{ListRefusal}
 use Rattle.inquest_lines.specs.declared.ListRefusal.TheVariants as why
 use Rattle.inquest_lines.specs.Lent.{Laid, refused_by, listed_in, ToldIn}
-use Rattle.inquest_lines.proofs.Laws.{laid_then, laid_as, unless_most, more_most, to_most, told_as, told_refused}
+use Rattle.inquest_lines.proofs.Laws.{spelled, laid_then, laid_as, unless_most, more_most, to_most, told_as, told_refused}
 use Rattle.standing.specs.Asked.{stands_on, StandsOf}
 
 pub parent_first : (l : Ledger) (s : ℕ) (b : Block) → is_first s ≡ true → ready l s b.parentslot.0 b.parent ≡ parent_fits l s (is_first s) b
@@ -144,8 +144,8 @@ unfolding fallen
 fallen_most l = slots_most l last_slot
 
 -- A vote puts one line at most.
-pub line_on : (t : Bool) (x : Line) {list left : List ℕ} {at next : ℕ} → Laid list at (unless t x) left next → next ≤ at + 1
-line_on t x w = omega (arith, w.many, unless_most t x)
+pub line_upto : (t : Bool) (x : Line) {list left : List ℕ} {at next : ℕ} → Laid list at (unless t x) left next → next ≤ at + 1
+line_upto t x w = omega (arith, w.many, unless_most t x)
 
 -- The lines of a slot one after the other, from the cell as it was loaded.
 pub slot_put : (l : Ledger) (s : ℕ) (c : Cell) → c ≡ own_cell l s → {v0 v1 v2 v3 v4 v5 v6 : List ℕ} {a0 a1 a2 a3 a4 a5 a6 : ℕ}
@@ -153,7 +153,7 @@ pub slot_put : (l : Ledger) (s : ℕ) (c : Cell) → c ≡ own_cell l s → {v0 
     → Laid v3 a3 (fallback_line l s c.fallback3) v4 a4 → Laid v4 a4 (late_line l s c.skipfallback) v5 a5 → Laid v5 a5 (final_line l s c.finalvote) v6 a6
     → Laid v0 a0 (slot_fallen l s) v6 a6
 unfolding slot_fallen cell_fallen
-slot_put l s c o p q r t u w = laid_as (ap (cell_fallen l s) o) (laid_then p (laid_then q (laid_then r (laid_then t (laid_then u w)))))
+slot_put l s c o p q r t u w = laid_as (ap (cell_fallen l s) o) (laid_then spelled p (laid_then spelled q (laid_then spelled r (laid_then spelled t (laid_then spelled u w)))))
 
 -- ---- the call
 

@@ -2,30 +2,27 @@
 // lines of those that fail it.
 #![tactic(auto)]
 
-ghost use Rattle.std.specs.Prelude.{◌≡◌, not, ◌&&◌, length};
+ghost use Rattle.std.specs.Prelude.{◌≡◌, not, ◌+◌, ◌≤◌, ◌&&◌, length};
 ghost use Rattle.rulebook.specs.Weights.{is_first};
 ghost use Rattle.rulebook.specs.Ledger.{none};
 ghost use Rattle.rulebook.specs.Rules.{parent_fits};
 ghost use Rattle.safety.specs.Moves.{no_fallback, not_for};
-ghost use Rattle.record.specs.Layout.{ledger_of};
+ghost use Rattle.record.specs.Layout.{Long, ledger_of};
 ghost use Rattle.pool.specs.Weighing.{Carded};
 ghost use Rattle.candidates.specs.Judging.{Judging};
 ghost use Rattle.inquest.specs.Stands.{lets_notar, notar_stands, fallback_stands, late_stands, final_stands};
-ghost use Rattle.inquest.specs.Lists.{notar_line, fallback_line, late_line, final_line, slot_fallen, fallen};
-ghost use Rattle.inquest_lines.specs.Lent.{Laid, ToldIn, listed_in};
-ghost use Rattle.standing.specs.Asked.{Putting, PuttingSlot, Sounding, StandsOf};
+ghost use Rattle.inquest.specs.Lists.{slot_fallen, fallen};
+ghost use Rattle.inquest_lines.specs.Lent.{Laid, ToldIn, listed_in, most_lines};
+ghost use Rattle.standing.specs.Asked.{line_on, OwnLine, PuttingSlot, Sounding, StandsOf};
 
 use candidates::{fallback_weights, is_grounded, skip_weights};
 use inquest::Line;
-use inquest_lines::{ListRefusal, put_unless};
+use inquest_lines::{ListRefusal, list_lines, put_unless};
 use parents::ready;
 use pool::{held, is_first};
 use record::{LAST_SLOT, MOST_BLOCKS, load_block, own, own_cell};
 use rulebook::{Block, Cell, CertificateKind, Refusal, Slot, VoteKind};
 use soundness::sound;
-
-// How many words a line has.
-const LINE_WORDS: usize = 5;
 
 // The rules' numbers beside a vote; A is 1.
 const RULE_B: u64 = 2;
@@ -132,80 +129,31 @@ fn final_stands(rec: &[u64], s: Slot) -> bool
     held(rec, CertificateKind::Notar, s, c.notar)
 }
 
-// Puts the line of an own notar vote for b that does not stand; 0 is none.
-fn put_notar(list: &mut [u64], at: usize, rec: &[u64], s: Slot, b: u64) -> usize
-    requires { Putting rec.now s.0 at }
-    ensures { Laid list.old at (notar_line (ledger_of rec.now) s.0 b) list.new result }
+// The line of an own vote, with the rule that casts it.
+fn own_line(rec: &[u64], slot: Slot, kind: VoteKind, block: u64, source: u64) -> Line
+    requires { Long rec.now }
+    ensures { result ≡ line_on (ledger_of rec.now).own slot kind block source }
 {
-    if b == 0 {
-        return at;
-    }
-    let stands = notar_stands(rec, s, b);
-    let x = Line {
-        slot: s,
+    Line {
+        slot,
         node: own(rec),
-        kind: VoteKind::Notar,
-        block: b,
-        source: RULE_B,
-    };
-    put_unless(list, at, stands, x)
+        kind,
+        block,
+        source,
+    }
 }
 
-// The same of an own notar-fallback for b.
-fn put_fallback(list: &mut [u64], at: usize, rec: &[u64], s: Slot, b: u64) -> usize
-    requires { Putting rec.now s.0 at }
-    ensures { Laid list.old at (fallback_line (ledger_of rec.now) s.0 b) list.new result }
+// Puts the line of an own vote that does not stand; a word of 0 is no vote, and its test is not asked.
+fn put_own<F: FnOnce() -> bool>(list: &mut [u64], at: usize, word: u64, x: Line, stands: F) -> usize
+    requires room { at + 1 ≤ most_lines }
+    requires callable { F.IsAlwaysCallable stands }
+    ensures line { OwnLine F.FnOnce stands word x list.old at list.new result }
+    ensures upto { result ≤ at + 1 }
 {
-    if b == 0 {
+    if word == 0 {
         return at;
     }
-    let stands = fallback_stands(rec, s, b);
-    let x = Line {
-        slot: s,
-        node: own(rec),
-        kind: VoteKind::NotarFallback,
-        block: b,
-        source: RULE_D,
-    };
-    put_unless(list, at, stands, x)
-}
-
-// The same of an own skip-fallback.
-fn put_late(list: &mut [u64], at: usize, rec: &[u64], s: Slot, late: u64) -> usize
-    requires { Putting rec.now s.0 at }
-    ensures { Laid list.old at (late_line (ledger_of rec.now) s.0 late) list.new result }
-{
-    if late == 0 {
-        return at;
-    }
-    let stands = late_stands(rec, s);
-    let x = Line {
-        slot: s,
-        node: own(rec),
-        kind: VoteKind::SkipFallback,
-        block: 0,
-        source: RULE_E,
-    };
-    put_unless(list, at, stands, x)
-}
-
-// The same of an own final vote.
-fn put_final(list: &mut [u64], at: usize, rec: &[u64], s: Slot, last: u64) -> usize
-    requires { Putting rec.now s.0 at }
-    ensures { Laid list.old at (final_line (ledger_of rec.now) s.0 last) list.new result }
-{
-    if last == 0 {
-        return at;
-    }
-    let stands = final_stands(rec, s);
-    let x = Line {
-        slot: s,
-        node: own(rec),
-        kind: VoteKind::Final,
-        block: 0,
-        source: RULE_C,
-    };
-    put_unless(list, at, stands, x)
+    put_unless(list, at, stands(), x)
 }
 
 // Puts the lines of a slot, kinds ascending.
@@ -214,12 +162,36 @@ fn put_slot(list: &mut [u64], at: usize, rec: &[u64], s: Slot) -> usize
     ensures { Laid list.old at (slot_fallen (ledger_of rec.now) s.0) list.new result }
 {
     let c = own_cell(rec, s);
-    let a = put_notar(list, at, rec, s, c.notar);
-    let b = put_fallback(list, a, rec, s, c.fallback1);
-    let d = put_fallback(list, b, rec, s, c.fallback2);
-    let e = put_fallback(list, d, rec, s, c.fallback3);
-    let f = put_late(list, e, rec, s, c.skipfallback);
-    put_final(list, f, rec, s, c.finalvote)
+    let x = own_line(rec, s, VoteKind::Notar, c.notar, RULE_B);
+    let a = put_own(list, at, c.notar, x, || notar_stands(rec, s, c.notar));
+    let x = own_line(rec, s, VoteKind::NotarFallback, c.fallback1, RULE_D);
+    let b = put_own(
+        list,
+        a,
+        c.fallback1,
+        x,
+        || fallback_stands(rec, s, c.fallback1),
+    );
+    let x = own_line(rec, s, VoteKind::NotarFallback, c.fallback2, RULE_D);
+    let d = put_own(
+        list,
+        b,
+        c.fallback2,
+        x,
+        || fallback_stands(rec, s, c.fallback2),
+    );
+    let x = own_line(rec, s, VoteKind::NotarFallback, c.fallback3, RULE_D);
+    let e = put_own(
+        list,
+        d,
+        c.fallback3,
+        x,
+        || fallback_stands(rec, s, c.fallback3),
+    );
+    let x = own_line(rec, s, VoteKind::SkipFallback, 0, RULE_E);
+    let f = put_own(list, e, c.skipfallback, x, || late_stands(rec, s));
+    let x = own_line(rec, s, VoteKind::Final, 0, RULE_C);
+    put_own(list, f, c.finalvote, x, || final_stands(rec, s))
 }
 
 // Puts the lines of all slots, and answers how many there are, also where the list is too short for them.
@@ -239,14 +211,7 @@ fn list_fallen(list: &mut [u64], rec: &[u64]) -> Result<usize, ListRefusal>
     requires { Sounding rec.now }
     ensures { ToldIn list.old (listed_in (length list.old) (fallen (ledger_of rec.now))) result list.new }
 {
-    let needed = put_slots(&mut list[0..0], rec);
-    if list.len() < LINE_WORDS * needed {
-        return Err(ListRefusal::NoRoom(needed));
-    }
-    if needed == 0 {
-        return Ok(0);
-    }
-    Ok(put_slots(list, rec))
+    list_lines(list, |part| put_slots(part, rec))
 }
 
 // Which own votes of a record do not stand, as lines from the list's front: refused with 17, or with 9 and the number of lines needed, and
