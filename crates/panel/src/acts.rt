@@ -3,26 +3,59 @@ ghost use Rattle.commands.specs.Commands.{Heard};
 
 use commands::{Command, Reading, command_of, reading_on};
 use comparing::{certificates, differ, parents, save, stands, vouched};
+use door::Unwritten;
 use piecing::{end, piece};
-use replies::{Turn, answered};
-use script::word_at;
+use replies::Stop;
+use script::{Word, word_at};
 use telling::{block, look, node_words, start, take, timeout, tray, vote, watch};
 
+// Every answer has room in a page: at most 160 records of 63 bytes with the numbers of 8,191 votes, three bytes each, 1,536 bytes in hex, or
+// the 15,360 lines of a comparison, 33 bytes each.
+pub const PAGE_ROOM: usize = 506912;
+
+// The words of the largest record, that of 2,048 nodes.
+pub const RECORD_WORDS: usize = 260473;
+
+pub const OUTBOX_WORDS: usize = 480;
+
+// The words and bytes of a proof that arrives in pieces.
+pub const PIECES_WORDS: usize = 2050;
+
+pub const PIECES_BYTES: usize = 1341;
+
+// What a script is answered with: the page in which an answer is built, the node's record, the one that was set aside, what the node made last,
+// and a proof that arrives in pieces.
+#[derive(Drop)]
+pub struct Desk {
+    pub page: [u8; PAGE_ROOM],
+    pub rec: [u64; RECORD_WORDS],
+    pub aside: [u64; RECORD_WORDS],
+    pub outbox: [u64; OUTBOX_WORDS],
+    pub pieces: [u64; PIECES_WORDS],
+    pub front: [u8; PIECES_BYTES],
+}
+
 // Answers a command that tells the node nothing, from as many of the words as are the node's.
-fn ask(page: &mut [u8], c: Command, line: &[u8], at: usize, rec: &[u64]) -> Turn {
+fn ask(page: &mut [u8], c: Command, line: &[u8], at: usize, rec: &[u64]) -> Result<(), Stop> {
     let words = node_words(rec);
-    asking::ask(page, c, line, at, &rec[0..words])
+    asking::ask(page, c, line, at, &rec[..words])
 }
 
 // Answers a line that is no command, and reads something or nothing; both nodes are lent to be read.
-fn read(page: &mut [u8], line: &[u8], at: usize, rec: &[u64], aside: &[u64]) -> Turn {
+fn read(
+    page: &mut [u8],
+    line: &[u8],
+    at: usize,
+    rec: &[u64],
+    aside: &[u64],
+) -> Result<(), Unwritten> {
     let r = reading_on(line);
     match r {
-        Reading::Parents => answered(parents(page, aside, rec)),
-        Reading::Certificates => answered(certificates(page, line, at, rec)),
+        Reading::Parents => parents(page, aside, rec),
+        Reading::Certificates => certificates(page, line, at, rec),
         _ => {
             let words = node_words(rec);
-            asking::read(page, r, line, at, &rec[0..words])
+            asking::read(page, r, line, at, &rec[..words])
         }
     }
 }
@@ -36,49 +69,41 @@ fn others(
     at: usize,
     rec: &[u64],
     aside: &mut [u64],
-) -> Turn {
+) -> Result<(), Stop> {
     match c {
-        Command::Aside => answered(comparing::aside(page, rec, aside)),
-        Command::Differ => answered(differ(page, aside, rec)),
-        Command::Save => answered(save(rt, page, line, at, rec)),
-        Command::Stands => answered(stands(page, rec)),
-        Command::Vouched => answered(vouched(page, line, at, aside, rec)),
-        Command::Other => read(page, line, at, rec, aside),
-        _ => ask(page, c, line, at, rec),
+        Command::Aside => comparing::aside(page, rec, aside)?,
+        Command::Differ => differ(page, aside, rec)?,
+        Command::Save => save(rt, page, line, at, rec)?,
+        Command::Stands => stands(page, rec)?,
+        Command::Vouched => vouched(page, line, at, aside, rec)?,
+        Command::Other => read(page, line, at, rec, aside)?,
+        _ => ask(page, c, line, at, rec)?,
     }
+    Ok(())
 }
 
-// Answers a line, and tells what follows; nothing is answered where it has no word. A line that is none of the commands leaves record
-// and outbox as they were, and so does every command that only asks.
-pub fn obey(
-    rt: &HostRuntime,
-    page: &mut [u8],
-    line: &[u8],
-    rec: &mut [u64],
-    aside: &mut [u64],
-    outbox: &mut [u64],
-    pieces: &mut [u64],
-    front: &mut [u8],
-) -> Turn
-    ensures { Heard line.now rec.old outbox.old rec.new outbox.new }
+// Answers a line; nothing is answered where it has no word. A line that is none of the commands leaves record and outbox as they were,
+// and so does every command that only asks.
+#[tactic(auto, using(commands::proofs::Laws::telling), unfolding(commands::specs::Commands::tells))]
+pub fn obey(rt: &HostRuntime, desk: &mut Desk, line: &[u8]) -> Result<(), Stop>
+    ensures { Heard line.now desk.old.rec desk.old.outbox desk.new.rec desk.new.outbox }
 {
-    let w = word_at(line, 0);
-    let at = w.to;
-    if at <= w.from {
-        return Turn::On;
+    let Word { from, to } = word_at(line, 0);
+    if to <= from {
+        return Ok(());
     }
     let c = command_of(line);
     match c {
-        Command::Start => answered(start(page, line, at, rec)),
-        Command::Watch => answered(watch(page, line, at, rec)),
-        Command::Vote => answered(vote(page, line, at, rec, outbox)),
-        Command::Block => answered(block(page, line, at, rec, outbox)),
-        Command::Timeout => answered(timeout(page, line, at, rec, outbox)),
-        Command::Look => answered(look(page, rec, outbox)),
-        Command::Tray => answered(tray(page, line, at, rec, outbox)),
-        Command::Take => answered(take(page, line, at, rec, outbox)),
-        Command::Piece => answered(piece(page, line, at, pieces, front)),
-        Command::End => answered(end(page, pieces, front)),
-        _ => others(rt, page, c, line, at, rec, aside),
+        Command::Start => Ok(start(&mut desk.page, line, to, &mut desk.rec)?),
+        Command::Watch => Ok(watch(&mut desk.page, line, to, &mut desk.rec)?),
+        Command::Vote => Ok(vote(&mut desk.page, line, to, &mut desk.rec, &mut desk.outbox)?),
+        Command::Block => Ok(block(&mut desk.page, line, to, &mut desk.rec, &mut desk.outbox)?),
+        Command::Timeout => Ok(timeout(&mut desk.page, line, to, &mut desk.rec, &mut desk.outbox)?),
+        Command::Look => Ok(look(&mut desk.page, &mut desk.rec, &mut desk.outbox)?),
+        Command::Tray => Ok(tray(&mut desk.page, line, to, &mut desk.rec, &mut desk.outbox)?),
+        Command::Take => Ok(take(&mut desk.page, line, to, &mut desk.rec, &mut desk.outbox)?),
+        Command::Piece => Ok(piece(&mut desk.page, line, to, &mut desk.pieces, &mut desk.front)?),
+        Command::End => Ok(end(&mut desk.page, &mut desk.pieces, &mut desk.front)?),
+        _ => others(rt, &mut desk.page, c, line, to, &desk.rec, &mut desk.aside),
     }
 }

@@ -3,11 +3,9 @@
 
 mod acts;
 
-ghost use Rattle.std.specs.Prelude.{◌<◌};
-
-use acts::obey;
+use acts::{Desk, OUTBOX_WORDS, PAGE_ROOM, PIECES_BYTES, PIECES_WORDS, RECORD_WORDS, obey};
 use door::{fail, file_name};
-use replies::{Turn, answered, goes_on, malformed};
+use replies::{Stop, malformed};
 use std::env::{Env, FillError};
 use std::fs::File;
 use std::io::{Error, Read};
@@ -17,242 +15,109 @@ const LINE_ROOM: usize = 65538;
 
 const LONGEST: usize = 65536;
 
-// Every answer has room in a page: at most 160 records of 63 bytes with the numbers of 8,191 votes, three bytes each, 1,536 bytes in hex, or
-// the 15,360 lines of a comparison, 33 bytes each.
-const PAGE_ROOM: usize = 506912;
-
-// The words of the largest record, that of 2,048 nodes.
-const RECORD_WORDS: usize = 260473;
-
-const OUTBOX_WORDS: usize = 480;
-
-// The words and bytes of a proof that arrives in pieces.
-const PIECES_WORDS: usize = 2050;
-
-const PIECES_BYTES: usize = 1341;
-
 const ERR: i32 = 2;
 
 // The C library's number for a name that is too long.
 const NAME_TOO_LONG: i32 = 36;
 
-// The line's bytes without a carriage return at their end.
-fn trimmed(line: &[u8]) -> usize {
-    if line.len() == 0 {
-        return 0;
-    }
-    let last = line.len() - 1;
-    if line[last] == b'\r' {
-        last
-    } else {
-        line.len()
-    }
+// A line as far as it is read, and how much of it is kept.
+#[derive(Drop)]
+struct Line {
+    bytes: [u8; LINE_ROOM],
+    kept: usize,
 }
 
-// Whether a line is skipped for its first byte.
-fn is_comment(line: &[u8]) -> bool {
-    if line.len() == 0 {
-        return false;
-    }
-    line[0] == b'#'
-}
-
-// Answers a line, its carriage return gone. A line that is too long gets ? whatever it holds, spaces alone or a comment too.
-fn answer(
-    rt: &HostRuntime,
-    page: &mut [u8],
-    line: &[u8],
-    rec: &mut [u64],
-    aside: &mut [u64],
-    outbox: &mut [u64],
-    pieces: &mut [u64],
-    front: &mut [u8],
-) -> Turn {
+// Answers a line without the carriage return at its end. A line that is too long gets ? whatever it holds, spaces alone or a comment
+// too; else a comment gets no answer.
+fn answer(rt: &HostRuntime, desk: &mut Desk, line: &[u8]) -> Result<(), Stop> {
+    let line = line.strip_suffix(b"\r").unwrap_or(line);
     if line.len() > LONGEST {
-        return answered(malformed(page));
+        return Ok(malformed(&mut desk.page)?);
     }
-    if is_comment(line) {
-        return Turn::On;
+    if line.starts_with(b"#") {
+        return Ok(());
     }
-    obey(rt, page, line, rec, aside, outbox, pieces, front)
+    obey(rt, desk, line)
 }
 
-// Answers the line that stands in the front of the buffer.
-fn finish_line(
-    rt: &HostRuntime,
-    page: &mut [u8],
-    buffer: &[u8],
-    used: usize,
-    rec: &mut [u64],
-    aside: &mut [u64],
-    outbox: &mut [u64],
-    pieces: &mut [u64],
-    front: &mut [u8],
-) -> Turn {
-    if used > buffer.len() {
-        return Turn::On;
-    }
-    let line = &buffer[0..used];
-    let end = trimmed(line);
-    if end > line.len() {
-        return Turn::On;
-    }
-    answer(rt, page, &line[0..end], rec, aside, outbox, pieces, front)
+// Answers the line that is kept, and begins the next one.
+fn finish_line(rt: &HostRuntime, desk: &mut Desk, line: &mut Line) -> Result<(), Stop> {
+    let kept = line.kept.min(LINE_ROOM);
+    line.kept = 0;
+    answer(rt, desk, &line.bytes[..kept])
 }
 
-// Keeps a byte of a line, where there is room, and answers how many are kept.
-fn keep(line: &mut [u8], used: usize, b: u8) -> usize {
-    if used < line.len() {
-        line[used] = b;
-        return used + 1;
-    }
-    used
-}
-
-// Takes a byte of the script: it goes to the line, and a line feed has the line answered.
-fn take_byte(
-    rt: &HostRuntime,
-    b: u8,
-    page: &mut [u8],
-    line: &mut [u8],
-    used: &mut usize,
-    rec: &mut [u64],
-    aside: &mut [u64],
-    outbox: &mut [u64],
-    pieces: &mut [u64],
-    front: &mut [u8],
-) -> Turn {
-    if b != b'\n' {
-        *used = keep(line, *used, b);
-        return Turn::On;
-    }
-    let kept = *used;
-    *used = 0;
-    finish_line(rt, page, line, kept, rec, aside, outbox, pieces, front)
-}
-
-// Takes bytes of the script, up to the first answer after which nothing more is answered.
-fn take(
-    rt: &HostRuntime,
-    bytes: &[u8],
-    page: &mut [u8],
-    line: &mut [u8],
-    used: &mut usize,
-    rec: &mut [u64],
-    aside: &mut [u64],
-    outbox: &mut [u64],
-    pieces: &mut [u64],
-    front: &mut [u8],
-) -> Turn {
-    for i in 0..bytes.len() {
-        let turn = take_byte(
-            rt, bytes[i], page, line, used, rec, aside, outbox, pieces, front,
-        );
-        if !goes_on(turn) {
-            return turn;
+// Takes bytes of the script: each goes to the line, where there is room, and a line feed has the line answered.
+fn take(rt: &HostRuntime, desk: &mut Desk, line: &mut Line, bytes: &[u8]) -> Result<(), Stop> {
+    for b in bytes {
+        if *b == b'\n' {
+            finish_line(rt, desk, line)?;
+        } else {
+            keep(line, *b);
         }
     }
-    Turn::On
+    Ok(())
 }
 
-// Reads a piece of the script and takes it.
+// Keeps a byte of a line, where there is room.
+fn keep(line: &mut Line, b: u8) {
+    let kept = line.kept;
+    if kept < LINE_ROOM {
+        line.bytes[kept] = b;
+        line.kept = kept + 1;
+    }
+}
+
+// Reads a piece of the script and takes it, and answers how many bytes it was: none at the script's end.
 fn take_piece<R: Read>(
     rt: &HostRuntime,
     script: &mut R,
-    page: &mut [u8],
-    line: &mut [u8],
-    used: &mut usize,
-    rec: &mut [u64],
-    aside: &mut [u64],
-    outbox: &mut [u64],
-    pieces: &mut [u64],
-    front: &mut [u8],
-) -> Turn {
-    let mut buffer = io::large_buffer();
+    desk: &mut Desk,
+    line: &mut Line,
+) -> Result<usize, Stop> {
+    let mut buffer = [0u8; 65536];
     match script.read(&mut buffer) {
         Err(e) => {
             fail(b"panel: the script was not read to its end", e);
-            Turn::Unread
+            Err(Stop::Unread)
         }
-        Ok(0) => Turn::End,
-        Ok(n) => take(
-            rt,
-            &buffer[..n],
-            page,
-            line,
-            used,
-            rec,
-            aside,
-            outbox,
-            pieces,
-            front,
-        ),
+        Ok(n) => {
+            take(rt, desk, line, &buffer[..n])?;
+            Ok(n)
+        }
     }
 }
 
-// The turns that are left after one: one fewer, or none where nothing more is answered.
-fn turns_left(more: bool, turns: u64) -> u64
-    requires { 0 < turns }
-    ensures { result < turns }
-{
-    if more { turns - 1 } else { 0 }
-}
-
-// Answers the whole script, and how it ended. A proved loop has to end and nothing says that a script does, so the turns are
-// counted down from a number that no run uses up.
-fn run<R: Read>(
-    rt: &HostRuntime,
-    script: &mut R,
-    page: &mut [u8],
-    line: &mut [u8],
-    rec: &mut [u64],
-    aside: &mut [u64],
-    outbox: &mut [u64],
-    pieces: &mut [u64],
-    front: &mut [u8],
-) -> Turn {
-    let mut used: usize = 0;
-    let mut last = Turn::On;
-    let mut turns = u64::MAX;
-    while turns > 0 {
-        last = take_piece(
-            rt, script, page, line, &mut used, rec, aside, outbox, pieces, front,
-        );
-        turns = turns_left(goes_on(last), turns);
+// Answers the whole script. A proved loop has to end and nothing says that a script does, so the pieces are counted up to a number that no
+// run reaches.
+fn run<R: Read>(rt: &HostRuntime, script: &mut R, desk: &mut Desk) -> Result<(), Stop> {
+    let mut line = Line {
+        bytes: [0; LINE_ROOM],
+        kept: 0,
+    };
+    for _ in 0..u64::MAX {
+        if take_piece(rt, script, desk, &mut line)? == 0 {
+            return finish_line(rt, desk, &mut line);
+        }
     }
-    match last {
-        Turn::End => finish_line(rt, page, line, used, rec, aside, outbox, pieces, front),
-        _ => last,
-    }
+    Ok(())
 }
 
 // Answers a script, for a node that is not started yet, and says on standard error what was not done.
 fn play<R: Read>(rt: &HostRuntime, script: &mut R) {
-    let mut page = [0u8; PAGE_ROOM];
-    let mut line = [0u8; LINE_ROOM];
-    let mut rec = [0u64; RECORD_WORDS];
-    let mut aside = [0u64; RECORD_WORDS];
-    let mut outbox = [0u64; OUTBOX_WORDS];
-    let mut pieces = [0u64; PIECES_WORDS];
-    let mut front = [0u8; PIECES_BYTES];
-    match run(
-        rt,
-        script,
-        &mut page,
-        &mut line,
-        &mut rec,
-        &mut aside,
-        &mut outbox,
-        &mut pieces,
-        &mut front,
-    ) {
-        Turn::Unwritten => {
-            io::write_all(
-                ERR,
-                b"panel: an answer was not written whole, and none follows\n",
-            );
-        }
-        _ => {}
+    let mut desk = Desk {
+        page: [0; PAGE_ROOM],
+        rec: [0; RECORD_WORDS],
+        aside: [0; RECORD_WORDS],
+        outbox: [0; OUTBOX_WORDS],
+        pieces: [0; PIECES_WORDS],
+        front: [0; PIECES_BYTES],
+    };
+    if let Err(Stop::Unwritten) = run(rt, script, &mut desk) {
+        io::write_all(
+            ERR,
+            b"panel: an answer was not written whole, and none follows\n",
+        );
     }
 }
 
@@ -270,7 +135,7 @@ fn play_file(rt: &HostRuntime, path: &[u8]) {
 }
 
 fn main(rt: HostRuntime) {
-    let mut path = io::buffer();
+    let mut path = [0u8; 4096];
     match rt.arg(1, &mut path) {
         Ok(length) => play_file(&rt, &path[..length]),
         Err(FillError::TooLong) => fail(b"panel: FILE", Error::from_raw_os_error(NAME_TOO_LONG)),
