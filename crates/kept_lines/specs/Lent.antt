@@ -1,6 +1,5 @@
 -- What is answered about a slot's kept certificates, and the lent list afterwards.
 use Rattle.std.specs.Prelude.{◌≡◌, List, [], ◌∷◌, ◌++◌, ℕ, ◌+◌, ◌*◌, ◌≤◌, length, leb, Result, Ok, Err}
-use Rattle.std.proofs.lemmas.List.Edits.{sets}
 use Rattle.rulebook.specs.declared.Accepted.{Accepted}
 use Rattle.rulebook.specs.declared.Refusal.TheVariants as refusal
 use Rattle.rulebook.specs.Tools.{whenever}
@@ -10,8 +9,10 @@ use Rattle.rulebook.specs.Writers.{over}
 use Rattle.rulebook.specs.Ledger.{most_certificates}
 use Rattle.record.specs.Layout.{ledger_of}
 use Rattle.soundness.specs.Sound.{sound_words}
-use Rattle.inquest_lines.specs.declared.ListRefusal.{ListRefusal}
+use Rattle.differences.specs.Rows as rows
 use Rattle.inquest_lines.specs.declared.ListRefusal.TheVariants as why
+use Rattle.inquest_lines.specs.Lent.{put_in}
+pub use Rattle.inquest_lines.specs.Lent.{Told as Listing, refused_by, ToldIn}
 use Rattle.kept_lines.specs.Told.{certificates_told, Telling}
 
 -- A line's five words, those of an accepted check in a ring of so many nodes: kind, slot, block, signer count, weight.
@@ -22,19 +23,9 @@ unfoldable pub spell_all : ℕ → List Accepted → List ℕ
 spell_all nodes [] = []
 spell_all nodes (x ∷ xs) = spell_told nodes x ++ spell_all nodes xs
 
--- The answer, and the words that stand from the list's front.
-pub record Listing : Type 0 where
-  pub answer : Result ℕ ListRefusal
-  pub words : List ℕ
-
--- A refusal puts no word.
-abbrev pub refused_by : Result ℕ ListRefusal → Listing
-refused_by a = record { answer = a; words = [] }
-
 -- A list that is too small for all lines is 9, with the number of lines needed: a list of so many words, five a line.
 unfoldable pub listed_in : ℕ → ℕ → List Accepted → Listing
-listed_in room nodes xs =
-    whenever (leb (5 * length xs) room) (λ _. record { answer = Ok (length xs); words = spell_all nodes xs }) (refused_by (Err (why.NoRoom (length xs))))
+listed_in room nodes xs = put_in room (length xs) (spell_all nodes xs)
 
 -- 17, then 3, then the slot's kept certificates, or 9 with how many there are.
 unfoldable pub certificates_on : List ℕ → ℕ → ℕ → Listing
@@ -43,17 +34,11 @@ certificates_on ws s room =
     (λ _. whenever (slot_ok s) (λ _. listed_in room (ledger_of ws).count (certificates_told (ledger_of ws) s)) (refused_by (Err (why.Refused refusal.BadSlot))))
     (refused_by (Err (why.Refused refusal.BadRecord)))
 
--- What is answered, and all words of the list afterwards; words past the lines stay.
-pub record ToldIn (list : List ℕ) (t : Listing) (r : Result ℕ ListRefusal) (left : List ℕ) : Type 0 where
-  pub answered : r ≡ t.answer
-  pub listed : left ≡ over t.words list
-
 -- ---- the parts
 
 -- Lines put into the list behind the first `at`, as far as it reaches, every other word as it was; and how many there are then.
-pub record Laid (nodes : ℕ) (list : List ℕ) (at : ℕ) (xs : List Accepted) (left : List ℕ) (next : ℕ) : Type 0 where
-  pub words : left ≡ sets list (5 * at) (spell_all nodes xs)
-  pub many : next ≡ at + length xs
+abbrev pub Laid : ℕ → List ℕ → ℕ → List Accepted → List ℕ → ℕ → Type 0
+Laid nodes = rows.Laid (spell_all nodes)
 
 -- A slot has no more lines than places.
 abbrev pub most_lines : ℕ

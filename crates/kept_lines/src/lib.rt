@@ -2,41 +2,18 @@
 #![tactic(auto)]
 
 ghost use Rattle.std.specs.Prelude.{◌≡◌, [], ◌∷◌, ◌+◌, ◌≤◌, length};
-ghost use Rattle.rulebook.specs.Pool.{place_kind};
 ghost use Rattle.record.specs.Layout.{ledger_of};
 ghost use Rattle.kept_audit.specs.Judging.{Judging};
 ghost use Rattle.kept_lines.specs.Told.{told_of, place_told, certificates_told, Telling};
 ghost use Rattle.kept_lines.specs.Lent.{Laid, most_lines, listed_in, ToldIn, certificates_on, AtPlace};
 
-use differences::put_word;
-use inquest_lines::ListRefusal;
-use kept_certificates::{block_at, is_kept, mask_a, mask_b};
-use kinds::{number_in, slot_ok};
+use cards::asked;
+use differences::put_row;
+use inquest_lines::{ListRefusal, list_lines};
+use kept_certificates::{block_at, is_kept, mask_a, mask_b, place_kind};
+use kinds::number_in;
 use record::{MOST_CERTIFICATES, count, stakes_of};
-use rulebook::{Accepted, CertificateKind, Refusal, Slot};
-use soundness::sound;
-
-// How many words a line has.
-const LINE_WORDS: usize = 5;
-
-// The kind of one of a slot's places: 1, 2, 4, 5, then 3.
-fn place_kind(place: usize) -> CertificateKind
-    ensures { result ≡ place_kind place }
-{
-    if place == 0 {
-        return CertificateKind::FastFinal;
-    }
-    if place == 1 {
-        return CertificateKind::Notar;
-    }
-    if place == 2 {
-        return CertificateKind::Skip;
-    }
-    if place == 3 {
-        return CertificateKind::Final;
-    }
-    CertificateKind::NotarFallback
-}
+use rulebook::{Accepted, Slot};
 
 // What the checker tells of the certificate in one of a slot's places.
 pub fn told_of(rec: &[u64], s: Slot, place: usize) -> Accepted
@@ -48,13 +25,12 @@ pub fn told_of(rec: &[u64], s: Slot, place: usize) -> Accepted
     let a = mask_a(rec, s, place);
     let b = mask_b(rec, s, place);
     let signed = stakes::weigh(stakes, a, b);
-    let weight = signed.weight;
     Accepted {
         kind: place_kind(place),
         slot: s,
         block,
         signers: signed.signers,
-        weight,
+        weight: signed.weight,
     }
 }
 
@@ -64,16 +40,14 @@ fn put_told(list: &mut [u64], at: usize, nodes: usize, x: Accepted) -> usize
     requires { at + 1 ≤ most_lines }
     ensures { Laid nodes list.old at (x ∷ []) list.new result }
 {
-    let i = LINE_WORDS * at;
-    let kind = x.kind;
-    let slot = x.slot;
-    let weight = x.weight;
-    put_word(list, i, number_in(nodes, kind));
-    put_word(list, i + 1, slot.0 as u64);
-    put_word(list, i + 2, x.block);
-    put_word(list, i + 3, x.signers);
-    put_word(list, i + 4, weight.0);
-    at + 1
+    let row = [
+        number_in(nodes, x.kind),
+        x.slot.0 as u64,
+        x.block,
+        x.signers,
+        x.weight.0,
+    ];
+    put_row(list, at, row)
 }
 
 // Puts the line of the certificate in one of a slot's places, where it keeps one.
@@ -84,9 +58,7 @@ fn put_place(list: &mut [u64], at: usize, rec: &[u64], s: Slot, n: usize) -> usi
     if !is_kept(rec, s, n) {
         return at;
     }
-    let x = told_of(rec, s, n);
-    let nodes = count(rec);
-    put_told(list, at, nodes, x)
+    put_told(list, at, count(rec), told_of(rec, s, n))
 }
 
 // The same of all places of a slot, in their order; answers how many lines there are, also where the list is too short for them.
@@ -106,14 +78,7 @@ fn list_places(list: &mut [u64], rec: &[u64], s: Slot) -> Result<usize, ListRefu
     requires { Judging rec.now s.0 }
     ensures { ToldIn list.old (listed_in (length list.old) (ledger_of rec.now).count (certificates_told (ledger_of rec.now) s.0)) result list.new }
 {
-    let needed = put_places(&mut list[0..0], rec, s);
-    if list.len() < LINE_WORDS * needed {
-        return Err(ListRefusal::NoRoom(needed));
-    }
-    if needed == 0 {
-        return Ok(0);
-    }
-    Ok(put_places(list, rec, s))
+    list_lines(list, |part| put_places(part, rec, s))
 }
 
 // The certificates that a slot keeps, as lines from the list's front: refused with 17, then 3, then 9 and the number of lines needed, and the
@@ -121,11 +86,6 @@ fn list_places(list: &mut [u64], rec: &[u64], s: Slot) -> Result<usize, ListRefu
 pub fn list_certificates(rec: &[u64], s: Slot, list: &mut [u64]) -> Result<usize, ListRefusal>
     ensures { ToldIn list.old (certificates_on rec.now s.0 (length list.old)) result list.new }
 {
-    if !sound(rec) {
-        return Err(ListRefusal::Refused(Refusal::BadRecord));
-    }
-    if !slot_ok(s) {
-        return Err(ListRefusal::Refused(Refusal::BadSlot));
-    }
+    asked(rec, s)?;
     list_places(list, rec, s)
 }

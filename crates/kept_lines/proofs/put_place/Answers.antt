@@ -12,5 +12,5 @@ returns-then-not-is_kept c =
 pub returns : goal.returns
 returns c =
     let a = c.args in
-    kept_line _ (ledger_of a.rec.now) a.s.0 a.n _ _ (sym c.is_kept.ensures ∙ c.if-not-is_kept.false) c.told_of-x.ensures c.count-nodes.ensures
+    kept_line _ (ledger_of a.rec.now) a.s.0 a.n _ _ (sym c.is_kept.ensures ∙ c.if-not-is_kept.false) c.told_of.ensures c.count.ensures
     c.put_told.ensures
