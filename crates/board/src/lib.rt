@@ -3,7 +3,7 @@
 #![tactic(auto)]
 
 use door::{Unwritten, end_line};
-use kinds::{is_other, slot_ok};
+use kinds::slot_ok;
 use lines::Page;
 use pool::signers_of;
 use replies::number;
@@ -296,13 +296,11 @@ fn kept_certificate_line(
     s: Slot,
     place: usize,
 ) -> Result<(), Unwritten> {
-    let c = kept_certificate(rec, s, place);
-    let kind = c.kind;
-    let weight = c.weight;
-    if is_other(kind) {
+    let Some(c) = kept_certificate(rec, s, place) else {
         return Ok(());
-    }
-    put_kind(page, kind);
+    };
+    let weight = c.weight;
+    put_kind(page, c.kind);
     put_block(page, c.block);
     page.named(b", signers ", c.signers);
     page.text(b", weight");

@@ -1,4 +1,5 @@
 -- Laws of what is shown of a kept certificate: where none is, what weighing its signers asks, and that they are told. Assumes nothing.
+use Rattle.std.specs.Prelude.{Option, Some, None}
 use mathlib.Core.Path.{◌≡◌, refl, sym, ap, ◌∙◌}
 use mathlib.Core.Bool.{Bool, true, false, ◌&&◌, ◌||◌}
 use mathlib.Core.List.{List}
@@ -27,7 +28,7 @@ use Rattle.kept_audit.proofs.Laws.{record_table, kept_judgeable}
 use Rattle.soundness.specs.Sound.{sound_words}
 use Rattle.soundness.proofs.Laws.{sound_long, sound_head, sound_tabled}
 use Rattle.shown.proofs.Laws.{slot_small, slot_later}
-use Rattle.shown_kept.specs.Kept.{none_told, told_of, kept_shown, Telling}
+use Rattle.shown_kept.specs.Kept.{told_of, kept_shown, Telling}
 
 -- ---- where none is kept, and where one is
 
@@ -35,28 +36,28 @@ module _ (ws : List ℕ) (s i : ℕ) where
   abbrev here : Kept
   here = kept_at (ledger_of ws) s i
 
-  abbrev inside : Accepted
-  inside = whenever (is_kept here) (λ _. told_of (ledger_of ws) s i) none_told
+  abbrev inside : Option Accepted
+  inside = whenever (is_kept here) (λ _. Some (told_of (ledger_of ws) s i)) None
 
-  pub past_places : slot_ok s ≡ true → most_certificates ≤ i → none_told ≡ kept_shown ws s i
+  pub past_places : slot_ok s ≡ true → most_certificates ≤ i → None ≡ kept_shown ws s i
   unfolding kept_shown
   past_places h k =
       let free : here ≡ no_kept =
       get_or-eq_default (certificates_at (ledger_of ws) s) no_kept (omega (arith, (ledger_shaped ws).certificates s (slot_small s h))) in
       by_test (slot_ok s && sound_words ws)
-      (λ t. sym (given_on (slot_ok s && sound_words ws) none_told (λ _. inside) t ∙ given_off (is_kept here) none_told (λ _. told_of (ledger_of ws) s i) (ap is_kept free)))
-      (λ t. sym (given_off (slot_ok s && sound_words ws) none_told (λ _. inside) t))
+      (λ t. sym (given_on (slot_ok s && sound_words ws) None (λ _. inside) t ∙ given_off (is_kept here) None (λ _. Some (told_of (ledger_of ws) s i)) (ap is_kept free)))
+      (λ t. sym (given_off (slot_ok s && sound_words ws) None (λ _. inside) t))
 
   module _ (h : slot_ok s ≡ true) (e : sound_words ws ≡ true) where
     whole : inside ≡ kept_shown ws s i
     unfolding kept_shown
-    whole = sym (given_on (slot_ok s && sound_words ws) none_told (λ _. inside) (both_and (slot_ok s) (sound_words ws) h e))
+    whole = sym (given_on (slot_ok s && sound_words ws) None (λ _. inside) (both_and (slot_ok s) (sound_words ws) h e))
 
-    pub free_place_lem : is_kept here ≡ false → none_told ≡ kept_shown ws s i
-    free_place_lem f = sym (given_off (is_kept here) none_told (λ _. told_of (ledger_of ws) s i) f) ∙ whole
+    pub free_place_lem : is_kept here ≡ false → None ≡ kept_shown ws s i
+    free_place_lem f = sym (given_off (is_kept here) None (λ _. Some (told_of (ledger_of ws) s i)) f) ∙ whole
 
-    pub kept_place : is_kept here ≡ true → told_of (ledger_of ws) s i ≡ kept_shown ws s i
-    kept_place f = sym (given_on (is_kept here) none_told (λ _. told_of (ledger_of ws) s i) f) ∙ whole
+    pub kept_place : is_kept here ≡ true → Some (told_of (ledger_of ws) s i) ≡ kept_shown ws s i
+    kept_place f = sym (given_on (is_kept here) None (λ _. Some (told_of (ledger_of ws) s i)) f) ∙ whole
 
     -- Sound words can be judged anew.
     pub judgeable : Judging ws s

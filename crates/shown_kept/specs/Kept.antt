@@ -1,7 +1,6 @@
 -- What is shown of a certificate from another firm, defined for any words, slot and place.
-use Rattle.std.specs.Prelude.{◌&&◌, List, ℕ, ◌<◌, length}
+use Rattle.std.specs.Prelude.{◌&&◌, List, ℕ, ◌<◌, length, Option, Some, None}
 use Rattle.rulebook.specs.declared.Accepted.{Accepted}
-use Rattle.rulebook.specs.declared.CertificateKind.TheVariants as certificate
 use Rattle.rulebook.specs.Tools.{whenever}
 use Rattle.rulebook.specs.Weights.{slot_ok}
 use Rattle.rulebook.specs.Packets.{count_of}
@@ -12,10 +11,6 @@ use Rattle.rulebook.specs.WellFormed.{kept_in}
 use Rattle.record.specs.Layout.{ledger_of}
 use Rattle.kept_audit.specs.Judging.{Judging}
 use Rattle.soundness.specs.Sound.{sound_words}
-
--- Where none is kept: of no kind, and all is 0.
-unfoldable pub none_told : Accepted
-none_told = record { kind = certificate.Other; slot = record { 0 = 0 }; block = 0; signers = 0; weight = record { 0 = 0 } }
 
 -- What the checker tells of the certificate that place i of slot s keeps: the place's kind, slot, block, signer count and weight.
 unfoldable pub told_of : Ledger → ℕ → ℕ → Accepted
@@ -30,11 +25,11 @@ told_of l s i =
     }
 
 -- The certificate that place i of slot s keeps; none is where the words are no sound record, or the slot is not one of 1 to 16.
-unfoldable pub kept_shown : List ℕ → ℕ → ℕ → Accepted
+unfoldable pub kept_shown : List ℕ → ℕ → ℕ → Option Accepted
 kept_shown ws s i =
     whenever (slot_ok s && sound_words ws)
-    (λ _. whenever (is_kept (kept_at (ledger_of ws) s i)) (λ _. told_of (ledger_of ws) s i) none_told)
-    none_told
+    (λ _. whenever (is_kept (kept_at (ledger_of ws) s i)) (λ _. Some (told_of (ledger_of ws) s i)) None)
+    None
 
 -- The record's certificates can be judged, and i is one of the slot's places for them.
 pub record Telling (ws : List ℕ) (s i : ℕ) : Type 0 where

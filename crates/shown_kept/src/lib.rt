@@ -10,26 +10,21 @@ ghost use Rattle.shown_kept.specs.Kept.{kept_shown, told_of, Telling};
 use kept_certificates::{block_at, is_kept, mask_a, mask_b};
 use kinds::slot_ok;
 use record::{MOST_CERTIFICATES, stakes_of};
-use rulebook::{Accepted, CertificateKind, Slot, Weight};
+use rulebook::{Accepted, CertificateKind, Slot};
 use soundness::sound;
 
 // The kind of one of a slot's places: 1, 2, 4, 5, then 3.
+#[tactic(auto, unfolding(rulebook::specs::Pool::place_kind))]
 fn place_kind(place: usize) -> CertificateKind
     ensures { result ≡ place_kind place }
 {
-    if place == 0 {
-        return CertificateKind::FastFinal;
+    match place {
+        0 => CertificateKind::FastFinal,
+        1 => CertificateKind::Notar,
+        2 => CertificateKind::Skip,
+        3 => CertificateKind::Final,
+        _ => CertificateKind::NotarFallback,
     }
-    if place == 1 {
-        return CertificateKind::Notar;
-    }
-    if place == 2 {
-        return CertificateKind::Skip;
-    }
-    if place == 3 {
-        return CertificateKind::Final;
-    }
-    CertificateKind::NotarFallback
 }
 
 // What the checker tells of the certificate in one of a slot's places.
@@ -52,28 +47,21 @@ fn told_of(rec: &[u64], s: Slot, place: usize) -> Accepted
     }
 }
 
-// The certificate that one of a slot's places keeps; where it keeps none, one of no kind.
-pub fn kept_certificate(rec: &[u64], s: Slot, place: usize) -> Accepted
+// The certificate that one of a slot's places keeps.
+pub fn kept_certificate(rec: &[u64], s: Slot, place: usize) -> Option<Accepted>
     ensures { result ≡ kept_shown rec.now s.0 place }
 {
-    let none = Accepted {
-        kind: CertificateKind::Other,
-        slot: Slot(0),
-        block: 0,
-        signers: 0,
-        weight: Weight(0),
-    };
     if !slot_ok(s) {
-        return none;
+        return None;
     }
     if place >= MOST_CERTIFICATES {
-        return none;
+        return None;
     }
     if !sound(rec) {
-        return none;
+        return None;
     }
     if !is_kept(rec, s, place) {
-        return none;
+        return None;
     }
-    told_of(rec, s, place)
+    Some(told_of(rec, s, place))
 }
