@@ -7,9 +7,12 @@ use native.Mathlib.Omega.{arith}
 use native.Mathlib.Numerals.{add-one}
 use lib.ListN.{length, get_or, set, take, drop, length-set, length-reverse, take-append-drop}
 use lib.Seq.{take-suc-set, drop-set-lt, drop-drop, length-take-le}
+use Rattle.std.specs.Prelude.{Result}
+use Rattle.std.specs.Result.{result_unwrap_or}
 use Rattle.rulebook.specs.declared.Vote.{Vote}
+use Rattle.rulebook.specs.declared.Refusal.{Refusal}
 use Rattle.rulebook.specs.declared.Input.TheVariants as input
-use Rattle.rulebook.specs.PaperNumbers.{step_panel}
+use Rattle.rulebook.specs.PaperNumbers.{answer_number, step_panel}
 use Rattle.rulebook.specs.Rules.{Record, State}
 use Rattle.rulebook.specs.Inputs.{Fed, feed}
 use Rattle.rulebook.specs.Messages.{vote_of}
@@ -28,7 +31,6 @@ use Rattle.voter.proofs.OutboxLaws.{made_in}
 use Rattle.run.proofs.ScanLaws.{held_long}
 use Rattle.node.specs.Stepping.{spelled}
 use Rattle.node.proofs.SpelledLaws.{outbox_spelled}
-use Rattle.trays.specs.declared.Taken.{Taken}
 use Rattle.tray_rules.specs.Trays.{votes_in, whole_votes, Served, ahead, serve}
 use Rattle.trays.specs.Lent.{Serving, VoteServed, Ready, AllServed}
 use Rattle.tray_rules.proofs.Words.{votes_end, votes_more, ahead_ahead, serve_more}
@@ -69,11 +71,7 @@ going_start {ws = ws} h =
     }
 
 module _ {ws out votes places ws' out' places' : List ℕ} {made i : ℕ} (h : Going ws out votes places ws' out' places' made i) where
-  -- There is a vote at this place.
-  pub going_vote : i < whole_votes votes → 4 * i + 3 < length votes
-  going_vote b = omega arith
-
-  module _ {ws'' out'' : List ℕ} {r : Taken} (v : Vote) (b : i < whole_votes votes) (enough : whole_votes votes ≤ length places)
+  module _ {ws'' out'' : List ℕ} {r : Result ℕ Refusal} (v : Vote) (b : i < whole_votes votes) (enough : whole_votes votes ≤ length places)
       (is : v ≡ vote_of (get_or votes (4 * i) 0) (get_or votes (4 * i + 1) 0) (get_or votes (4 * i + 2) 0) (get_or votes (4 * i + 3) 0))
       (s : VoteServed ws' out' made v ws'' out'' r) (w : Words ws'') where
     -- A fed node stays sound.
@@ -82,21 +80,21 @@ module _ {ws out votes places ws' out' places' : List ℕ} {made i : ℕ} (h : G
         ap sound_words (spelled_as ws'' (feed (ledger_of ws') (input.Vote v)).ledger (long_spelled ws'' w s.onward.live.long) (ap (λ (x : State). x.ledger) s.onward.moved.is))
         ∙ spelled_sound (feed (ledger_of ws') (input.Vote v)).ledger (feed_sound (ledger_of ws') (sound_ledger ws' h.serving.sound) (input.Vote v))
 
-    told : reverse (records_in out' made) ++ (feed (ledger_of ws') (input.Vote v)).records ≡ reverse (records_in out'' r.made)
+    told : reverse (records_in out' made) ++ (feed (ledger_of ws') (input.Vote v)).records ≡ reverse (records_in out'' (result_unwrap_or r made))
     told =
         let f : List Record = (feed (ledger_of ws') (input.Vote v)).records in
         ap (λ (x : List Record). reverse (records_in out' made) ++ x) (sym (reverse-reverse f))
         ∙ sym (reverse-append (reverse f) (records_in out' made))
         ∙ ap (λ (x : State). reverse x.records) (sym s.onward.moved.is)
 
-    numbered : take i places' ++ ((step_panel (feed (ledger_of ws') (input.Vote v)).answer).number ∷ []) ≡ take (i + 1) (set places' i r.number)
+    numbered : take i places' ++ ((step_panel (feed (ledger_of ws') (input.Vote v)).answer).number ∷ []) ≡ take (i + 1) (set places' i (answer_number r))
     numbered =
         ap (λ (n : ℕ). take i places' ++ (n ∷ [])) (sym s.number)
-        ∙ sym (take-suc-set places' i r.number (omega (arith, h.kept)))
-        ∙ ap (λ (k : ℕ). take k (set places' i r.number)) (sym (add-one i))
+        ∙ sym (take-suc-set places' i (answer_number r) (omega (arith, h.kept)))
+        ∙ ap (λ (k : ℕ). take k (set places' i (answer_number r))) (sym (add-one i))
 
     -- One vote more.
-    pub going_more : length out'' ≡ length out' → Going ws out votes places ws'' out'' (set places' i r.number) r.made (i + 1)
+    pub going_more : length out'' ≡ length out' → Going ws out votes places ws'' out'' (set places' i (answer_number r)) (result_unwrap_or r made) (i + 1)
     going_more same =
         let later : List Vote = votes_in (drop (4 * (i + 1)) votes) in
         let f : Fed = feed (ledger_of ws') (input.Vote v) in
@@ -105,10 +103,10 @@ module _ {ws out votes places ws' out' places' : List ℕ} {made i : ℕ} (h : G
           serving = record { sound = still_sound; live = s.onward.live };
           size = held_long h.serving.live s.onward ∙ h.size;
           boxes = same ∙ h.boxes;
-          kept = length-set places' i r.number ∙ h.kept;
+          kept = length-set places' i (answer_number r) ∙ h.kept;
           rest = λ k q. s.onward.moved.rest k q ∙ h.rest k (omega (arith, s.onward.moved.more));
           past =
-              drop-set-lt (i + 1) places' i r.number (omega arith)
+              drop-set-lt (i + 1) places' i (answer_number r) (omega arith)
               ∙ sym (drop-drop 1 i places')
               ∙ ap (drop 1) h.past
               ∙ drop-drop 1 i places;

@@ -1,5 +1,6 @@
 -- Laws of a tray.
 pub mod OneVote
+pub mod Cuts
 pub mod AllVotes
 pub mod Ways
 pub mod Theorems

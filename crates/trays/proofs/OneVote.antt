@@ -8,7 +8,7 @@ use lib.ListN.{length}
 use Rattle.rulebook.specs.declared.Vote.{Vote}
 use Rattle.rulebook.specs.declared.Input.TheVariants as input
 use Rattle.rulebook.specs.declared.Refusal.{Refusal}
-use Rattle.rulebook.specs.PaperNumbers.{refusal_number, step_panel}
+use Rattle.rulebook.specs.PaperNumbers.{step_panel}
 use Rattle.rulebook.specs.Ledger.{Ledger}
 use Rattle.rulebook.specs.Votes.{store_vote}
 use Rattle.rulebook.specs.Rules.{Record, State, state_of}
@@ -102,20 +102,19 @@ module _ {ws out : List ℕ} {made : ℕ} (v : Vote) (h : Serving ws out made) w
   serving_counted = sound_counted ws h.sound
 
   -- Refused.
-  pub vote_refused : (r : Refusal) (n : ℕ) → vote_verdict (ledger_of ws) v ≡ Err r → n ≡ refusal_number r
-      → VoteServed ws out made v ws out (record { made = made; number = n })
+  pub vote_refused : (r : Refusal) → vote_verdict (ledger_of ws) v ≡ Err r → VoteServed ws out made v ws out (Err r)
   unfolding verdict refused_with step_panel
-  vote_refused r n e is =
+  vote_refused r e =
       let f = feed_refused (ledger_of ws) (input.Vote v) r e in
       record {
-        number = is ∙ ap (λ (x : Fed). (step_panel x.answer).number) (sym f);
+        number = ap (λ (x : Fed). (step_panel x.answer).number) (sym f);
         onward = onward_none h.live (ap (λ (x : Fed). on_top x (records_in out made)) (sym f));
       }
 
   -- Taken.
   pub vote_taken : {ws' left : List ℕ} (m : ℕ) → vote_verdict (ledger_of ws) v ≡ Ok tt
       → Onward ws out made ws' left m (run (state_of (with_vote (ledger_of ws) v) (records_in out made)))
-      → VoteServed ws out made v ws' left (record { made = m; number = 0 })
+      → VoteServed ws out made v ws' left (Ok m)
   unfolding verdict intake fed_with step_panel
   vote_taken m e a =
       let f = feed_fine (ledger_of ws) (input.Vote v) e in

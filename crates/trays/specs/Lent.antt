@@ -1,11 +1,12 @@
 -- What a tray does with the lent record, outbox and answer buffer, word for word, and what its parts ask and leave.
 use Rattle.std.specs.Prelude.{◌≡◌, true, List, ◌++◌, reverse, ℕ, ◌*◌, ◌≤◌, length, drop, Result, Ok, Err}
+use Rattle.std.specs.Result.{result_unwrap_or}
 use Rattle.rulebook.specs.declared.Vote.{Vote}
 use Rattle.rulebook.specs.declared.Input.TheVariants as input
 use Rattle.rulebook.specs.declared.Refusal.{Refusal}
 use Rattle.rulebook.specs.declared.Refusal.TheVariants as refusal
 use Rattle.rulebook.specs.Tools.{whenever}
-use Rattle.rulebook.specs.PaperNumbers.{step_panel}
+use Rattle.rulebook.specs.PaperNumbers.{answer_number, step_panel}
 use Rattle.rulebook.specs.Rules.{Record, State, state_of}
 use Rattle.rulebook.specs.Inputs.{Fed, vote_verdict, feed}
 use Rattle.rulebook.specs.WellFormed.{outbox_words}
@@ -16,7 +17,6 @@ use Rattle.soundness.specs.Sound.{sound_words}
 use Rattle.voter.specs.Outbox.{records_in}
 use Rattle.voter.specs.Voting.{Live, Onward}
 use Rattle.node.specs.Stepping.{spelled}
-use Rattle.trays.specs.declared.Taken.{Taken}
 use Rattle.tray_rules.specs.Trays.{Tray, votes_in, whole_votes, serve, tray}
 
 -- What a tray leaves: its answer, the record's words, the outbox's words, the answer buffer's words.
@@ -70,10 +70,11 @@ pub record Taking (ws out : List ℕ) (made : ℕ) (v : Vote) : Type 0 where
 abbrev pub on_top : Fed → List Record → State
 on_top f rs = state_of f.ledger (reverse f.records ++ rs)
 
--- What one vote of a tray leaves: its number, and the state that feeding it gives.
-pub record VoteServed (ws out : List ℕ) (made : ℕ) (v : Vote) (ws' left : List ℕ) (r : Taken) : Type 0 where
-  pub number : r.number ≡ (step_panel (feed (ledger_of ws) (input.Vote v)).answer).number
-  pub onward : Onward ws out made ws' left r.made (on_top (feed (ledger_of ws) (input.Vote v)) (records_in out made))
+-- What one vote of a tray leaves: its number, and the state that feeding it gives. It answers how many records there are then, the same as
+-- before where it is refused.
+pub record VoteServed (ws out : List ℕ) (made : ℕ) (v : Vote) (ws' left : List ℕ) (r : Result ℕ Refusal) : Type 0 where
+  pub number : answer_number r ≡ (step_panel (feed (ledger_of ws) (input.Vote v)).answer).number
+  pub onward : Onward ws out made ws' left (result_unwrap_or r made) (on_top (feed (ledger_of ws) (input.Vote v)) (records_in out made))
 
 -- A tray that no test refuses.
 pub record Ready (ws out votes places : List ℕ) : Type 0 where

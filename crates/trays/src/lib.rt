@@ -2,7 +2,7 @@
 // counted once, and kept in mind from vote to vote.
 #![tactic(auto)]
 
-ghost use Rattle.std.specs.Prelude.{◌≡◌, ◌+◌, ◌*◌, ◌<◌, length, get_or};
+ghost use Rattle.std.specs.Prelude.{◌≡◌, length, get_or};
 ghost use Rattle.rulebook.specs.Rules.{state_of};
 ghost use Rattle.rulebook.specs.Run.{run};
 ghost use Rattle.rulebook.specs.Votes.{store_vote};
@@ -24,24 +24,16 @@ use verdicts::vote_verdict;
 // The least number of words of an outbox: 160 records of three words.
 const OUTBOX_WORDS: usize = 480;
 
-// What one vote of a tray leaves: how many records stand in the outbox then, and the vote's number.
-#[derive(Clone, Copy)]
-pub struct Taken {
-    pub made: usize,
-    pub number: u64,
-}
-
-// The vote at a place of the run.
-fn vote_at(votes: &[u64], i: usize) -> Vote
-    requires { 4 * i + 3 < length votes.now }
-    ensures { result ≡ vote_of (get_or votes.now (4 * i) 0) (get_or votes.now (4 * i + 1) 0) (get_or votes.now (4 * i + 2) 0) (get_or votes.now (4 * i + 3) 0) }
+// The vote that four words of the run spell.
+fn vote_in(words: &[u64]) -> Vote
+    requires { length words.now ≡ 4 }
+    ensures { result ≡ vote_of (get_or words.now 0 0) (get_or words.now 1 0) (get_or words.now 2 0) (get_or words.now 3 0) }
 {
-    let j = 4 * i;
     vote_of(
-        votes[j],
-        Node(votes[j + 1] as usize),
-        Slot(votes[j + 2] as usize),
-        votes[j + 3],
+        words[0],
+        Node(words[1] as usize),
+        Slot(words[2] as usize),
+        words[3],
     )
 }
 
@@ -50,29 +42,24 @@ fn take_vote(rec: &mut [u64], outbox: &mut [u64], looks: &mut [u64], made: usize
     requires { Taking rec.old outbox.old made v × Bounds (ledger_of rec.old) looks.old }
     ensures { Bounds (ledger_of rec.new) looks.new × Onward rec.old outbox.old made rec.new outbox.new result (run (state_of (store_vote (ledger_of rec.old) v.slot.0 v.node.0 v.kind v.block) (records_in outbox.old made))) }
 {
-    let kind = v.kind;
-    let slot = v.slot;
-    let node = v.node;
-    note_vote(rec, looks, slot, node, kind);
-    store_vote(rec, slot, node, kind, v.block);
+    note_vote(rec, looks, v.slot, v.node, v.kind);
+    store_vote(rec, v.slot, v.node, v.kind, v.block);
     settle_with(rec, outbox, made, looks)
 }
 
-// One vote: refused with record and outbox as found, or taken.
-fn serve_vote(rec: &mut [u64], outbox: &mut [u64], looks: &mut [u64], made: usize, v: Vote) -> Taken
+// One vote: refused with record and outbox as found, or taken; answers how many records stand in the outbox then.
+fn serve_vote(
+    rec: &mut [u64],
+    outbox: &mut [u64],
+    looks: &mut [u64],
+    made: usize,
+    v: Vote,
+) -> Result<usize, Refusal>
     requires { Serving rec.old outbox.old made × Bounds (ledger_of rec.old) looks.old }
     ensures { Bounds (ledger_of rec.new) looks.new × VoteServed rec.old outbox.old made v rec.new outbox.new result }
 {
-    match vote_verdict(rec, v) {
-        Err(r) => Taken {
-            made,
-            number: u64::from(r),
-        },
-        Ok(()) => Taken {
-            made: take_vote(rec, outbox, looks, made, v),
-            number: 0,
-        },
-    }
+    vote_verdict(rec, v)?;
+    Ok(take_vote(rec, outbox, looks, made, v))
 }
 
 // Each whole vote in its order, and its number in the answer buffer; answers the number of records of all together.
@@ -80,13 +67,12 @@ fn serve_votes(rec: &mut [u64], outbox: &mut [u64], votes: &[u64], answers: &mut
     requires { Ready rec.old outbox.old votes.now answers.old }
     ensures { AllServed rec.old outbox.old votes.now answers.old rec.new outbox.new answers.new result }
 {
-    let n = votes.len() / 4;
     let mut looks = first_looks(rec);
     let mut made = 0;
-    for i in 0..n {
-        let taken = serve_vote(rec, outbox, &mut looks, made, vote_at(votes, i));
-        made = taken.made;
-        answers[i] = taken.number;
+    for (i, words) in votes.chunks_exact(4).enumerate() {
+        let served = serve_vote(rec, outbox, &mut looks, made, vote_in(words));
+        made = served.unwrap_or(made);
+        answers[i] = served.map_or_else(u64::from, |_| 0);
     }
     made
 }
