@@ -29,4 +29,4 @@ returns-in_err-judge_input c =
 
 pub returns : goal.returns
 returns c =
-    let a = c.args in let q = c.act in step_done a.rec.now a.outbox.now a.input (sym c.sound.ensures ∙ c.if-not-sound.false) c.if-outbox-lt-OUTBOX_WORDS.false (sym (c.in_ok-judge_input.ensures)) (λ n. (c.slice_known-3-1.given n).fits) q.auto.outbox q.ensures
+    let a = c.args in let q = c.act in step_done a.rec.now a.outbox.now a.input (sym c.sound.ensures ∙ c.if-not-sound.false) c.if-outbox-lt-OUTBOX_WORDS.false (sym (c.in_ok-judge_input.ensures)) (λ n. (c.type_inv.rec n).fits) q.auto.outbox q.ensures
