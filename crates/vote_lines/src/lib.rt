@@ -55,15 +55,7 @@ fn cell_lines(page: &mut Page, c: Cell, s: Slot, n: Node) -> Result<(), Unwritte
     vote_line(page, c.notar != 0, s, n, VoteKind::Notar, c.notar)?;
     fallback_lines(page, c, s, n)?;
     vote_line(page, c.skip != 0, s, n, VoteKind::Skip, 0)?;
-    let t = vote_line(
-        page,
-        r,
-        c.skipfallback != 0,
-        s,
-        n,
-        VoteKind::SkipFallback,
-        0,
-    )?;
+    vote_line(page, c.skipfallback != 0, s, n, VoteKind::SkipFallback, 0)?;
     vote_line(page, c.finalvote != 0, s, n, VoteKind::Final, 0)
 }
 
