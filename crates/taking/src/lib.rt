@@ -13,7 +13,7 @@ ghost use Rattle.taking.specs.Taking.{certificate_in, Accepting, Keepable, TakeO
 use certificate_numbers::{MOST_WORDS, read_certificate};
 use checker::check_certificate;
 use kept_places::{Sought, first_place, keep_certificate};
-use record::{MOST_CERTIFICATES, mask_words, places_in, stakes_of};
+use record::{mask_words, places_in, stakes_of};
 use rulebook::{Accepted, CertificateKind, Refusal, Slot};
 use run::settle;
 use soundness::sound;
@@ -26,10 +26,10 @@ fn kept_verdict(rec: &[u64], kind: CertificateKind, s: Slot, block: u64) -> Resu
     requires { InSlot rec.now s.0 }
     ensures { result ≡ kept_verdict (certificates_at (ledger_of rec.now) s.0) kind block }
 {
-    if first_place(rec, s, Sought::Same(kind, block)) < MOST_CERTIFICATES {
+    if first_place(rec, s, Sought::Same(kind, block)).is_some() {
         return Err(Refusal::AlreadyKept);
     }
-    if first_place(rec, s, Sought::Room(kind)) < MOST_CERTIFICATES {
+    if first_place(rec, s, Sought::Room(kind)).is_some() {
         return Ok(());
     }
     Err(Refusal::OtherStands)
@@ -42,11 +42,9 @@ fn keep_packet(rec: &mut [u64], packet: &[u8], told: Accepted)
 {
     let mut a = [0u64; MOST_WORDS];
     let mut b = [0u64; MOST_WORDS];
-    read_certificate(packet, 0, &mut a, &mut b);
+    let _ = read_certificate(packet, 0, &mut a, &mut b);
     let words = mask_words(places_in(rec));
-    let kind = told.kind;
-    let s = told.slot;
-    keep_certificate(rec, kind, s, told.block, &a[..words], &b[..words]);
+    keep_certificate(rec, told.kind, told.slot, told.block, &a[..words], &b[..words]);
 }
 
 // Keeps the certificate of an accepted packet that has a place, and runs the rules until none applies.
@@ -68,17 +66,7 @@ pub fn take(rec: &mut [u64], outbox: &mut [u64], packet: &[u8]) -> Result<usize,
     if outbox.len() < OUTBOX_WORDS {
         return Err(Refusal::NoRoom);
     }
-    let checked = check_certificate(stakes_of(rec), packet);
-    let told = match checked {
-        Err(r) => {
-            return Err(r);
-        }
-        Ok(a) => a,
-    };
-    let kind = told.kind;
-    let s = told.slot;
-    match kept_verdict(rec, kind, s, told.block) {
-        Err(r) => Err(r),
-        Ok(()) => Ok(act(rec, outbox, packet, told)),
-    }
+    let told = check_certificate(stakes_of(rec), packet)?;
+    kept_verdict(rec, told.kind, told.slot, told.block)?;
+    Ok(act(rec, outbox, packet, told))
 }
