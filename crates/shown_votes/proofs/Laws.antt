@@ -2,14 +2,16 @@
 -- Assumes nothing.
 use mathlib.Core.Path.{◌≡◌, sym, ap, ◌∙◌}
 use mathlib.Core.Bool.{Bool, true, false, not}
-use Prim.Native.Nat.{ℕ, suc, ◌+◌, ◌-◌, ◌*◌, ◌≤◌, ◌<◌, ◌^◌}
+use Prim.Native.Nat.{ℕ, suc, ◌+◌, ◌-◌, ◌*◌, ◌≤◌, ◌<◌, ◌^◌, max}
 use native.Mathlib.Omega.{arith}
+use lib.Dec.{leb}
+use borrow.Author.Tests.{leb-true, leb-false}
 use Rattle.rulebook.specs.declared.Cell.{Cell}
 use Rattle.rulebook.specs.Tools.{part, sum_to}
 use Rattle.rulebook.specs.Weights.{weight, stake_in}
 use Rattle.rulebook.specs.Ledger.{Ledger, cell_at}
 use Rattle.rulebook.specs.WellFormed.{cell_blank}
-use Rattle.rule_laws.proofs.ToolLaws.{choose_on, choose_off, sum_none, sum_more}
+use Rattle.rule_laws.proofs.ToolLaws.{by_test, choose_on, choose_off, sum_none, sum_more}
 use Rattle.rule_laws.proofs.WeightLaws.{weight_room}
 use Rattle.record.specs.Tabled.{Tabled}
 use Rattle.shown.specs.Shown.{voted}
@@ -30,6 +32,13 @@ module _ (f : ℕ → Bool) (nodes n : ℕ) where
   pub first_none : nodes ≤ n → n ≡ first_from (nodes - n) n f
   unfolding first_from
   first_none h = let d : nodes - n ≡ 0 = omega arith in rw d
+
+-- The number after those from one on, up to a bound that may lie before it.
+pub last_number : (from nodes n r : ℕ) → r ≡ max from nodes → (nodes ≤ from → n ≡ from) → nodes ≤ n → (from ≤ nodes → n ≤ nodes) → r ≡ n
+last_number from nodes n r e short low high =
+    by_test (leb nodes from)
+    (λ t. let h = leb-true nodes from t in let k = short h in omega arith)
+    (λ t. let h = leb-false nodes from t in let k = high (omega arith) in omega arith)
 
 -- ---- how many votes are stored
 

@@ -59,8 +59,8 @@ fn count_stored(rec: &[u64], s: Slot) -> Stored
         weight += counted.0;
     }
     Stored {
-        votes: votes,
-        nodes: nodes,
+        votes,
+        nodes,
         weight: Weight(weight),
     }
 }
@@ -88,12 +88,10 @@ pub fn voter_from(rec: &[u64], s: Slot, from: Node) -> Node
     ensures { result.0 ≡ voter_from (ledger_in rec.now) s.0 from.0 }
 {
     let nodes = nodes_of(rec);
-    let mut n = from.0;
-    while n < nodes {
+    for n in from.0..nodes {
         if !is_blank(cell_of(rec, s, Node(n))) {
             return Node(n);
         }
-        n += 1;
     }
-    Node(n)
+    Node(from.0.max(nodes))
 }
