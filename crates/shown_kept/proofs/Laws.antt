@@ -1,9 +1,9 @@
 -- Laws of what is shown of a kept certificate: where none is, what weighing its signers asks, and that they are told. Assumes nothing.
 use Rattle.std.specs.Prelude.{Option, Some, None}
 use mathlib.Core.Path.{◌≡◌, refl, sym, ap, ◌∙◌}
-use mathlib.Core.Bool.{Bool, true, false, ◌&&◌, ◌||◌}
+use mathlib.Core.Bool.{true, false, ◌&&◌, ◌||◌}
 use mathlib.Core.List.{List}
-use Prim.Native.Nat.{ℕ, suc, ◌≤◌, ◌<◌}
+use Prim.Native.Nat.{ℕ, ◌≤◌}
 use native.Mathlib.Omega.{arith}
 use lib.ListN.{length, get_or-eq_default}
 use Rattle.rulebook.specs.declared.Accepted.{Accepted}
@@ -28,7 +28,7 @@ use Rattle.kept_audit.proofs.Laws.{record_table, kept_judgeable}
 use Rattle.soundness.specs.Sound.{sound_words}
 use Rattle.soundness.proofs.Laws.{sound_long, sound_head, sound_tabled}
 use Rattle.shown.proofs.Laws.{slot_small, slot_later}
-use Rattle.shown_kept.specs.Kept.{told_of, kept_shown, Telling}
+use Rattle.shown_kept.specs.Kept.{told_of, kept_shown}
 
 -- ---- where none is kept, and where one is
 

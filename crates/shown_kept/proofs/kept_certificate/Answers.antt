@@ -2,7 +2,6 @@
 use Rattle.std.specs.Prelude.{Some, None}
 use mathlib.Core.Path.{◌∙◌, sym, ap}
 use Rattle.rulebook.specs.declared.Accepted.{Accepted}
-use Prim.Native.Nat.{◌-◌}
 use native.Mathlib.Omega.{arith}
 use Rattle.rulebook.specs.Weights.{slot_ok}
 use Rattle.soundness.specs.Sound.{sound_words}

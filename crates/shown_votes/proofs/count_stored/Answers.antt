@@ -1,6 +1,5 @@
 -- The three sums over the nodes passed.
 use mathlib.Core.Bool.{not}
-use Prim.Native.Nat.{◌-◌}
 use native.Mathlib.Omega.{arith}
 use Rattle.rule_laws.proofs.ToolLaws.{part_le}
 use Rattle.record.specs.Layout.{ledger_of}
