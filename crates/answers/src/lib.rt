@@ -38,7 +38,10 @@ pub fn yes_value(a: Result<bool, Refusal>) -> u64
 pub fn check_values(count: usize, a: Result<Accepted, Refusal>) -> [u64; 5]
     ensures { result ≡ check_values count a }
 {
-    a.map_or([0; 5], |x| accepted_values(count, x))
+    match a {
+        Ok(x) => accepted_values(count, x),
+        Err(_) => [0; 5],
+    }
 }
 
 // What is missing to the threshold, 0 unless the number is 15.
@@ -53,7 +56,13 @@ pub fn check_missing(a: Result<Accepted, Refusal>) -> Weight
 fn accepted_values(count: usize, x: Accepted) -> [u64; 5]
     ensures { result ≡ accepted_values count x }
 {
-    [number_in(count, x.kind), x.slot.0 as u64, x.block, x.signers, x.weight.0]
+    [
+        number_in(count, x.kind),
+        x.slot.0 as u64,
+        x.block,
+        x.signers,
+        x.weight.0,
+    ]
 }
 
 // What the comparison of two records answers, as a number.
@@ -122,7 +131,15 @@ pub fn card_values(t: Tally) -> [u64; 5]
 pub fn cell_values(c: Cell) -> [u64; 7]
     ensures { result ≡ cell_values c }
 {
-    [c.notar, c.skip, c.fallback1, c.fallback2, c.fallback3, c.skipfallback, c.finalvote]
+    [
+        c.notar,
+        c.skip,
+        c.fallback1,
+        c.fallback2,
+        c.fallback3,
+        c.skipfallback,
+        c.finalvote,
+    ]
 }
 
 // The twelve words of four blocks: number, parent's slot and parent of each.
@@ -131,8 +148,18 @@ pub fn kept_values(k: KeptBlocks) -> [u64; 12]
 {
     let (a, b, c, d) = (k.first, k.second, k.third, k.fourth);
     [
-        a.number, a.parentslot.0 as u64, a.parent, b.number, b.parentslot.0 as u64, b.parent,
-        c.number, c.parentslot.0 as u64, c.parent, d.number, d.parentslot.0 as u64, d.parent,
+        a.number,
+        a.parentslot.0 as u64,
+        a.parent,
+        b.number,
+        b.parentslot.0 as u64,
+        b.parent,
+        c.number,
+        c.parentslot.0 as u64,
+        c.parent,
+        d.number,
+        d.parentslot.0 as u64,
+        d.parent,
     ]
 }
 
