@@ -1,5 +1,5 @@
 -- A line that is sent is whole, and none follows one that was not. Assumes nothing.
-use Rattle.std.specs.Prelude.{Result, Ok, Err, ⊤}
+use Rattle.std.specs.Prelude.{Result, Ok, ⊤}
 use mathlib.Core.Path.{◌≡◌, refl, ◌∙◌}
 use mathlib.Core.List.{List}
 use Prim.Native.Nat.{ℕ, ◌≤◌}
@@ -27,10 +27,6 @@ pub next_front : {text : List ℕ} {p q : Page} {sent : Result ⊤ Unwritten} �
     → NextLine p (record q { at = 0 }) (Ok tt)
 next_front w u t =
     record { lent = w.lent; room = put_length w.put; begins = refl; stays = λ h. true_not_false false (rw t at (u.uncut (onward w h))) refl }
-
--- None was sent.
-pub unsent : {text : List ℕ} {p q : Page} {cut : Unwritten} → Wrote p text q → NextLine p q (Err cut)
-unsent w = record { lent = w.lent; room = put_length w.put; begins = tt; stays = λ h. refl }
 
 -- A text put before the line's end.
 pub next_after : {text : List ℕ} {p q r : Page} {sent : Result ⊤ Unwritten} → Wrote p text q → NextLine q r sent → NextLine p r sent

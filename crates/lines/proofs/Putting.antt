@@ -1,5 +1,5 @@
 -- Text after text in a buffer is one text. Assumes nothing.
-use mathlib.Core.Path.{◌≡◌, refl, sym, ap, ◌∙◌, subst}
+use mathlib.Core.Path.{◌≡◌, refl, sym, ap, ◌∙◌}
 use mathlib.Core.List.{List, [], ◌∷◌, ◌++◌}
 use Prim.Native.Nat.{ℕ, suc, ◌+◌, ◌≤◌, ◌<◌}
 use native.Mathlib.Omega.{arith}
@@ -69,7 +69,3 @@ stands_whole {l} {l'} {text} {n} w h =
     let x = w.place in
     let e : n ≡ length text = omega arith in
     (e, w.bytes ∙ stores_lay l 0 text (omega arith) ∙ laid_front l text)
-
--- The same text in other words.
-pub as_text : {l l' xs ys : List ℕ} {at p : ℕ} → xs ≡ ys → Put l at xs l' p → Put l at ys l' p
-as_text {l} {l'} {at = at} {p = p} e w = subst (λ (z : List ℕ). Put l at z l' p) e w
