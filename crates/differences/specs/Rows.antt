@@ -1,5 +1,5 @@
 -- Lines of five words in a lent list.
-use Rattle.std.specs.Prelude.{◌≡◌, List, [], ◌∷◌, ℕ, ◌+◌, ◌*◌, ◌≤◌, ◌<◌, length, Result, Ok, Err}
+use Rattle.std.specs.Prelude.{◌≡◌, List, ℕ, ◌+◌, ◌*◌, ◌≤◌, ◌<◌, length, Result, Ok, Err}
 use Rattle.std.specs.Fn.{Shared}
 use Rattle.std.proofs.lemmas.List.Edits.{sets}
 use denote.Ref.{MutBor}

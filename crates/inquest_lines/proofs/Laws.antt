@@ -1,6 +1,6 @@
 -- Lines put one after another, how many there can be, and the whole list or 9. Assumes nothing.
 use Rattle.std.specs.Prelude.{Result, Ok, Err}
-use mathlib.Core.Path.{◌≡◌, refl, sym, ap, ap₂, ◌∙◌, subst}
+use mathlib.Core.Path.{◌≡◌, refl, sym, ap, ◌∙◌, subst}
 use mathlib.Core.Bool.{Bool, true, false, not}
 use mathlib.Core.List.{List, [], ◌∷◌, ◌++◌}
 use Prim.Native.Nat.{ℕ, zero, suc, ◌+◌, ◌*◌, ◌≤◌}
@@ -16,9 +16,8 @@ use Rattle.differences.specs.Rows.{Counted}
 use Rattle.differences.proofs.Rows.{Spelled, spelled_by}
 pub use Rattle.differences.proofs.Rows.{laid_none, laid_then, laid_as, laid_length}
 use Rattle.inquest.specs.declared.Line.{Line}
-use Rattle.safety.specs.Slot.{Ballot}
 use Rattle.inquest.specs.Stands.{none_or}
-use Rattle.inquest.specs.Lists.{line_of, unless, lines_to}
+use Rattle.inquest.specs.Lists.{unless, lines_to}
 use Rattle.inquest_lines.specs.declared.ListRefusal.{ListRefusal}
 use Rattle.inquest_lines.specs.declared.ListRefusal.TheVariants as why
 use Rattle.inquest_lines.specs.Lent.{spell_line, spell_lines, Told, refused_by, put_in, listed_in, ToldIn, Laid}

@@ -1,21 +1,18 @@
 -- Lines of certificates put one after another, and the whole list or 9. Assumes nothing.
 use Rattle.std.specs.Prelude.{⊤, Result, Ok, Err}
-use mathlib.Core.Path.{◌≡◌, refl, sym, ap, ap₂, ◌∙◌, subst}
-use mathlib.Core.Bool.{Bool, true, false}
-use mathlib.Core.List.{List, [], ◌∷◌, ◌++◌, append_assoc}
+use mathlib.Core.Path.{◌≡◌, refl, sym, ap, ◌∙◌, subst}
+use mathlib.Core.Bool.{true, false}
+use mathlib.Core.List.{List, [], ◌∷◌}
 use Prim.Native.Nat.{ℕ, zero, suc, ◌+◌, ◌*◌, ◌≤◌, ◌<◌}
 use native.Mathlib.Omega.{arith}
 use native.Mathlib.Numerals.{add-one}
-use lib.ListN.{length, set, length-append}
+use lib.ListN.{length, length-append}
 use lib.Dec.{leb}
 use borrow.Author.Tests.{le-leb, lt-leb}
 use Rattle.rulebook.specs.declared.Accepted.{Accepted}
 use Rattle.rulebook.specs.declared.Refusal.{Refusal}
 use Rattle.rulebook.specs.declared.Refusal.TheVariants as refusal
-use Rattle.rulebook.specs.Tools.{whenever}
 use Rattle.rulebook.specs.Weights.{slot_ok}
-use Rattle.rulebook.specs.PaperNumbers.{number_in}
-use Rattle.rulebook.specs.Writers.{over}
 use Rattle.rulebook.specs.Ledger.{Ledger, most_certificates, kept_at, is_kept}
 use Rattle.rule_laws.proofs.ToolLaws.{by_test, given_on, given_off}
 use Rattle.record.specs.Layout.{ledger_of}
@@ -26,7 +23,7 @@ use Rattle.inquest_lines.proofs.Laws.{told_as, told_refused}
 use Rattle.inquest_lines.specs.declared.ListRefusal.{ListRefusal}
 use Rattle.inquest_lines.specs.declared.ListRefusal.TheVariants as why
 use Rattle.kept_lines.specs.Told.{told_of, place_told, told_to, certificates_told}
-use Rattle.kept_lines.specs.Lent.{spell_told, spell_all, Listing, refused_by, listed_in, certificates_on, ToldIn, Laid}
+use Rattle.kept_lines.specs.Lent.{spell_told, spell_all, refused_by, listed_in, certificates_on, ToldIn, Laid}
 
 -- ---- one run of lines after another
 

@@ -1,11 +1,10 @@
 -- What is answered about a slot's kept certificates, and the lent list afterwards.
-use Rattle.std.specs.Prelude.{◌≡◌, List, [], ◌∷◌, ◌++◌, ℕ, ◌+◌, ◌*◌, ◌≤◌, length, leb, Result, Ok, Err}
+use Rattle.std.specs.Prelude.{List, [], ◌∷◌, ◌++◌, ℕ, ◌+◌, ◌≤◌, length, Err}
 use Rattle.rulebook.specs.declared.Accepted.{Accepted}
 use Rattle.rulebook.specs.declared.Refusal.TheVariants as refusal
 use Rattle.rulebook.specs.Tools.{whenever}
 use Rattle.rulebook.specs.Weights.{slot_ok}
 use Rattle.rulebook.specs.PaperNumbers.{number_in}
-use Rattle.rulebook.specs.Writers.{over}
 use Rattle.rulebook.specs.Ledger.{most_certificates}
 use Rattle.record.specs.Layout.{ledger_of}
 use Rattle.soundness.specs.Sound.{sound_words}

@@ -1,21 +1,19 @@
 -- Lines of blocks put one after another, how many there can be, and the whole list or 9. Assumes nothing.
-use mathlib.Core.Path.{◌≡◌, refl, sym, ap, ap₂, ◌∙◌, subst}
-use mathlib.Core.Bool.{Bool, true, false}
-use mathlib.Core.List.{List, [], ◌∷◌, ◌++◌, append_assoc}
+use mathlib.Core.Path.{◌≡◌, refl, sym, ap}
+use mathlib.Core.Bool.{true, false}
+use mathlib.Core.List.{List, [], ◌∷◌, ◌++◌}
 use Prim.Native.Nat.{ℕ, zero, suc, ◌+◌, ◌*◌, ◌≤◌, ◌<◌}
 use native.Mathlib.Omega.{arith}
 use native.Mathlib.Numerals.{add-one}
-use lib.ListN.{length, get_or, set, length-append}
+use lib.ListN.{length, get_or, length-append}
 use Rattle.rulebook.specs.declared.Block.{Block}
 use Rattle.rulebook.specs.Weights.{last_slot}
 use Rattle.rulebook.specs.Ledger.{Ledger, most_blocks, no_block, blocks_at}
 use Rattle.rule_laws.proofs.ToolLaws.{given_on, given_off, by_test}
-use Rattle.record.specs.Layout.{ledger_of, InSlot}
+use Rattle.record.specs.Layout.{ledger_of}
 use Rattle.record.proofs.Reading.{ledger_shaped}
-use Rattle.soundness.specs.Sound.{sound_words}
 use Rattle.soundness.proofs.Laws.{sound_long}
 use Rattle.difference_lines.specs.declared.Side.TheVariants as side
-use Rattle.difference_lines.specs.Lines.{side_number}
 use Rattle.differences.specs.Lent.{Sounds}
 use Rattle.inquest.specs.Vouched.{one_block}
 use Rattle.differences.proofs.Rows.{Spelled, spelled_by}

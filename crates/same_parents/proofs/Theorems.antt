@@ -7,7 +7,7 @@ use lib.ListN.{length, get_or}
 use Rattle.rulebook.specs.declared.Block.{Block}
 use Rattle.rulebook.specs.Tools.{whenever, all_to}
 use Rattle.rulebook.specs.Weights.{last_slot}
-use Rattle.rulebook.specs.Ledger.{Ledger, no_block, blocks_at, all_blocks}
+use Rattle.rulebook.specs.Ledger.{no_block, blocks_at, all_blocks}
 use Rattle.difference_lines.specs.declared.Side.TheVariants as side
 use Rattle.inquest.specs.Vouched.{one_block, same_parents}
 use Rattle.same_parents.specs.declared.ParentLine.{ParentLine}

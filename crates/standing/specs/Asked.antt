@@ -1,5 +1,5 @@
 -- What is answered about one lent record, and the lent list afterwards.
-use Rattle.std.specs.Prelude.{◌≡◌, Bool, true, List, ℕ, suc, ◌+◌, ◌≤◌, ◌<◌, length, Result, Err}
+use Rattle.std.specs.Prelude.{◌≡◌, Bool, true, List, ℕ, ◌+◌, ◌≤◌, length, Result, Err}
 use Rattle.std.specs.Fn.{Once}
 use Rattle.rulebook.specs.declared.Refusal.TheVariants as refusal
 use Rattle.rulebook.specs.declared.Slot.{Slot}

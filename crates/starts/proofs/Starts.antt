@@ -9,13 +9,12 @@ use native.Mathlib.Numerals.{add-one}
 use lib.ListN.{length, get_or, set, take, replicate}
 use lib.Seq.{take-suc, take-length, length-take-le, set_at, append_snoc}
 use lib.Dec.{eqb, leb}
-use borrow.Author.Tests.{eq-eqb, ne_eqb, not-false}
+use borrow.Author.Tests.{eq-eqb, ne_eqb}
 use Rattle.rulebook.specs.declared.Refusal.{Refusal}
 use Rattle.rulebook.specs.declared.Refusal.TheVariants as refusal
 use Rattle.rulebook.specs.Weights.{most_nodes, places_for, stakes_fit, total_to}
 use Rattle.rulebook.specs.Ledger.{Ledger, none, fresh}
 use Rattle.rulebook.specs.Inputs.{refuse_if, start_verdict, watch_verdict}
-use Rattle.rule_laws.proofs.ToolLaws.{or_none}
 use Rattle.stakes.specs.declared.LentTable.{LentTable}
 use Rattle.stakes.specs.Table.{made_of}
 use Rattle.stakes.proofs.Laws.{made_none, made_some, fit_few}

@@ -17,8 +17,8 @@ fn set_up(rec: &mut [u64], stakes: &[u64], total: Weight, own: Node, genesis: u6
 {
     clear(rec);
     set_head(rec, stakes.len(), total, own, genesis);
-    for n in 0..stakes.len() {
-        set_stake(rec, Node(n), Weight(stakes[n]));
+    for (n, &stake) in stakes.iter().enumerate() {
+        set_stake(rec, Node(n), Weight(stake));
     }
 }
 

@@ -2,7 +2,7 @@
 use Rattle.std.specs.Prelude.{List, [], ◌∷◌, ℕ, Result, Ok, Err}
 use Rattle.rulebook.specs.declared.Refusal.TheVariants as refusal
 use Rattle.rulebook.specs.Tools.{whenever}
-use Rattle.rulebook.specs.PaperNumbers.{Panel, refusal_number, panel_of}
+use Rattle.rulebook.specs.PaperNumbers.{Panel, panel_of}
 use Rattle.rulebook.specs.Ledger.{table_of}
 use Rattle.rulebook.specs.Checker.{check_proof}
 use Rattle.record.specs.Layout.{ledger_of}

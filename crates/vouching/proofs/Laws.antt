@@ -8,12 +8,11 @@ use native.Mathlib.Omega.{arith}
 use lib.ListN.{length, get_or, length-append}
 use borrow.Author.Tests.{eqb-false}
 use Rattle.rulebook.specs.declared.Cell.{Cell}
-use Rattle.rulebook.specs.declared.CertificateKind.TheVariants as certificate
 use Rattle.rulebook.specs.declared.Refusal.TheVariants as refusal
 use Rattle.rulebook.specs.Certificates.{Kept}
 use Rattle.rulebook.specs.Tools.{whenever}
 use Rattle.rulebook.specs.Weights.{last_slot}
-use Rattle.rulebook.specs.Ledger.{Ledger, no_kept, most_certificates, cell_at, own_cell, certificates_at, is_kept, is_watcher, places}
+use Rattle.rulebook.specs.Ledger.{Ledger, no_kept, most_certificates, cell_at, own_cell, certificates_at, is_kept, is_watcher}
 use Rattle.rulebook.specs.Pool.{place_kind}
 use Rattle.rulebook.specs.Packets.{bit}
 use Rattle.rulebook.specs.WellFormed.{kept_in}

@@ -1,5 +1,4 @@
 -- The loop over the places: the lines of those behind it are put.
-use Prim.Native.Nat.{◌-◌}
 use native.Mathlib.Omega.{arith}
 use Rattle.record.specs.Layout.{ledger_of}
 use Rattle.kept_lines.proofs.Laws.{first_place_lem, next_place, last_place, told_most}

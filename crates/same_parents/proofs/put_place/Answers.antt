@@ -1,6 +1,5 @@
 -- The loop over the second record's places: the lines of those behind it are put.
 use mathlib.Core.Path.{◌≡◌, ap}
-use Prim.Native.Nat.{◌-◌}
 use native.Mathlib.Omega.{arith}
 use lib.ListN.{length}
 use Rattle.rulebook.specs.declared.Block.{Block}

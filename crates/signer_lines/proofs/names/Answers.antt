@@ -1,5 +1,5 @@
 -- The node's word, and its bit there.
-use Rattle.std.proofs.Common.{◌≡◌, ◌/◌, get_or, rules}
+use Rattle.std.proofs.Common.{rules}
 use Rattle.signer_lines.proofs.Laws.{word_named}
 use Rattle.signer_lines.proofs.names.Goals as goal
 

@@ -1,7 +1,6 @@
 -- No place behind the loop keeps the block with a parent that fits.
 use mathlib.Core.Path.{◌∙◌, ap, sym}
-use mathlib.Core.Bool.{false, ◌||◌}
-use Prim.Native.Nat.{◌-◌}
+use mathlib.Core.Bool.{◌||◌}
 use native.Mathlib.Omega.{arith}
 use Rattle.rulebook.specs.declared.Block.{Block}
 use Rattle.rule_laws.proofs.ToolLaws.{some_none, some_more}

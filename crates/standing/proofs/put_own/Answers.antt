@@ -1,5 +1,5 @@
 -- No vote has no line; else its test is asked.
-use Rattle.std.proofs.Common.{rules, ap}
+use Rattle.std.proofs.Common.{ap}
 use mathlib.Core.Path.{sym, ◌∙◌}
 use Rattle.inquest.specs.Lists.{unless}
 use Rattle.inquest_lines.proofs.Laws.{laid_as, vote_none, some_or}

@@ -2,7 +2,7 @@
 use Prim.Native.Nat.{suc, ◌-◌, ◌≤◌}
 use Rattle.rulebook.specs.Weights.{last_slot}
 use Rattle.record.specs.Layout.{ledger_of}
-use Rattle.inquest.specs.Lists.{lines_to, slot_fallen, fallen}
+use Rattle.inquest.specs.Lists.{lines_to, slot_fallen}
 use Rattle.inquest_lines.specs.Lent.{Laid}
 use Rattle.standing.proofs.put_slots.Given as goal
 

@@ -1,6 +1,5 @@
 -- Cleared, given its head, and a stake at a time: the loop's words hold the fresh ledger with the stakes behind it.
 use mathlib.Core.Path.{refl, ◌∙◌}
-use Prim.Native.Nat.{◌-◌}
 use native.Mathlib.Omega.{arith}
 use lib.ListN.{length}
 use Rattle.rulebook.specs.Weights.{places_for}

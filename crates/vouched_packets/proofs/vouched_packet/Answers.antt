@@ -2,7 +2,6 @@
 use Rattle.std.specs.Prelude.{◌≡◌, Err}
 use Rattle.std.proofs.Common.{rules}
 use mathlib.Core.Path.{◌∙◌, ap, sym}
-use mathlib.Core.Bool.{true}
 use Prim.Native.Nat.{ℕ}
 use mathlib.Core.List.{List}
 use Rattle.soundness.proofs.Laws.{sound_long, sound_counted}

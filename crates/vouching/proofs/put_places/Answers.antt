@@ -1,6 +1,5 @@
 -- The loop over the places: the lines of those behind it are put.
 use mathlib.Core.Path.{◌≡◌}
-use Prim.Native.Nat.{◌-◌}
 use native.Mathlib.Omega.{arith}
 use lib.ListN.{length}
 use Rattle.rulebook.specs.Ledger.{certificates_at}

@@ -1,6 +1,6 @@
 -- The loop over the slots: the lines of those behind it are put.
 use mathlib.Core.Path.{◌≡◌, ap}
-use Prim.Native.Nat.{suc, ◌+◌, ◌-◌}
+use Prim.Native.Nat.{suc, ◌+◌}
 use native.Mathlib.Omega.{arith}
 use Rattle.record.specs.Layout.{ledger_of}
 use Rattle.inquest.specs.Lists.{slot_lacks, lacking}

@@ -1,11 +1,9 @@
 -- Each way out: a refusal of the two records, a watcher, the lines.
-use Rattle.std.specs.Prelude.{◌≡◌, Result, Err}
-use Rattle.std.proofs.Common.{rules, subst}
+use Rattle.std.specs.Prelude.{◌≡◌, Err}
+use Rattle.std.proofs.Common.{rules}
 use mathlib.Core.Path.{◌∙◌, sym}
-use Prim.Native.Nat.{ℕ}
 use Rattle.soundness.proofs.Laws.{sound_long}
-use Rattle.inquest_lines.specs.declared.ListRefusal.{ListRefusal}
-use Rattle.vouching.specs.Asked.{vouched_on, VouchedOf}
+use Rattle.vouching.specs.Asked.{vouched_on}
 use Rattle.vouching.proofs.Laws.{comparable_fine, two_refused, two_told, asked, watcher_told, firm_told}
 use Rattle.vouching.proofs.vouched.Goals as goal
 
