@@ -23,36 +23,28 @@ pub fn end_line() {
     say(b"\n");
 }
 
-// A digit of base 16, in upper case.
-fn glyph(d: u8) -> u8 {
-    if d < 10 {
-        48 + d
-    } else if d < 16 {
-        55 + d
-    } else {
-        63
-    }
-}
+// The digits of base 16, in upper case.
+const DIGITS: [u8; 16] = *b"0123456789ABCDEF";
 
 // A byte as two digits.
 fn tell_byte(b: u8) {
-    let pair = [glyph(b / 16), glyph(b % 16)];
+    let pair = [DIGITS[usize::from(b / 16)], DIGITS[usize::from(b % 16)]];
     say(&pair);
 }
 
 // Bytes in pairs of digits; a dash for none.
 pub fn tell_bytes(bytes: &[u8]) {
-    if bytes.len() == 0 {
+    if bytes.is_empty() {
         say(b"-");
     }
-    for i in 0..bytes.len() {
-        tell_byte(bytes[i]);
+    for b in bytes {
+        tell_byte(*b);
     }
 }
 
 // The bytes at a buffer's front.
 pub fn tell_front(buffer: &[u8], size: usize) {
-    if size <= buffer.len() {
-        tell_bytes(&buffer[0..size]);
+    if let Some(front) = buffer.get(..size) {
+        tell_bytes(front);
     }
 }

@@ -5,7 +5,7 @@
 
 use node::step;
 use page::{end_line, say, tell};
-use rulebook::{Refusal, Input, Node, Slot};
+use rulebook::{Input, Node, Refusal, Slot};
 use script::read_numbers;
 use slices::{copy_words, put_word};
 use starts::{start, watch};
@@ -16,44 +16,12 @@ const RECORD_WORDS: usize = 1251;
 
 const MOST_NUMBERS: usize = 64;
 
-// The bytes are as they were lent.
-fn untouched(bytes: &[u8]) -> bool {
-    let mut same = true;
-    for i in 0..bytes.len() {
-        if bytes[i] != 9 {
-            same = false;
-        }
-    }
-    same
-}
-
-// The same words, one for one.
-fn equal(words: &[u64], other: &[u64]) -> bool {
-    let mut same = words.len() == other.len();
-    for i in 0..words.len() {
-        if i < other.len() {
-            if words[i] != other[i] {
-                same = false;
-            }
-        }
-    }
-    same
-}
-
-// Puts in number i of a line, where it is the value of the place in front of it.
-fn put_value(rec: &mut [u64], numbers: &[u64], count: usize, i: usize) {
-    if i < numbers.len() {
-        if 0 < i {
-            if (i < count) & (i % 2 == 1) {
-                put_word(rec, numbers[i - 1] as usize, numbers[i]);
-            }
-        }
-    }
-}
-
+// Puts words into a record, PLACE VALUE by PLACE VALUE.
 fn put_all(rec: &mut [u64], numbers: &[u64], count: usize) {
-    for i in 0..numbers.len() {
-        put_value(rec, numbers, count, i);
+    let many = count.min(numbers.len());
+    let (pairs, _) = numbers[..many].as_chunks::<2>();
+    for [place, value] in pairs {
+        put_word(rec, *place as usize, *value);
     }
 }
 
@@ -62,16 +30,10 @@ fn number(n: u64) {
     tell(n);
 }
 
-fn tell_step(answer: Result<usize, Refusal>) {
+// An answer's number, 0 where it is no refusal.
+fn tell_answer<T: Drop>(answer: Result<T, Refusal>) {
     match answer {
-        Ok(n) => number(0),
-        Err(r) => number(u64::from(r)),
-    }
-}
-
-fn tell_write(answer: Result<usize, Refusal>) {
-    match answer {
-        Ok(n) => number(0),
+        Ok(_) => number(0),
         Err(r) => number(u64::from(r)),
     }
 }
@@ -82,10 +44,10 @@ fn ask(rec: &mut [u64], other: &[u64]) {
     let mut outbox = [9u64; 480];
     let mut first = [9u8; 32];
     let mut second = [9u8; 64];
-    tell_step(step(rec, &mut outbox, Input::Look));
-    tell_write(write_certificate(rec, &mut first, 2, Slot(1), 7));
-    tell_write(write_proof(rec, &mut second, Slot(1), 7));
-    if equal(rec, other) & equal(&outbox, &lent) & untouched(&first) & untouched(&second) {
+    tell_answer(step(rec, &mut outbox, Input::Look));
+    tell_answer(write_certificate(rec, &mut first, 2, Slot(1), 7));
+    tell_answer(write_proof(rec, &mut second, Slot(1), 7));
+    if &*rec == other && outbox == lent && first == [9; 32] && second == [9; 64] {
         say(b" as found\n");
     } else {
         say(b" changed\n");
@@ -103,77 +65,45 @@ fn spoil(sound: &[u64], numbers: &[u64], count: usize) {
     ask(&mut rec, &other);
 }
 
-fn adds(line: &[u8]) -> bool {
-    if line.len() == 0 {
-        return false;
-    }
-    line[0] == b'+'
-}
-
 fn obey(line: &[u8], sound: &mut [u64]) {
     let mut numbers = [0u64; MOST_NUMBERS];
     say(line);
-    if adds(line) {
-        let words = read_numbers(line, 1, &mut numbers);
-        put_all(sound, &numbers, words.count);
-        end_line();
-        return;
-    }
-    let words = read_numbers(line, 0, &mut numbers);
-    if words.good {
-        spoil(sound, &numbers, words.count);
-    } else {
-        end_line();
-    }
-}
-
-fn part(bytes: &[u8], from: usize, to: usize, sound: &mut [u64]) {
-    if to > bytes.len() {
-        return;
-    }
-    if from > to {
-        return;
-    }
-    obey(&bytes[from..to], sound);
-}
-
-// Looks at a byte: a line feed has the line before it obeyed. Answers where the line begins that goes on.
-fn pass(bytes: &[u8], from: usize, i: usize, sound: &mut [u64]) -> usize {
-    if i < bytes.len() {
-        if bytes[i] == b'\n' {
-            part(bytes, from, i, sound);
-            return i + 1;
+    if line.starts_with(b"+") {
+        match read_numbers(line, 1, &mut numbers) {
+            Ok(count) => put_all(sound, &numbers, count),
+            Err(word) => put_all(sound, &numbers, word.before),
         }
+        return end_line();
     }
-    from
+    match read_numbers(line, 0, &mut numbers) {
+        Ok(count) => spoil(sound, &numbers, count),
+        Err(_) => end_line(),
+    }
 }
 
-fn lines(bytes: &[u8], sound: &mut [u64]) {
-    let mut from = 0;
-    for i in 0..bytes.len() {
-        from = pass(bytes, from, i, sound);
+// Every line that is ended.
+fn obey_lines(bytes: &[u8], sound: &mut [u64]) {
+    for line in bytes.split_inclusive(|b| *b == b'\n') {
+        if let Some(line) = line.strip_suffix(b"\n") {
+            obey(line, sound);
+        }
     }
 }
 
 fn tell_start(answer: Result<(), Refusal>) {
-    match answer {
-        Ok(()) => number(0),
-        Err(r) => number(u64::from(r)),
-    }
+    tell_answer(answer);
     end_line();
 }
 
 // The node whose record is spoiled: two nodes of stakes 6 and 4.
 fn begin(rec: &mut [u64]) {
-    let mut stakes = [6u64; 2];
-    stakes[1] = 4;
     say(b"start");
-    tell_start(start(rec, &stakes, Node(0), 1));
+    tell_start(start(rec, &[6, 4], Node(0), 1));
 }
 
 // A fresh node of so many stakes of 1, told as a node of two with total 2: nothing but the number of places is wrong.
 fn as_two(rec: &mut [u64], stakes: &[u64]) {
-    start(rec, stakes, Node(0), 1);
+    let _ = start(rec, stakes, Node(0), 1);
     put_word(rec, 0, 2);
     put_word(rec, 1, 2);
     if 2 < stakes.len() {
@@ -256,18 +186,12 @@ fn watched_starts() {
     tell_start(watch(&mut most, &stakes, 1));
 }
 
-// A word of an outbox, where it is the kind of one of so many records.
-fn tell_kind(outbox: &[u64], i: usize, many: usize) {
-    if i < outbox.len() {
-        if (i / 3 < many) & (i % 3 == 0) {
-            number(outbox[i]);
-        }
-    }
-}
-
+// The kinds of so many records of an outbox.
 fn tell_kinds(outbox: &[u64], many: usize) {
-    for i in 0..outbox.len() {
-        tell_kind(outbox, i, many);
+    let (records, _) = outbox.as_chunks::<3>();
+    let told = many.min(records.len());
+    for [kind, ..] in &records[..told] {
+        number(*kind);
     }
 }
 
@@ -281,20 +205,19 @@ fn look_as(sound: &[u64], own: Node) {
     number(own.0 as u64);
     say(b":");
     let answer = step(&mut rec, &mut outbox, Input::Look);
-    tell_step(answer);
-    match answer {
-        Ok(n) => tell_kinds(&outbox, n),
-        Err(_) => {}
+    tell_answer(answer);
+    if let Ok(many) = answer {
+        tell_kinds(&outbox, many);
     }
     end_line();
 }
 
 fn main() {
     let mut sound = [0u64; RECORD_WORDS];
-    let mut buffer = io::large_buffer();
+    let mut buffer = [0u8; 65536];
     begin(&mut sound);
     let n = io::read_full(0, &mut buffer);
-    lines(&buffer[..n], &mut sound);
+    obey_lines(&buffer[..n], &mut sound);
     look_as(&sound, Node(0));
     look_as(&sound, Node(2));
     look_as(&sound, Node(3));
