@@ -48,8 +48,8 @@ use quointrowel::{
     qr_vouched_packet, qr_watch, qr_write_certificate, qr_write_proof, qr_write_vote,
 };
 use readers::{
-    BlockWeights, KeptBlocks, RecordHead, SlotMarks, read_armed, read_blocks, read_final, read_head,
-    read_marks, read_votes, read_weights,
+    BlockWeights, KeptBlocks, RecordHead, SlotMarks, read_armed, read_blocks, read_final,
+    read_head, read_marks, read_votes, read_weights,
 };
 use record::record_words;
 use rulebook::{Accepted, Block, Cell, Input, Node, Refusal, Slot, Tally, Vote};
@@ -458,7 +458,12 @@ pub fn plain_write_certificate(
 }
 
 // Calls the public proof writer.
-pub fn plain_write_proof(rec: &[u64], buffer: &mut [u8], slot: Slot, block: u64) -> Result<usize, Refusal>
+pub fn plain_write_proof(
+    rec: &[u64],
+    buffer: &mut [u8],
+    slot: Slot,
+    block: u64,
+) -> Result<usize, Refusal>
     ensures { WroteWith (proof_on rec.now (length buffer.old) slot.0 block) buffer.old result buffer.new }
 {
     write_proof(rec, buffer, slot, block)
@@ -556,7 +561,12 @@ pub fn plain_read_weights(rec: &[u64], s: Slot, b: u64) -> Result<BlockWeights, 
 }
 
 // Calls the public operation that takes a piece.
-pub fn plain_piece(words: &mut [u64], front: &mut [u8], stakes: &[u64], bytes: &[u8]) -> Result<(), Refusal>
+pub fn plain_piece(
+    words: &mut [u64],
+    front: &mut [u8],
+    stakes: &[u64],
+    bytes: &[u8],
+) -> Result<(), Refusal>
     ensures { PiecedWith words.old front.old stakes.now bytes.now result words.new front.new }
 {
     piece(words, front, stakes, bytes)
@@ -605,7 +615,11 @@ pub fn plain_vouched(one: &[u64], two: &[u64], list: &mut [u64]) -> Result<usize
 }
 
 // Calls the public test of a packet.
-pub fn plain_vouched_packet(rec: &[u64], packet: &[u8], list: &mut [u64]) -> Result<usize, ListRefusal>
+pub fn plain_vouched_packet(
+    rec: &[u64],
+    packet: &[u8],
+    list: &mut [u64],
+) -> Result<usize, ListRefusal>
     ensures { LinesWith (packet_on rec.now packet.now (length list.old)) list.old result list.new }
 {
     vouched_packet(rec, packet, list)

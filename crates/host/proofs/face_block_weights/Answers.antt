@@ -1,5 +1,0 @@
--- The contract of the function is the host's.
-use Rattle.host.proofs.face_block_weights.Goals as goal
-
-pub returns : goal.returns
-returns c = c.qr_block_weights.ensures

@@ -1,5 +1,0 @@
--- The contract of the function is the host's.
-use Rattle.host.proofs.face_write_certificate.Goals as goal
-
-pub returns : goal.returns
-returns c = c.qr_write_certificate.ensures

@@ -1,6 +1,0 @@
--- The operation's contract, in the paper's numbers.
-use Rattle.host.proofs.Answered.{lines_with}
-use Rattle.host.proofs.plain_stands.Goals as goal
-
-pub returns : goal.returns
-returns c = lines_with _ _ _ _ c.own_votes_stand.ensures
