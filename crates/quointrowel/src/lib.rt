@@ -26,9 +26,9 @@ ghost use Rattle.vouched_packets.specs.Split.{split_on};
 
 use announcing::may_announce;
 use answers::{
-    card_values, cell_values, check_missing, check_values, differ_number, differ_value, head_values,
-    kept_values, list_number, list_value, mark_values, number_of, vote_values, weight_values,
-    yes_value,
+    card_values, cell_values, check_missing, check_values, differ_number, differ_value,
+    head_values, kept_values, list_number, list_value, mark_values, number_of, vote_values,
+    weight_values, yes_value,
 };
 use cards::read_card;
 use checker::{check_certificate, check_proof};

@@ -44,7 +44,14 @@ fn keep_packet(rec: &mut [u64], packet: &[u8], told: Accepted)
     let mut b = [0u64; MOST_WORDS];
     let _ = read_certificate(packet, 0, &mut a, &mut b);
     let words = mask_words(places_in(rec));
-    keep_certificate(rec, told.kind, told.slot, told.block, &a[..words], &b[..words]);
+    keep_certificate(
+        rec,
+        told.kind,
+        told.slot,
+        told.block,
+        &a[..words],
+        &b[..words],
+    );
 }
 
 // Keeps the certificate of an accepted packet that has a place, and runs the rules until none applies.

@@ -79,7 +79,12 @@ fn serve_votes(rec: &mut [u64], outbox: &mut [u64], votes: &[u64], answers: &mut
 
 // A run of votes, four words each, with one answer per vote: refused with 17, 9 or 12 and all memory as found, or each vote is
 // answered and taken as if it came alone.
-pub fn tray(rec: &mut [u64], outbox: &mut [u64], votes: &[u64], answers: &mut [u64]) -> Result<usize, Refusal>
+pub fn tray(
+    rec: &mut [u64],
+    outbox: &mut [u64],
+    votes: &[u64],
+    answers: &mut [u64],
+) -> Result<usize, Refusal>
     ensures { TrayOf rec.old outbox.old votes.now answers.old result rec.new outbox.new answers.new }
 {
     if !sound(rec) {

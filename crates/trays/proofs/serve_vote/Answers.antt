@@ -1,5 +1,5 @@
 -- The vote's refusal, or the vote taken.
-use mathlib.Core.Path.{◌∙◌, sym}
+use mathlib.Core.Path.{sym}
 use Rattle.std.proofs.lemmas.Result.{err_from_is_err_and}
 use Rattle.trays.proofs.OneVote.{serving_counted, vote_refused, vote_taken}
 use Rattle.trays.proofs.serve_vote.Goals as goal

@@ -45,8 +45,8 @@ loop-i-preserved c =
       served.auto.looks ∙ k.1,
       served.ensures.0,
       going_more k.3 c.vote_in.result (cut_there k.0 x rest q.0.1.0 q.0.1.1) c.requires.enough
-      (c.vote_in.ensures ∙ (λ j. vote_of (cut_first k.0 x rest q.0.1.0 q.0.1.1 j) (word 1 (omega arith) j) (word 2 (omega arith) j) (word 3 (omega arith) j)))
-      served.ensures.1 (λ n. (c.type_inv.rec n).fits) served.auto.outbox,
+          (c.vote_in.ensures ∙ (λ j. vote_of (cut_first k.0 x rest q.0.1.0 q.0.1.1 j) (word 1 (omega arith) j) (word 2 (omega arith) j) (word 3 (omega arith) j)))
+          served.ensures.1 (λ n. (c.type_inv.rec n).fits) served.auto.outbox,
     )
 
 pub returns : goal.returns

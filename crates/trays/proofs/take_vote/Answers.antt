@@ -1,5 +1,4 @@
 -- The vote noted and stored, then the rules run.
-use borrow.Author.Rules.{rules}
 use Rattle.run.proofs.ScanLaws.{bounds_settled}
 use Rattle.trays.proofs.OneVote.{vote_storing, vote_way, vote_noted, vote_run}
 use Rattle.trays.proofs.take_vote.Goals as goal
