@@ -143,11 +143,6 @@ bytes_of (since stakes bytes) = take front_bytes bytes ++ replicate (front_bytes
 
 -- ---- what inner functions ask
 
--- n bytes to copy, and room for them.
-pub record Pasted (to : List ℕ) (at : ℕ) (from : List ℕ) (n : ℕ) : Type 0 where
-  pub there : n ≤ length from
-  pub room : at + n ≤ length to
-
 -- A state, and no more stakes than it has places for.
 pub record Sized (ws stakes : List ℕ) : Type 0 where
   pub words : length ws ≡ state_words

@@ -1,10 +1,10 @@
 // The checker of a finality proof that arrives in pieces. The host lends the state, words and bytes; all zeros, nothing has been taken.
 #![tactic(auto)]
 
-ghost use Rattle.std.specs.Prelude.{◌≡◌, length};
+ghost use Rattle.std.specs.Prelude.{◌≡◌, ◌+◌, ◌≤◌, length};
 ghost use Rattle.std.specs.List.{list_all};
 ghost use Rattle.std.proofs.Math.Seq.{paste};
-ghost use Rattle.pieces.specs.State.{state_words, front_bytes, nodes, is_sized, is_ready, holds_table, is_whole, Pasted, Sized, Taking, Keeps, with_table, PieceOf, EndOf};
+ghost use Rattle.pieces.specs.State.{state_words, front_bytes, nodes, is_sized, is_ready, holds_table, is_whole, Sized, Taking, Keeps, with_table, PieceOf, EndOf};
 
 use checker::check_proof;
 use rulebook::{Accepted, Refusal};
@@ -48,12 +48,15 @@ fn all_are<T: PartialEq>(xs: &[T], x: &T) -> bool
     xs.iter().all(|y| y == x)
 }
 
-// Copies the first n bytes to a place and those after it.
-fn copy_bytes(to: &mut [u8], at: usize, from: &[u8], n: usize)
-    requires { Pasted to.old at from.now n }
+// Copies the first n of these to a place and those after it. By a loop, since std's copying would want memmove of the host.
+fn copy_first<T: Copy>(to: &mut [T], at: usize, from: &[T], n: usize)
+    requires from { n ≤ length from.now }
+    requires to { at + n ≤ length to.old }
     ensures { to.new ≡ paste to.old at from.now n }
 {
-    to[at..at + n].copy_from_slice(&from[..n]);
+    for i in 0..n {
+        to[at + i] = from[i];
+    }
 }
 
 // Whether a state has the size of one.
@@ -109,7 +112,7 @@ fn keep_table(words: &mut [u64], stakes: &[u64])
 {
     words[0] = 1;
     words[1] = stakes.len() as u64;
-    words[2..2 + stakes.len()].copy_from_slice(stakes);
+    copy_first(words, 2, stakes, stakes.len());
 }
 
 // Keeps as many bytes of a piece as can still count.
@@ -119,7 +122,7 @@ fn keep_bytes(words: &mut [u64], front: &mut [u8], bytes: &[u8])
 {
     let kept = words[0] as usize - 1;
     let n = bytes.len().min(FRONT_BYTES - kept);
-    copy_bytes(front, kept, bytes, n);
+    copy_first(front, kept, bytes, n);
     words[0] = (kept + n + 1) as u64;
 }
 

@@ -10,4 +10,4 @@ use Rattle.pieces.proofs.keep_bytes.Goals as goal
 pub returns : goal.returns
 unfolding kept_words kept_front
 returns c =
-    let ws = c.args.words.now in record { words = ap (λ (n : ℕ). set ws 0 (kept ws + n + 1)) c.min-n.ensures; front = c.copy_bytes.ensures ∙ ap (paste c.args.front.now (kept ws) c.args.bytes.now) c.min-n.ensures }
+    let ws = c.args.words.now in record { words = ap (λ (n : ℕ). set ws 0 (kept ws + n + 1)) c.min-n.ensures; front = c.copy_first.ensures ∙ ap (paste c.args.front.now (kept ws) c.args.bytes.now) c.min-n.ensures }
