@@ -1,13 +1,12 @@
 -- What qr_differ says of stake tables. Assumes nothing.
 use mathlib.Core.Path.{◌≡◌, refl, sym, ap, ◌∙◌}
-use mathlib.Core.Bool.{Bool, true, false, ◌&&◌}
+use mathlib.Core.Bool.{true, false, ◌&&◌}
 use mathlib.Core.List.{List, [], ◌∷◌}
-use Prim.Native.Nat.{ℕ, ◌*◌, ◌≤◌, ◌<◌}
+use Prim.Native.Nat.{ℕ, ◌*◌}
 use native.Mathlib.Omega.{arith}
 use lib.ListN.{length, get_or, take}
 use lib.Dec.{eqb, leb}
 use borrow.Author.Tests.{eq-eqb, leb-true, leb-false}
-use Rattle.rulebook.specs.declared.Vote.{Vote}
 use Rattle.rulebook.specs.PaperNumbers.{Panel, vote_number}
 use Rattle.rulebook.specs.Ledger.{Ledger}
 use Rattle.rulebook.specs.Writers.{over}
@@ -22,9 +21,8 @@ use Rattle.difference_lines.specs.Lines.{Line, side_number, same_tables, tables_
 use Rattle.difference_lines.specs.Promises.{same_vote, is_line, listed}
 use Rattle.difference_lines.proofs.Theorems.{tables_exactly}
 use Rattle.answers.specs.Face.{Compared}
-use Rattle.promises.specs.Differs.{shown_as, lines_of, Told}
+use Rattle.promises.specs.Differs.{shown_as, lines_of}
 use Rattle.promises.proofs.Differs.{face_differ, face_equal}
-use Rattle.exactly.specs.Tables.{OneTable}
 use Rattle.exactly.specs.Compared.{tables_words, FaceTables, FaceNone}
 use Rattle.exactly.proofs.Tables.{tables_compared}
 

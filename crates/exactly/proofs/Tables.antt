@@ -1,10 +1,10 @@
 -- The comparison of stake tables is exact, and what qr_differ says of them. Assumes nothing.
 use mathlib.Core.Path.{◌≡◌, sym, ap, ◌∙◌}
-use mathlib.Core.Bool.{true, ◌&&◌}
+use mathlib.Core.Bool.{true}
 use mathlib.Core.List.{List}
 use Prim.Native.Nat.{ℕ, ◌≤◌, ◌<◌}
 use native.Mathlib.Omega.{arith}
-use lib.ListN.{length, get_or, take}
+use lib.ListN.{length, get_or}
 use lib.Dec.{eqb}
 use lib.Seq.{get_or-take, length-take-le, ext_get_or}
 use borrow.Author.Tests.{eq-eqb, eqb-true}
@@ -14,7 +14,7 @@ use Rattle.rule_laws.proofs.ToolLaws.{and_both, both_and, all_at, all_each}
 use Rattle.settling.specs.Facts.{Sound}
 use Rattle.settling.proofs.FactLaws.{count_placed, formed}
 use Rattle.difference_lines.specs.Lines.{same_tables}
-use Rattle.exactly.specs.Tables.{OneTable, SaysExactly, TablesCompared}
+use Rattle.exactly.specs.Tables.{OneTable, TablesCompared}
 
 -- ---- of ledgers
 

@@ -1,9 +1,9 @@
 -- The writers of the face. Assumes nothing.
 use Rattle.std.specs.Prelude.{Result, Ok, Err}
 use mathlib.Core.Path.{◌≡◌, refl, sym, ap, ◌∙◌}
-use mathlib.Core.Bool.{Bool, true, false}
+use mathlib.Core.Bool.{Bool}
 use mathlib.Core.List.{List, [], ◌∷◌}
-use Prim.Native.Nat.{ℕ, ◌^◌, ◌<◌, ◌-◌}
+use Prim.Native.Nat.{ℕ, ◌-◌}
 use native.Mathlib.Omega.{arith}
 use lib.ListN.{length, get_or, take}
 use Rattle.rulebook.specs.declared.Accepted.{Accepted}
@@ -12,7 +12,6 @@ use Rattle.rulebook.specs.declared.Refusal.TheVariants as refusal
 use Rattle.rulebook.specs.declared.Vote.{Vote}
 use Rattle.rulebook.specs.declared.VoteKind.{VoteKind}
 use Rattle.rulebook.specs.declared.VoteKind.TheVariants as vote
-use Rattle.rulebook.specs.Certificates.{Certificate}
 use Rattle.rulebook.specs.Ledger.{Ledger, table_of}
 use Rattle.rulebook.specs.PaperNumbers.{refusal_number, vote_kind, vote_number, write_panel, read_panel, check_number, check_values, check_missing}
 use Rattle.rulebook.specs.Tools.{choose}
@@ -30,10 +29,10 @@ use Rattle.record.specs.Layout.{ledger_of}
 use Rattle.soundness.proofs.Laws.{sound_formed}
 use Rattle.writers.specs.Writing.{unsound, kind_on, certificate_on, proof_on}
 use Rattle.readback.proofs.Words.{packet_is, certificate_sound, certificate_length, certificate_accepted, proof_sound, proof_length, proof_accepted}
-use Rattle.answers.specs.Face.{Wrote, Checked, MessageRead, accepted_values, vote_values}
+use Rattle.answers.specs.Face.{Checked, MessageRead, accepted_values, vote_values}
 use Rattle.promises.specs.Exactly.{WrittenExactly}
 use Rattle.promises.proofs.Held.{certificate_exactly, proof_exactly}
-use Rattle.exactly.specs.Written.{NumberedExactly, FaceCertificateExactly, FaceProofExactly, FaceBack, FaceCertificateBack, FaceProofBack, FaceVoteBack, FaceOneSpelling}
+use Rattle.exactly.specs.Written.{NumberedExactly, FaceCertificateExactly, FaceProofExactly, FaceCertificateBack, FaceProofBack, FaceVoteBack, FaceOneSpelling}
 
 -- ---- numbers
 

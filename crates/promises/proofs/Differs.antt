@@ -1,14 +1,13 @@
 -- Which votes differ: what is answered and left, way by way. Assumes nothing.
 use Rattle.std.specs.Prelude.{Result, Ok, Err}
-use mathlib.Core.Path.{◌≡◌, refl, sym, ap, ap₂, ◌∙◌}
-use mathlib.Core.Bool.{Bool, true, false}
+use mathlib.Core.Path.{◌≡◌, refl, ap, ◌∙◌}
+use mathlib.Core.Bool.{true, false}
 use mathlib.Core.List.{List, [], ◌∷◌}
-use Prim.Native.Nat.{ℕ, ◌+◌, ◌*◌, ◌≤◌, ◌<◌}
+use Prim.Native.Nat.{ℕ, ◌*◌, ◌≤◌, ◌<◌}
 use native.Mathlib.Omega.{arith}
 use lib.ListN.{length, get_or}
 use lib.Dec.{leb}
 use borrow.Author.Tests.{leb-true, leb-false}
-use Rattle.rulebook.specs.declared.Vote.{Vote}
 use Rattle.rulebook.specs.PaperNumbers.{Panel, refusal_number}
 use Rattle.rulebook.specs.Writers.{over}
 use Rattle.rule_laws.proofs.ToolLaws.{given_on, given_off, by_test}
@@ -17,11 +16,10 @@ use Rattle.soundness.specs.Sound.{sound_words}
 use Rattle.differences.specs.declared.DifferRefusal.{DifferRefusal}
 use Rattle.differences.specs.declared.DifferRefusal.TheVariants as why
 use Rattle.difference_lines.specs.declared.Side.TheVariants as side
-use Rattle.difference_lines.specs.Lines.{Line, side_number, stores, spell_lines, same_tables, differences}
-use Rattle.differences.specs.Lent.{Differed, refused_by, listed_in, differ, DifferOf, differ_panel}
+use Rattle.difference_lines.specs.Lines.{Line, side_number, spell_lines}
+use Rattle.differences.specs.Lent.{Differed, refused_by, listed_in, differ, differ_panel}
 use Rattle.differences.proofs.ListLaws.{over_nothing, cramped, roomy}
 use Rattle.difference_lines.proofs.Theorems.{none_exactly}
-use Rattle.answers.specs.Face.{Compared}
 use Rattle.promises.specs.Differs.{shown_as, lines_of, Told, DifferShown, FaceDiffer, FaceDifferRefused, FaceEqual}
 
 module _ (one two list left : List ℕ) (p : Panel) (e : p ≡ differ_panel (differ one two (length list)).answer) (f : left ≡ over (spell_lines (differ one two (length list)).lines) list) where

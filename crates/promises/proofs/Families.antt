@@ -1,12 +1,11 @@
 -- Each table reads and writes the kinds of its family alone. Assumes nothing.
 use Rattle.std.specs.Prelude.{Ok, Err}
-use mathlib.Core.Path.{◌≡◌, refl, sym, ap, ◌∙◌, subst}
+use mathlib.Core.Path.{◌≡◌, refl, sym, ap, ◌∙◌}
 use mathlib.Core.Bool.{Bool, true, false}
 use mathlib.Core.List.{List}
-use Prim.Native.Nat.{ℕ, ◌+◌, ◌-◌, ◌≤◌, ◌<◌}
+use Prim.Native.Nat.{ℕ, ◌≤◌, ◌<◌}
 use native.Mathlib.Omega.{arith}
 use lib.ListN.{length, get_or}
-use lib.Dec.{ltb}
 use borrow.Author.Tests.{le-ltb, lt-ltb}
 use Rattle.rulebook.specs.declared.Accepted.{Accepted}
 use Rattle.rulebook.specs.declared.Refusal.TheVariants as refusal
@@ -26,9 +25,8 @@ use Rattle.rule_laws.proofs.AcceptedLaws.{accepted_single, accepted_proof, Prove
 use Rattle.rule_laws.proofs.PanelLaws.{done_told}
 use Rattle.record.specs.Layout.{ledger_of}
 use Rattle.soundness.specs.Sound.{sound_words}
-use Rattle.writers.specs.Writing.{kind_on, certificate_on}
-use Rattle.answers.specs.Face.{Wrote, Checked}
-use Rattle.promises.specs.Families.{OfTable, ReadOwn, ReadsOwn, RefusesOther, WritesOwn, AsksOther, AsEver, OldKindsStay}
+use Rattle.writers.specs.Writing.{certificate_on}
+use Rattle.promises.specs.Families.{OfTable, ReadOwn, ReadsOwn, RefusesOther, WritesOwn, AsksOther, OldKindsStay}
 use Rattle.promises.proofs.Held.{certificate_exactly}
 
 -- ---- families

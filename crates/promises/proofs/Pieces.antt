@@ -3,9 +3,9 @@ use Rattle.std.specs.Prelude.{⊤, Result, Ok, Err}
 use mathlib.Core.Path.{◌≡◌, refl, sym, ap, ap₂, ◌∙◌}
 use mathlib.Core.Bool.{Bool, true, false}
 use mathlib.Core.List.{List, [], ◌∷◌, ◌++◌, map, append_assoc, append-nil}
-use Prim.Native.Nat.{ℕ, ◌+◌, ◌≤◌}
+use Prim.Native.Nat.{ℕ, ◌≤◌}
 use native.Mathlib.Omega.{arith}
-use lib.ListN.{length, take, drop, length-drop}
+use lib.ListN.{length, drop, length-drop}
 use lib.Seq.{length-take-le}
 use lib.Dec.{eqb}
 use borrow.Author.Tests.{eqb-true, eqb-false}
@@ -31,9 +31,8 @@ use Rattle.pieces.proofs.Tests.{ready_words, whole_ready, whole_held, table_held
 use Rattle.pieces.proofs.Ways.{end_broken, piece_unready, piece_more, piece_unfit, piece_first, end_nothing, end_whole}
 use Rattle.pieces.proofs.Held.{since_nodes}
 use Rattle.pieces.proofs.Promises.{Fits, fits_none, fits_piece, none_words, none_bytes, piece_one, end_one, piece_says, end_says, piece_refused_lem, end_anew}
-use Rattle.answers.specs.Face.{Checked}
 use Rattle.promises.specs.Panels.{beside_it, shown, else_then, whole_then, nothing_after, first_then, second_checked, proof_checked, told_of}
-use Rattle.promises.specs.Pieces.{piece_judged, PieceShown, end_judged, EndShown, FacePieceRefused, EndLeaves, FaceEndRefused, Reply, FaceMeets, as_piece, as_end, FaceCalls, no_more, called, check_reply, count_in, reply_to, replies_to, FaceCallsAnswer, more, FaceCutsAnywhere}
+use Rattle.promises.specs.Pieces.{piece_judged, PieceShown, end_judged, EndShown, FacePieceRefused, FaceEndRefused, Reply, FaceMeets, as_piece, as_end, FaceCalls, no_more, called, check_reply, count_in, reply_to, replies_to, FaceCallsAnswer, more, FaceCutsAnywhere}
 use Rattle.promises.proofs.ShownChecks.{refusal_shown, proof_check_shown}
 use Rattle.promises.proofs.Refused.{face_check_refused}
 

@@ -1,21 +1,19 @@
 -- What a host reads of a record, and the text of a number, on the contracts. Assumes nothing.
 use Rattle.std.specs.Prelude.{⊤, Result, Ok, Err}
 use mathlib.Core.Path.{◌≡◌, refl, sym, ap, ◌∙◌}
-use mathlib.Core.Bool.{Bool, true, false}
+use mathlib.Core.Bool.{true, false}
 use mathlib.Core.List.{List, [], ◌∷◌}
-use Prim.Native.Nat.{ℕ, ◌+◌, ◌*◌, ◌≤◌, ◌<◌}
+use Prim.Native.Nat.{ℕ, ◌*◌}
 use native.Mathlib.Omega.{arith}
 use lib.ListN.{length, get_or}
 use lib.Dec.{leb, ltb, eqb}
 use borrow.Author.Tests.{leb-true, leb-false, eqb-true, eqb-false}
-use Rattle.rulebook.specs.declared.Block.{Block}
 use Rattle.rulebook.specs.declared.Refusal.{Refusal}
 use Rattle.rulebook.specs.declared.Refusal.TheVariants as refusal
 use Rattle.rulebook.specs.declared.Who.TheVariants as who
 use Rattle.rulebook.specs.declared.Accepted.{Accepted}
-use Rattle.rulebook.specs.declared.Cell.{Cell}
 use Rattle.rulebook.specs.PaperNumbers.{Panel, refusal_number, verdict_number, write_panel, check_number}
-use Rattle.rulebook.specs.Weights.{slot_ok, d_weights}
+use Rattle.rulebook.specs.Weights.{slot_ok}
 use Rattle.rulebook.specs.Ledger.{none, table_of}
 use Rattle.rulebook.specs.Pool.{weigh}
 use Rattle.rulebook.specs.Rules.{fallback_weights}
@@ -28,13 +26,13 @@ use Rattle.rule_laws.proofs.PanelLaws.{refusal_numbered, zeros_told}
 use Rattle.record.specs.Layout.{ledger_of}
 use Rattle.soundness.specs.Sound.{sound_words}
 use Rattle.mail.specs.Policy.{may_announce}
-use Rattle.announcing.specs.Asked.{judged, announced_on, announce_panel}
+use Rattle.announcing.specs.Asked.{judged, announce_panel}
 use Rattle.announcing.proofs.Laws.{asked_unsound, asked_sound}
 use Rattle.vouched_packets.specs.Asked.{first_end}
 use Rattle.vouched_packets.specs.Split.{split_by, split_panel}
 use Rattle.vouched_packets.proofs.Splitting.{split_unsound, split_sound}
-use Rattle.readers.specs.Asked.{final_on, armed_on, votes_on, blocks_on, marks_on, head_on, final_panel, armed_panel, votes_panel, blocks_panel, marks_panel, head_panel}
-use Rattle.readers.specs.Weighed.{missing_d, weights_kept, weights_on, weight_values, weights_panel}
+use Rattle.readers.specs.Asked.{final_on, armed_on, votes_on, blocks_on, marks_on, final_panel, armed_panel, votes_panel, blocks_panel, marks_panel, head_panel}
+use Rattle.readers.specs.Weighed.{missing_d, weights_kept, weights_on, weights_panel}
 use Rattle.readers.proofs.Ways.{slot_unsound, slot_none, slot_asked, votes_none, votes_there, head_unsound, head_asked, weights_none, weights_there}
 use Rattle.readers.proofs.Missing.{missing_exactly, missing_nothing}
 use Rattle.inquest_lines.specs.declared.ListRefusal.{ListRefusal}
@@ -50,9 +48,6 @@ use Rattle.promises.proofs.Refused.{only}
 use Rattle.promises.proofs.ShownChecks.{proof_check_shown}
 use Rattle.promises.specs.Readers.{FinalShown, ArmedShown, AnnounceShown, SplitShown, VotesShown, BlocksShown, MarksShown, HeadShown, WeightsShown, FaceWeightsMissing, kept_of, KeptTold, CertificatesShown, FaceCertificates, TextShown, FaceFinalRefused, FaceArmedRefused, FaceAnnounceRefused, FaceSplitRefused, FaceVotesRefused, FaceBlocksRefused, FaceMarksRefused, FaceHeadRefused, FaceWeightsRefused, FaceCertificatesRefused, FaceTextRefused}
 use Rattle.readers.specs.declared.BlockWeights.{BlockWeights}
-use Rattle.readers.specs.declared.KeptBlocks.{KeptBlocks}
-use Rattle.readers.specs.declared.RecordHead.{RecordHead}
-use Rattle.readers.specs.declared.SlotMarks.{SlotMarks}
 
 -- ---- what is answered
 

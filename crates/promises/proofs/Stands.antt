@@ -21,8 +21,7 @@ use Rattle.inquest_lines.specs.declared.ListRefusal.{ListRefusal}
 use Rattle.inquest_lines.specs.declared.ListRefusal.TheVariants as why
 use Rattle.inquest_lines.specs.Lent as lent
 use Rattle.inquest_lines.specs.Lent.{spell_lines, refused_by, listed_in, list_panel}
-use Rattle.standing.specs.Asked.{stands_on, StandsOf}
-use Rattle.answers.specs.Face.{LinesRead}
+use Rattle.standing.specs.Asked.{stands_on}
 use Rattle.promises.specs.Differs.{shown_as}
 use Rattle.promises.specs.Stands.{fallen_in, Told, StandsShown, FaceStands, FaceStandsRefused, FaceAllStand}
 

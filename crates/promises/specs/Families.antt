@@ -8,7 +8,6 @@ use Rattle.rulebook.specs.Certificates as found
 use Rattle.rulebook.specs.Weights.{stakes_fit}
 use Rattle.rulebook.specs.PaperNumbers.{certificate_kind, certificate_number, kind_in, number_in}
 use Rattle.rulebook.specs.Packets.{certificate_at}
-use Rattle.rulebook.specs.Checker.{check_certificate, check_proof}
 use Rattle.rulebook.specs.Writers.{certificate_room}
 use Rattle.record.specs.Layout.{ledger_of}
 use Rattle.soundness.specs.Sound.{sound_words}

@@ -9,7 +9,6 @@ use Rattle.rulebook.specs.Ledger.{is_watcher, table_of}
 use Rattle.record.specs.Layout.{ledger_of}
 use Rattle.soundness.specs.Sound.{sound_words}
 use Rattle.difference_lines.specs.Lines.{same_tables}
-use Rattle.inquest.specs.declared.Line.{Line}
 use Rattle.inquest.specs.Vouched.{vouched, same_parents}
 use Rattle.inquest_lines.specs.declared.ListRefusal.{ListRefusal}
 use Rattle.inquest_lines.specs.Lent.{spell_lines, list_panel}

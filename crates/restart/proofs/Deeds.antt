@@ -1,6 +1,5 @@
 -- However often a host in good order dies, its deeds are those of one life.
-use mathlib.Core.Path.{◌≡◌, refl, sym, ◌∙◌, subst}
-use mathlib.Core.Bool.{Bool, true, ◌&&◌, ◌||◌}
+use mathlib.Core.Path.{sym, ◌∙◌, subst}
 use mathlib.Core.List.{List, [], ◌∷◌, ◌++◌}
 use Prim.Native.Nat.{ℕ}
 use lib.Dec.{T, eqb, eqb→eq}
@@ -14,9 +13,9 @@ use Rattle.soundness.proofs.InStep.{sound_told}
 use Rattle.seen.specs.Seen.{Seen}
 use Rattle.seen.proofs.Ring.{among_both}
 use Rattle.calls.specs.Operation.{first_records}
-use Rattle.calls.specs.Life.{begun, Calls, none, then, not_started, not_watched, Life}
+use Rattle.calls.specs.Life.{Calls, none, then, not_started, not_watched, Life}
 use Rattle.calls.proofs.Life.{born_seen}
-use Rattle.restart.specs.Deeds.{Desk, Deed, calls, stores, sends, dies, puts_back, after_deed, after_deeds, all_told, in_order, all_in_order, Called, AllCalled, opened, Host, OneLife, DeathsLeaveOneLife, StartsAlike}
+use Rattle.restart.specs.Deeds.{Desk, Deed, calls, stores, sends, dies, puts_back, after_deed, after_deeds, all_told, in_order, all_in_order, Called, AllCalled, opened, DeathsLeaveOneLife, StartsAlike}
 
 -- ---- calls after calls
 

@@ -1,7 +1,7 @@
 -- The history is computed.
 use mathlib.Core.Path.{◌≡◌, refl, ap, ◌∙◌, subst}
 use mathlib.Core.Bool.{Bool, true, false, ◌&&◌}
-use mathlib.Core.List.{List, [], ◌∷◌, ◌++◌}
+use mathlib.Core.List.{List, ◌++◌}
 use Prim.Native.Nat.{ℕ}
 use Rattle.rulebook.specs.Ledger.{fresh}
 use Rattle.rulebook.specs.Rules.{Record}
@@ -16,7 +16,7 @@ use Rattle.seen.specs.Seen.{Seen}
 use Rattle.calls.specs.Life.{begun, Calls, none}
 use Rattle.calls.proofs.Life.{life_is_seen}
 use Rattle.calls.proofs.Reached.{can_go_on}
-use Rattle.restart.specs.Deeds.{Called, AllCalled, after_deed, after_deeds, all_told, in_order, all_in_order, opened}
+use Rattle.restart.specs.Deeds.{Called, AllCalled, after_deed, after_deeds, all_told, in_order, all_in_order}
 use Rattle.restart.specs.Histories.{three, fed_zero, fed_one, fed_before, fed_after, told_zero, told_one, told_before, told_after, proof_of_seven, proof_of_eight, VotesTwice, CanBeHad}
 use Rattle.restart.proofs.Deeds.{starts_alike}
 

@@ -1,6 +1,6 @@
 -- The own votes in a record are those that its outboxes told.
 use mathlib.Core.Path.{◌≡◌, refl, sym, ap, ◌∙◌, subst}
-use mathlib.Core.Bool.{Bool, true, false, not, ◌&&◌, ◌||◌}
+use mathlib.Core.Bool.{Bool, true, false, ◌&&◌}
 use mathlib.Core.List.{List}
 use Prim.Native.Nat.{ℕ, zero, suc, ◌<◌}
 use native.Mathlib.Omega.{arith}
@@ -14,7 +14,6 @@ use Rattle.rulebook.specs.Inputs.{not_in_table}
 use Rattle.rulebook.specs.WellFormed.{block_blank, each_kept, kept_blank, cell_fits, cell_blank, cells_fit, row_blank, head_fits, well_formed}
 use Rattle.rule_laws.proofs.ToolLaws.{given_both, given_off, and_both, both_and, all_at}
 use Rattle.soundness.proofs.Laws.{sound_formed}
-use Rattle.readers.specs.Asked.{cell_values}
 use Rattle.safety.specs.Slot.{Ballot}
 use Rattle.safety.specs.Ballots.{has, record_for, among}
 use Rattle.safety.specs.Ring.{after_all, made_in}

@@ -22,7 +22,7 @@ use Rattle.seen.proofs.Chain.{settled_chained, settled_once}
 use Rattle.calls.specs.Life.{Calls, Life}
 use Rattle.calls.proofs.Life.{life_is_seen, calls_earlier}
 use Rattle.restart.specs.Deeds.{Desk, Deed, calls, stores, sends, dies, opened, after_deed, after_deeds, dies_in, all_told, in_order, all_in_order, Called, AllCalled, Host, OneLife}
-use Rattle.restart.specs.Ring.{Desks, lives_of, sent_ballot, DyingRing, FedDyingRing, DyingIsRing, FedDyingIsFed, StoredIsMoment, DyingMet, SafeThroughDeaths, SettledOut, proved, reported, ChainedThroughDeaths, SettledOnceThroughDeaths}
+use Rattle.restart.specs.Ring.{Desks, lives_of, sent_ballot, DyingIsRing, FedDyingIsFed, StoredIsMoment, DyingMet, SafeThroughDeaths, SettledOut, proved, reported, ChainedThroughDeaths, SettledOnceThroughDeaths}
 use Rattle.restart.proofs.Deeds.{told_itself, then_on, whole_at_first, deaths_leave_one_life}
 
 module _ (stakes : List ℕ) (genesis : ℕ → ℕ) (honest : Test) (desks : Desks) (hosts : (n : ℕ) → T (honest n) → Host stakes n (genesis n) (desks n)) where

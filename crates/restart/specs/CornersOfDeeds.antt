@@ -7,7 +7,7 @@ use Rattle.safety.specs.Slot.{notar, notar_fallback, skip, skip_fallback, final}
 use Rattle.safety.specs.Ballots.{has}
 use Rattle.seen.specs.Seen.{Seen}
 use Rattle.restart.specs.Kept.{cell_in}
-use Rattle.restart.specs.Deeds.{Desk, Deed, calls, stores, sends, dies, puts_back, after_deed, after_deeds, dies_in, all_told, in_order, all_in_order, opened}
+use Rattle.restart.specs.Deeds.{Deed, calls, stores, sends, dies, puts_back, after_deed, after_deeds, dies_in, all_told, in_order, all_in_order, opened}
 
 -- A life that told these records, a notar vote, and that vote and a final one.
 abbrev life_that : List Record → Seen

@@ -1,6 +1,6 @@
 -- THE OTHER ORDER BREAKS IT, computed: a firm that sends before it stores, and one that puts back an older record, vote twice, and two blocks of one slot
 -- have proofs, with nobody else lying. Three firms of stake 1, genesis 1.
-use Rattle.std.specs.Prelude.{◌≡◌, true, false, ◌&&◌, List, [], ◌∷◌, ◌++◌, ℕ, zero, suc, T, length, Ok}
+use Rattle.std.specs.Prelude.{◌≡◌, true, false, ◌&&◌, List, [], ◌∷◌, ◌++◌, ℕ, zero, suc, T, Ok}
 use Rattle.rulebook.specs.declared.CertificateKind.TheVariants as certificate
 use Rattle.rulebook.specs.Certificates.{Certificate}
 use Rattle.rulebook.specs.Ledger.{fresh}

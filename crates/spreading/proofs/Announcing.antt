@@ -3,7 +3,7 @@ use Rattle.std.specs.Prelude.{⊤, Result, Ok, Err}
 use mathlib.Core.Path.{◌≡◌, refl, sym, ap, ◌∙◌, subst}
 use mathlib.Core.Bool.{Bool, true, false, not, ◌&&◌, ◌||◌}
 use mathlib.Core.List.{List, [], ◌∷◌}
-use mathlib.Core.Logic.{◌⊎◌, inl, inr}
+use mathlib.Core.Logic.{inl, inr}
 use Prim.Native.Nat.{ℕ, ◌≤◌}
 use native.Mathlib.Omega.{arith}
 use lib.Dec.{T, eqb, leb, eqb→eq, eqb_refl, leb→le, le→leb, not_T, T_not}
@@ -17,7 +17,7 @@ use Rattle.rulebook.specs.PaperNumbers.{refusal_number, step_panel}
 use Rattle.rulebook.specs.Weights.{last_slot, slot_ok}
 use Rattle.rulebook.specs.Ledger.{Ledger, none, cell_at, blocks_at, some_block, all_blocks, is_free, has_number, keeps_block}
 use Rattle.rulebook.specs.Rules.{fallback_weights}
-use Rattle.rulebook.specs.Inputs.{refuse_if, bad_parent, same_block, stands_against, block_verdict, verdict, Fed, fed_with, refused_with, fed_on, feed}
+use Rattle.rulebook.specs.Inputs.{refuse_if, bad_parent, same_block, stands_against, block_verdict, verdict, Fed, fed_with, fed_on, feed}
 use Rattle.rulebook.specs.WellFormed.{well_formed, outbox_words}
 use Rattle.rulebook.specs.WellFormed as node
 use Rattle.rule_laws.proofs.ToolLaws.{given_on}
@@ -29,7 +29,7 @@ use Rattle.node.specs.Stepping.{Leaves, step_leaves}
 use Rattle.inputs.specs.Inputs.{block_input}
 use Rattle.announcing.specs.Asked.{block_of, judged, announced_on, announce_panel}
 use Rattle.announcing.proofs.Laws.{asked_unsound, asked_sound}
-use Rattle.answers.specs.Face.{AnnounceRead, Stepped}
+use Rattle.answers.specs.Face.{AnnounceRead}
 use Rattle.safety.specs.Slot.{notar}
 use Rattle.safety.specs.Ring as safety
 use Rattle.safety.proofs.Tests.{T_true, and_t, T_and, T-right, by_test, yes, neither}
@@ -39,7 +39,7 @@ use Rattle.mail.specs.Policy.{may_announce, ParentFits}
 use Rattle.mail.specs.Host as host
 use Rattle.mail.proofs.Host.{asked_fits}
 use Rattle.mail.proofs.Policy.{number_kept}
-use Rattle.seen.specs.Seen.{Seen, ledger_in, NodeSeen}
+use Rattle.seen.specs.Seen.{ledger_in, NodeSeen}
 use Rattle.seen.proofs.Numbers.{eight_stands_lem}
 use Rattle.seen.proofs.Ring.{book_ring}
 use Rattle.seen.proofs.Chain.{parents}

@@ -29,7 +29,7 @@ use Rattle.seen.specs.Progress.{WatcherMail, Decided, notarized, skipped_over}
 use Rattle.seen.proofs.Ring.{told_cast, cast_told, book_ring}
 use Rattle.seen.proofs.Progress.{gives_three, gives_four}
 use Rattle.seen.proofs.Fed.{own_cell_lem}
-use Rattle.stopped_seen.specs.Stopped.{LiveEnough, live_notar, live_others, LiveMailIn, AllVoted, AllLean, outvoted, outright, OneBlock, TwentyAndTwenty, LiveNeverHang, LiveNextWindow, LiveWatchersArm, OneBlockLeans, OverEightyLeans, NobodyStopped, EchoesLeaveOne, FifthStopped}
+use Rattle.stopped_seen.specs.Stopped.{live_notar, live_others, LiveMailIn, AllVoted, AllLean, outvoted, outright, OneBlock, TwentyAndTwenty, LiveNeverHang, LiveNextWindow, LiveWatchersArm, OneBlockLeans, OverEightyLeans, NobodyStopped, EchoesLeaveOne, FifthStopped}
 use Rattle.stopped_seen.proofs.Weights.{others_same, leaning_down, leaning_up}
 
 -- ---- words and ledgers

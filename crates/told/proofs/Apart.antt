@@ -14,7 +14,7 @@ use Rattle.rulebook.specs.declared.Input.TheVariants as input
 use Rattle.rulebook.specs.declared.Refusal.{Refusal}
 use Rattle.rulebook.specs.declared.Refusal.TheVariants as refusal
 use Rattle.rulebook.specs.declared.VoteKind.{VoteKind}
-use Rattle.rulebook.specs.Certificates.{Certificate, Found, Whole}
+use Rattle.rulebook.specs.Certificates.{Certificate, Found}
 use Rattle.rulebook.specs.Weights.{last_slot}
 use Rattle.rulebook.specs.PaperNumbers.{vote_number, step_panel}
 use Rattle.rulebook.specs.Ledger.{Ledger, Row, no_cell, no_initial, is_watcher, table_of, row_at, own_cell, certificates_at, put_row, put_timed_out, put_final, put_clash}
@@ -43,9 +43,9 @@ use Rattle.soundness.specs.Sound.{sound_words}
 use Rattle.soundness.proofs.Laws.{sound_ledger}
 use Rattle.soundness.proofs.InStep.{sound_spelled}
 use Rattle.node.specs.Stepping.{spelled, as_fed, Leaves}
-use Rattle.seen.specs.Seen.{Seen, ledger_in}
+use Rattle.seen.specs.Seen.{ledger_in}
 use Rattle.seen.proofs.Alive.{alive_common}
-use Rattle.calls.specs.Operation.{Operation, fed_by, first_records}
+use Rattle.calls.specs.Operation.{fed_by, first_records}
 use Rattle.calls.proofs.OneCall.{step_leaves_lem, call_did}
 use Rattle.told.specs.Told.{count_of, tells}
 use Rattle.told.specs.Apart.{is_for, names, some_names, casts, Apart, OtherSlotsStay, AsFound, QuietLook}

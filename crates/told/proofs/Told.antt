@@ -13,7 +13,6 @@ use Rattle.rulebook.specs.Rules.{Record, record_of}
 use Rattle.rulebook.specs.Run.{most_records}
 use Rattle.rule_laws.proofs.ToolLaws.{by_test, part_le, part_on, part_off}
 use Rattle.settling.specs.Facts.{Sound}
-use Rattle.settling.specs.Steps.{life}
 use Rattle.settling.proofs.Start.{fresh_sound, watching_sound}
 use Rattle.settling.proofs.Life.{life_within}
 use Rattle.safety.specs.Slot.{Ballot}
