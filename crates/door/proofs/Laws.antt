@@ -26,9 +26,9 @@ onward w h =
 pub next_front : {text : List ℕ} {p q : Page} {sent : Result ⊤ Unwritten} → Wrote p text q → Whole (length q.bytes.now) q.at sent → sent ≡ Ok tt
     → NextLine p (record q { at = 0 }) (Ok tt)
 next_front w u t =
-    record { lent = w.lent; room = put_length w.put; begins = refl; stays = λ h. true_not_false false (rw t at (u.uncut (onward w h))) refl }
+    record { lent = w.lent; room = put_length w.put; begins = refl; ends = tt; stays = λ h. true_not_false false (rw t at (u.uncut (onward w h))) refl }
 
 -- A text put before the line's end.
 pub next_after : {text : List ℕ} {p q r : Page} {sent : Result ⊤ Unwritten} → Wrote p text q → NextLine q r sent → NextLine p r sent
 next_after w v =
-    record { lent = v.lent ∙ w.lent; room = v.room ∙ put_length w.put; begins = v.begins; stays = λ h. v.stays (onward w h) }
+    record { lent = v.lent ∙ w.lent; room = v.room ∙ put_length w.put; begins = v.begins; ends = v.ends; stays = λ h. v.stays (onward w h) }

@@ -44,14 +44,18 @@ pub fn send_into<W: Write>(out: &mut W, page: &Page) -> std::io::Result<()>
     out.write_all(page.written())
 }
 
-// Ends the line that stands on a page and sends it; the next line begins at the page's front.
+// Ends the line that stands on a page and sends it. The next line begins at the page's front, or at its end where the line was not
+// sent, so that nothing follows it.
 pub fn end_line(page: &mut Page) -> Result<(), Unwritten>
     ensures { NextLine page.old page.new result }
 {
     page.byte(b'\n');
-    send(page)?;
-    page.rewind();
-    Ok(())
+    let sent = send(page);
+    match sent {
+        Ok(()) => page.rewind(),
+        Err(_) => page.close(),
+    }
+    sent
 }
 
 // A text as a line of its own, after those that were sent.

@@ -1,4 +1,5 @@
-// The text of the panel's answers, put on a page: a lent buffer with the place in it. A place that is the buffer's end says that it was full.
+// The text of the panel's answers, put on a page: a lent buffer with the place in it. A place that is the buffer's end says that it was
+// full.
 #![tactic(auto)]
 
 ghost use Rattle.std.specs.Prelude.{◌≡◌, [], ◌∷◌, ◌++◌, ◌+◌, ◌≤◌, ◌<◌, ◌↔◌, IsTrue, length, take};
@@ -39,6 +40,15 @@ impl<'a> Page<'a> {
         Page { bytes, at: 0 }
     }
 
+    // A place of a buffer.
+    pub fn at(bytes: &'a mut [u8], at: usize) -> Page<'a>
+        ensures lent { result.bytes.ghost_name ≡ bytes.entry.ghost_name }
+        ensures same { result.bytes.now ≡ bytes.old }
+        ensures place { result.at ≡ at }
+    {
+        Page { bytes, at }
+    }
+
     // The place after what was put.
     pub fn used(&self) -> usize
         ensures { result ≡ self.now.at }
@@ -68,6 +78,13 @@ impl<'a> Page<'a> {
         ensures { self.new ≡ record self.old { at = 0 } }
     {
         self.at = 0;
+    }
+
+    // Goes to the buffer's end, where nothing has room.
+    pub fn close(&mut self)
+        ensures { self.new ≡ record self.old { at = length self.old.bytes.now } }
+    {
+        self.at = self.bytes.len();
     }
 
     // Puts one byte.

@@ -2,5 +2,5 @@
 use Rattle.door.proofs.Laws.{next_front}
 use Rattle.door.proofs.end_line.Goals as goal
 
-pub returns : goal.returns
-returns c = rw c.rewind.ensures (next_front c.byte.ensures c.send.ensures c.in_ok-send.was)
+pub returns-in-Ok : goal.returns-in-Ok
+returns-in-Ok c = rw (c.rewind.ensures, c.in-Ok.is) (next_front c.byte.ensures c.send-sent.ensures c.in-Ok.is)
