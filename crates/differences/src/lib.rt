@@ -42,7 +42,7 @@ pub fn side_number(side: Side) -> u64
 }
 
 // Puts a word where the list has a place for it.
-fn put_word(list: &mut [u64], i: usize, w: u64)
+pub fn put_word(list: &mut [u64], i: usize, w: u64)
     ensures { list.new ≡ set list.old i w }
 {
     if i < list.len() {
