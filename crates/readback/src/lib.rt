@@ -28,7 +28,12 @@ pub fn certificate_read_back(
 }
 
 // Writes a finality proof and has it checked: one that is written is accepted, as its first certificate says.
-pub fn proof_read_back(rec: &[u64], buffer: &mut [u8], slot: Slot, block: u64) -> Result<Accepted, Refusal>
+pub fn proof_read_back(
+    rec: &[u64],
+    buffer: &mut [u8],
+    slot: Slot,
+    block: u64,
+) -> Result<Accepted, Refusal>
     ensures { ReadsBack (proof_on rec.now (length buffer.old) slot.0 block) (accepted_for (ledger_of rec.now) (proof_kind (ledger_of rec.now) slot.0 block) slot.0 block) buffer.old result buffer.new }
 {
     let n = write_proof(rec, buffer, slot, block)?;
