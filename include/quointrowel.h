@@ -18,9 +18,9 @@
  *     qr_refusal_text                                        2,048
  *     qr_check_certificate, qr_check_proof, qr_end           1,968
  *     qr_read_vote                                             304
- *     qr_start, qr_watch, qr_write_vote, qr_piece, sizes        96
- * At 64 nodes those on a record need 800 less. Votes are sorted by turns of some 100 bytes each, at most 18, of which the measured
- * ones took some 12: so up to 700 bytes more are possible.
+ *     qr_start, qr_watch, qr_write_vote, qr_piece, sizes       112
+ * At 64 nodes those on a record need 700 less. Votes are sorted by turns of some 100 bytes each, at most 22, of which the measured
+ * ones took some 12: so up to 1,000 bytes more are possible.
  * Not measured are qr_may_announce, qr_block_weights and qr_kept_certificates, which ask 17 as qr_card does, and qr_split_proof, which
  * asks it and checks a proof; qr_same_parents was before votes were sorted so.
  *
