@@ -8,7 +8,7 @@ use lib.ListN.{length, get_or, replicate, length-replicate, get_or-replicate}
 use lib.Dec.{eqb}
 use lib.Seq.{ext_get_or}
 use borrow.Author.Tests.{eq-eqb, eqb-true}
-use Rattle.std.specs.List.{list_all}
+use Rattle.std.specs.List.{fold, list_all}
 use Rattle.rulebook.specs.Tools.{all_to}
 use Rattle.rulebook.specs.Ledger.{none}
 use Rattle.rule_laws.proofs.ToolLaws.{all_none, all_at, all_each}
@@ -28,6 +28,14 @@ unfolding all_to
 all_first zero f = and_true (f 0)
 all_first (suc n) f =
     ap (λ (b : Bool). b && f (suc n)) (all_first n f) ∙ and_assoc (f 0) (all_to n (λ i. f (suc i))) (f (suc n))
+
+-- Tests that are joined one after the other, and all of them.
+joined_from : {X : Type 0} → (f : X → Bool) (xs : List X) (a : Bool) → fold (λ (t : Bool) (x : X). t && f x) a xs ≡ a && list_all f xs
+joined_from f [] a = and_true a
+joined_from f (x ∷ xs) a = joined_from f xs (a && f x) ∙ and_assoc a (f x) (list_all f xs)
+
+pub joined_all : {X : Type 0} → (f : X → Bool) (xs : List X) → fold (λ (t : Bool) (x : X). t && f x) true xs ≡ list_all f xs
+joined_all f xs = joined_from f xs true
 
 -- Nothing but zeros, as it is looked for one after the other.
 pub all_blank : (ws : List ℕ) → list_all (λ w. eqb w 0) ws ≡ blank ws

@@ -41,11 +41,11 @@ pub fn node_count(words: &[u64]) -> usize
     words[1] as usize
 }
 
-// Whether all of these are such a one.
+// Whether all of these are such a one: their tests are joined, with none between them.
 fn all_are<T: PartialEq>(xs: &[T], x: &T) -> bool
     ensures { result ≡ list_all (λ y. T.eq y x.now) xs.now }
 {
-    xs.iter().all(|y| y == x)
+    xs.iter().fold(true, |all, y| all & (y == x))
 }
 
 // Copies the first n of these to a place and those after it. By a loop, since std's copying would want memmove of the host.
