@@ -5,10 +5,10 @@
 ghost use Rattle.std.specs.Prelude.{◌≡◌, [], ◌∷◌};
 ghost use Rattle.rulebook.specs.Tools.{part};
 ghost use Rattle.rulebook.specs.PaperNumbers.{answer_number, answer_values, check_values, check_missing};
-ghost use Rattle.cards.specs.Asked.{card_values};
+ghost use Rattle.cards.specs.Asked.{card_values, card_panel};
 ghost use Rattle.differences.specs.Lent.{differ_panel};
 ghost use Rattle.inquest_lines.specs.Lent.{list_panel};
-ghost use Rattle.readers.specs.Asked.{cell_values, kept_values, mark_values, head_values};
+ghost use Rattle.readers.specs.Asked.{cell_values, kept_values, mark_values, head_values, head_panel};
 ghost use Rattle.readers.specs.Weighed.{weight_values};
 ghost use Rattle.answers.specs.Face.{Beside, vote_values, accepted_values};
 
@@ -120,8 +120,16 @@ pub fn vote_values(v: Vote) -> [u64; 4]
     [u64::from(v.kind), v.node.0 as u64, v.slot.0 as u64, v.block]
 }
 
-// Skip, final and skip-certificate weight of a card, the leading block and its weight.
-pub fn card_values(t: Tally) -> [u64; 5]
+// Skip, final and skip-certificate weight, the leading block and its weight, zeros beside a refusal.
+#[tactic(auto, unfolding(cards::specs::Asked::card_panel))]
+pub fn card_values(a: Result<Tally, Refusal>) -> [u64; 5]
+    ensures { result ≡ (card_panel a).values }
+{
+    a.map_or([0; 5], tally_values)
+}
+
+// The five words of a card.
+fn tally_values(t: Tally) -> [u64; 5]
     ensures { result ≡ card_values t }
 {
     [t.skip.0, t.finals.0, t.skipcert.0, t.leader, t.weight.0]
@@ -170,8 +178,16 @@ pub fn mark_values(m: SlotMarks) -> [u64; 2]
     [m.timedout, m.clash]
 }
 
-// Own number, nodes, stake and genesis of a head.
-pub fn head_values(h: RecordHead) -> [u64; 4]
+// Own number, nodes, stake and genesis, zeros beside a refusal.
+#[tactic(auto, unfolding(readers::specs::Asked::head_panel))]
+pub fn head_values(a: Result<RecordHead, Refusal>) -> [u64; 4]
+    ensures { result ≡ (head_panel a).values }
+{
+    a.map_or([0; 4], facts_values)
+}
+
+// The four words of a head.
+fn facts_values(h: RecordHead) -> [u64; 4]
     ensures { result ≡ head_values h }
 {
     [h.own.0 as u64, h.nodes as u64, h.stake.0, h.genesis]

@@ -7,7 +7,7 @@ ghost use Rattle.rulebook.specs.Tools.{choose};
 ghost use Rattle.lines.specs.Page.{Wrote};
 ghost use Rattle.comparing.specs.Compared.{line_text, lines_text, differ_line, words_bytes, SetAside};
 
-use door::{Unwritten, fail, file_name, send, send_into};
+use door::{Unwritten, fail, file_name, send_into, send_page};
 use hex_bytes::read_hex;
 use lines::Page;
 use quointrowel::{
@@ -120,7 +120,7 @@ fn tell_list<F: FnOnce(&mut [u64], &mut usize) -> u64>(
     let n = ask(list, &mut beside);
     let mut line = Page::new(page);
     differ_line(&mut line, n, beside, list);
-    send(&line)
+    send_page(&line)
 }
 
 // differ
@@ -214,7 +214,7 @@ fn write_record(page: &mut [u8], file: &mut File, rec: &[u64]) -> std::io::Resul
     for words in rec.chunks(PIECE_WORDS) {
         let mut piece = Page::new(page);
         put_words(&mut piece, words);
-        send_into(file, &piece)?;
+        send_into(file, piece.buffer(), piece.used())?;
     }
     Ok(())
 }

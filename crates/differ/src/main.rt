@@ -201,7 +201,7 @@ fn blame(rt: &HostRuntime, page: &mut [u8], i: usize, why: &[u8]) {
     line.text(&path[..length]);
     line.text(why);
     line.byte(b'\n');
-    let _ = send_to(ERR, &line);
+    let _ = send_to(ERR, line.buffer(), line.used());
 }
 
 // A number that is not 0: the side's record is bad, or there are more lines than there is room for.
@@ -214,7 +214,7 @@ fn refuse(rt: &HostRuntime, page: &mut [u8], number: u64, beside: usize) {
     line.text(b"differ: ");
     line.decimal(beside as u64);
     line.text(b" stored votes differ, and 40000 lines are the most that are listed\n");
-    let _ = send_to(ERR, &line);
+    let _ = send_to(ERR, line.buffer(), line.used());
 }
 
 // Compares two records.

@@ -17,31 +17,38 @@ const ERR: i32 = 2;
 #[derive(Clone, Copy, Debug, PartialEq, Eq)]
 pub struct Unwritten;
 
-// Writes a page's text to an open file, all of it. A page that is full may hold less.
-pub fn send_to(fd: i32, page: &Page) -> Result<(), Unwritten>
-    ensures { Whole (length page.now.bytes.now) page.now.at result }
+// Writes the text at a page's front to an open file, all of it. A page that is full may hold less.
+pub fn send_to(fd: i32, page: &[u8], used: usize) -> Result<(), Unwritten>
+    ensures { Whole (length page.now) used result }
 {
-    if !page.is_full() && io::write_all(fd, page.written()) {
+    if used < page.len() && io::write_all(fd, &page[..used]) {
         return Ok(());
     }
     Err(Unwritten)
 }
 
 // The same to standard output.
-pub fn send(page: &Page) -> Result<(), Unwritten>
+pub fn send(page: &[u8], used: usize) -> Result<(), Unwritten>
+    ensures { Whole (length page.now) used result }
+{
+    send_to(OUT, page, used)
+}
+
+// The same of the text that was put on a page.
+pub fn send_page(page: &Page) -> Result<(), Unwritten>
     ensures { Whole (length page.now.bytes.now) page.now.at result }
 {
-    send_to(OUT, page)
+    send(page.buffer(), page.used())
 }
 
 // The same into a writer, with the error where not all of it was taken.
-pub fn send_into<W: Write>(out: &mut W, page: &Page) -> std::io::Result<()>
-    ensures { length page.now.bytes.now ≤ page.now.at → IsErr result }
+pub fn send_into<W: Write>(out: &mut W, page: &[u8], used: usize) -> std::io::Result<()>
+    ensures { length page.now ≤ used → IsErr result }
 {
-    if page.is_full() {
+    if page.len() <= used {
         return Err(Error::from(ErrorKind::WriteZero));
     }
-    out.write_all(page.written())
+    out.write_all(&page[..used])
 }
 
 // Ends the line that stands on a page and sends it. The next line begins at the page's front, or at its end where the line was not
@@ -50,7 +57,7 @@ pub fn end_line(page: &mut Page) -> Result<(), Unwritten>
     ensures { NextLine page.old page.new result }
 {
     page.byte(b'\n');
-    let sent = send(page);
+    let sent = send_page(page);
     match sent {
         Ok(()) => page.rewind(),
         Err(_) => page.close(),

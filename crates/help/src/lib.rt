@@ -9,7 +9,7 @@ ghost use Rattle.help.specs.Manual.{lines_of, screen, told, packets, shown, aske
 ghost use Rattle.help.specs.Topics.{named, opens, topic_in, topic_of, topic_line, numbered, why_line};
 
 use commands::same;
-use door::{Unwritten, send};
+use door::{Unwritten, send_page};
 use lines::Page;
 use replies::malformed;
 use texts::put_refusal;
@@ -83,7 +83,7 @@ pub fn help(page: &mut [u8]) -> Result<(), Unwritten>
 {
     let mut screen = Page::new(page);
     put_screen(&mut screen);
-    send(&screen)
+    send_page(&screen)
 }
 
 // ---- one command
@@ -318,7 +318,7 @@ pub fn topic(page: &mut [u8], word: &[u8]) -> Result<(), Unwritten>
     if lines.used() == 0 {
         return malformed(page);
     }
-    send(&lines)
+    send_page(&lines)
 }
 
 // ---- a number
@@ -341,5 +341,5 @@ pub fn why(page: &mut [u8], n: u64) -> Result<(), Unwritten>
     put_number(&mut line, n);
     put_refusal(&mut line, n);
     line.byte(b'\n');
-    send(&line)
+    send_page(&line)
 }

@@ -66,6 +66,13 @@ impl<'a> Page<'a> {
         self.bytes
     }
 
+    // The whole buffer, with what stands in it after the text too.
+    pub fn buffer(&self) -> &[u8]
+        ensures { result.now ≡ self.now.bytes.now }
+    {
+        self.bytes
+    }
+
     // Whether no byte has room any more, so that a text may have been cut.
     pub fn is_full(&self) -> bool
         ensures { IsTrue result ↔ length self.now.bytes.now ≤ self.now.at }

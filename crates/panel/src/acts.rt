@@ -85,8 +85,17 @@ fn others(
 // Answers a line; nothing is answered where it has no word. A line that is none of the commands leaves record and outbox as they were,
 // and so does every command that only asks.
 #[tactic(auto, using(commands::proofs::Laws::telling), unfolding(commands::specs::Commands::tells))]
-pub fn obey(rt: &HostRuntime, desk: &mut Desk, line: &[u8]) -> Result<(), Stop>
-    ensures { Heard line.now desk.old.rec desk.old.outbox desk.new.rec desk.new.outbox }
+pub fn obey(
+    rt: &HostRuntime,
+    page: &mut [u8],
+    line: &[u8],
+    rec: &mut [u64],
+    aside: &mut [u64],
+    outbox: &mut [u64],
+    pieces: &mut [u64],
+    front: &mut [u8],
+) -> Result<(), Stop>
+    ensures { Heard line.now rec.old outbox.old rec.new outbox.new }
 {
     let Word { from, to } = word_at(line, 0);
     if to <= from {
@@ -94,16 +103,16 @@ pub fn obey(rt: &HostRuntime, desk: &mut Desk, line: &[u8]) -> Result<(), Stop>
     }
     let c = command_of(line);
     match c {
-        Command::Start => Ok(start(&mut desk.page, line, to, &mut desk.rec)?),
-        Command::Watch => Ok(watch(&mut desk.page, line, to, &mut desk.rec)?),
-        Command::Vote => Ok(vote(&mut desk.page, line, to, &mut desk.rec, &mut desk.outbox)?),
-        Command::Block => Ok(block(&mut desk.page, line, to, &mut desk.rec, &mut desk.outbox)?),
-        Command::Timeout => Ok(timeout(&mut desk.page, line, to, &mut desk.rec, &mut desk.outbox)?),
-        Command::Look => Ok(look(&mut desk.page, &mut desk.rec, &mut desk.outbox)?),
-        Command::Tray => Ok(tray(&mut desk.page, line, to, &mut desk.rec, &mut desk.outbox)?),
-        Command::Take => Ok(take(&mut desk.page, line, to, &mut desk.rec, &mut desk.outbox)?),
-        Command::Piece => Ok(piece(&mut desk.page, line, to, &mut desk.pieces, &mut desk.front)?),
-        Command::End => Ok(end(&mut desk.page, &mut desk.pieces, &mut desk.front)?),
-        _ => others(rt, &mut desk.page, c, line, to, &desk.rec, &mut desk.aside),
+        Command::Start => Ok(start(page, line, to, rec)?),
+        Command::Watch => Ok(watch(page, line, to, rec)?),
+        Command::Vote => Ok(vote(page, line, to, rec, outbox)?),
+        Command::Block => Ok(block(page, line, to, rec, outbox)?),
+        Command::Timeout => Ok(timeout(page, line, to, rec, outbox)?),
+        Command::Look => Ok(look(page, rec, outbox)?),
+        Command::Tray => Ok(tray(page, line, to, rec, outbox)?),
+        Command::Take => Ok(take(page, line, to, rec, outbox)?),
+        Command::Piece => Ok(piece(page, line, to, pieces, front)?),
+        Command::End => Ok(end(page, pieces, front)?),
+        _ => others(rt, page, c, line, to, rec, aside),
     }
 }

@@ -37,7 +37,16 @@ fn answer(rt: &HostRuntime, desk: &mut Desk, line: &[u8]) -> Result<(), Stop> {
     if line.starts_with(b"#") {
         return Ok(());
     }
-    obey(rt, desk, line)
+    obey(
+        rt,
+        &mut desk.page,
+        line,
+        &mut desk.rec,
+        &mut desk.aside,
+        &mut desk.outbox,
+        &mut desk.pieces,
+        &mut desk.front,
+    )
 }
 
 // Answers the line that is kept, and begins the next one.

@@ -5,7 +5,7 @@ ghost use Rattle.std.specs.Prelude.{◌≡◌};
 ghost use Rattle.std.proofs.lemmas.List.Edits.{sets};
 ghost use Rattle.piecing.specs.Answer.{piece_line};
 
-use door::{Unwritten, send};
+use door::{Unwritten, send_page};
 use hex_bytes::read_hex;
 use lines::Page;
 use quointrowel::{qr_end, qr_piece};
@@ -22,7 +22,7 @@ fn taken(page: &mut [u8], n: u64) -> Result<(), Unwritten>
     }
     let mut line = Page::new(page);
     line.text(b"more\n");
-    send(&line)
+    send_page(&line)
 }
 
 // piece HEX STAKE..; a line has no room for more than 32,768 bytes of packet, and 2,049 stakes are kept, which are too many already.

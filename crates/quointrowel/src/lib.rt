@@ -215,7 +215,7 @@ pub fn qr_card(rec: &[u64], slot: usize, values: &mut [u64; 5]) -> u64
     ensures { CardRead (card_on rec.now slot) result values.new }
 {
     let a = read_card(rec, Slot(slot));
-    *values = a.map_or([0; 5], card_values);
+    *values = card_values(a);
     number_of(a)
 }
 
@@ -307,7 +307,7 @@ pub fn qr_head(rec: &[u64], values: &mut [u64; 4]) -> u64
     ensures { HeadRead (head_on rec.now) result values.new }
 {
     let a = read_head(rec);
-    *values = a.map_or([0; 4], head_values);
+    *values = head_values(a);
     number_of(a)
 }
 

@@ -7,7 +7,7 @@ ghost use Rattle.std.proofs.lemmas.List.Edits.{sets};
 ghost use Rattle.replies.specs.declared.Stop.TheVariants as stop;
 ghost use Rattle.lines.specs.Answers.{number_line, step_line, tray_line, packet_line, message_line, check_line};
 
-use door::{Unwritten, send};
+use door::{Unwritten, send_page};
 use lines::Page;
 use rulebook::Weight;
 
@@ -33,7 +33,7 @@ pub fn malformed(page: &mut [u8]) -> Result<(), Unwritten>
 {
     let mut line = Page::new(page);
     line.text(b"?\n");
-    send(&line)
+    send_page(&line)
 }
 
 // A number alone.
@@ -42,7 +42,7 @@ pub fn number(page: &mut [u8], n: u64) -> Result<(), Unwritten>
 {
     let mut line = Page::new(page);
     line.number_line(n);
-    send(&line)
+    send_page(&line)
 }
 
 // A step's answer: its number, or 0 with the records made.
@@ -51,7 +51,7 @@ pub fn records(page: &mut [u8], n: u64, made: usize, outbox: &[u64]) -> Result<(
 {
     let mut line = Page::new(page);
     line.step_line(n, made, outbox);
-    send(&line)
+    send_page(&line)
 }
 
 // A tray's answer: its number, or 0 with the records made and one number a vote.
@@ -66,7 +66,7 @@ pub fn served(
 {
     let mut line = Page::new(page);
     line.tray_line(n, made, outbox, answers);
-    send(&line)
+    send_page(&line)
 }
 
 // A writer's answer: its number, or 0 with the packet.
@@ -75,7 +75,7 @@ pub fn packet(page: &mut [u8], n: u64, written: usize, buffer: &[u8]) -> Result<
 {
     let mut line = Page::new(page);
     line.packet_line(n, written, buffer);
-    send(&line)
+    send_page(&line)
 }
 
 // The checker's answer: 0 with the five values, 15 with what is missing, or its number alone.
@@ -84,7 +84,7 @@ pub fn checked(page: &mut [u8], n: u64, values: &[u64; 5], missing: Weight) -> R
 {
     let mut line = Page::new(page);
     line.check_line(n, values, missing);
-    send(&line)
+    send_page(&line)
 }
 
 // The answer to a vote message: its number, or 0 with the vote's four numbers.
@@ -93,5 +93,5 @@ pub fn vote_read(page: &mut [u8], n: u64, values: &[u64; 4]) -> Result<(), Unwri
 {
     let mut line = Page::new(page);
     line.message_line(n, values);
-    send(&line)
+    send_page(&line)
 }
