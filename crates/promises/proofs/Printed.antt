@@ -1,18 +1,23 @@
 -- What the panel prints is the answer. Assumes nothing.
-use mathlib.Core.Path.{◌≡◌, ap, ◌∙◌}
+use mathlib.Core.Path.{◌≡◌, ap, ◌∙◌, subst}
 use mathlib.Core.List.{List}
 use Prim.Native.Nat.{ℕ}
 use lib.ListN.{take}
 use Rattle.rule_laws.proofs.RuleLaws.{over_front}
+use Rattle.lines.specs.Put.{Put}
 use Rattle.lines.specs.Answers.{number_line, start_line, step_line, tray_line, packet_line, message_line, check_line}
 use Rattle.lines.proofs.Putting.{stands_whole}
 use Rattle.tray_rules.specs.Trays.{whole_votes}
-use Rattle.promises.specs.Printed.{Sends, StartPrinted, WatchPrinted, StepPrinted, TakePrinted, TrayPrinted, PacketPrinted, MessagePrinted, CheckPrinted}
+use Rattle.promises.specs.Printed.{Sends, PagePrinted, StartPrinted, WatchPrinted, StepPrinted, TakePrinted, TrayPrinted, PacketPrinted, MessagePrinted, CheckPrinted}
 
 -- A text in other words is sent as it stands.
 pub sends : (made sent : List ℕ) → made ≡ sent → Sends made sent
 sends made sent e page page' used w h =
     let s = stands_whole w h in (λ j. take (s.0 j) (s.1 j)) ∙ over_front made page ∙ e
+
+pub page_printed : PagePrinted
+page_printed made sent s before after front w =
+    s before.bytes.now after.bytes.now after.at (subst (λ (at : ℕ). Put before.bytes.now at made after.bytes.now after.at) front w.put)
 
 pub start_printed : StartPrinted
 unfolding start_line

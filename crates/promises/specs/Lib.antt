@@ -5,6 +5,7 @@ pub mod Exactly
 pub mod Spelling
 pub mod Figures
 pub mod Printed
+pub mod CornersOfParts
 pub mod Families
 pub mod Differs
 pub mod Stands

@@ -1,6 +1,7 @@
 -- What the panel prints is the answer: where a maker of lines put the number and the values that the face's contract allows into a page
 -- and left room there, the bytes up to its end, which are what is sent, are the line for that answer.
 use Rattle.std.specs.Prelude.{◌≡◌, List, [], ◌∷◌, ℕ, ◌<◌, length, take, Result}
+use Rattle.lines.specs.declared.Page.{Page}
 use Rattle.rulebook.specs.declared.Input.{Input}
 use Rattle.rulebook.specs.declared.Accepted.{Accepted}
 use Rattle.rulebook.specs.declared.Refusal.{Refusal}
@@ -8,6 +9,7 @@ use Rattle.rulebook.specs.declared.Vote.{Vote}
 use Rattle.rulebook.specs.PaperNumbers.{start_panel, step_panel, write_panel, read_panel, check_panel, check_missing}
 use Rattle.rulebook.specs.Writers as written
 use Rattle.lines.specs.Put.{Put}
+use Rattle.lines.specs.Page as on_page
 use Rattle.lines.specs.Answers.{number_line, start_line, step_line, tray_line, packet_line, message_line, check_line}
 use Rattle.starts.specs.Starting.{start_judged, start_answer, watch_judged}
 use Rattle.node.specs.Stepping.{step_leaves}
@@ -19,6 +21,12 @@ use Rattle.answers.specs.Face.{Started, Watched, Stepped, Taken, Trayed, Wrote, 
 -- A page in which one text was put, and the other is what is sent of it.
 abbrev pub Sends : List ℕ → List ℕ → Type 0
 Sends made sent = (page page' : List ℕ) (used : ℕ) → Put page 0 made page' used → used < length page → take used page' ≡ sent
+
+-- The same of a page, on which the one text was put from the front on: where it left room, the bytes up to the page's place are the other.
+abbrev pub PagePrinted : Type 0
+PagePrinted =
+    (made sent : List ℕ) → Sends made sent
+    → (before after : Page) → before.at ≡ 0 → on_page.Wrote before made after → after.at < length before.bytes.now → take after.at after.bytes.now ≡ sent
 
 -- start.
 abbrev pub StartPrinted : Type 0
